@@ -1,0 +1,10 @@
+pub mod Link
+pub mod Sets
+pub mod Chains
+pub mod History
+pub mod Steps
+pub mod Store
+pub mod Kept
+pub mod Beside
+pub mod Answers
+pub mod Runs

@@ -1,0 +1,62 @@
+//! What the calls of a store answer.
+
+use crate::link::Link;
+use ovs_types::TxnId;
+use thiserror::Error;
+
+/// How a link was taken.
+#[derive(Clone, Copy, Debug, PartialEq, Eq)]
+pub enum Took {
+    /// It wasn't held, and is held now.
+    New,
+    /// It was held already.
+    Held,
+}
+
+/// What a link shares with one that contradicts it.
+#[derive(Clone, Copy, Debug, PartialEq, Eq)]
+pub enum By {
+    Prev,
+    Id,
+}
+
+/// Why a link wasn't taken. Hands the link back.
+#[derive(Debug, Drop, Error)]
+pub enum TakeError {
+    /// The held link with these ids is another link with the same prev, or else with the same id.
+    #[error("another link with this prev or id is held")]
+    Fork {
+        link: Link,
+        by: By,
+        held_prev: TxnId,
+        held_id: TxnId,
+    },
+    /// The store has 1,000,000 links.
+    #[error("the store has no room for another link")]
+    Full {
+        link: Link,
+    },
+    #[error("out of memory")]
+    NoMemory {
+        link: Link,
+    },
+}
+
+/// How settling ended.
+#[derive(Clone, Copy, Debug, PartialEq, Eq)]
+pub enum Settled {
+    /// No held link follows the head.
+    Done,
+    /// The held link with this id follows the head, and its change doesn't fit the database.
+    Stuck(TxnId),
+}
+
+/// Why a list of links gave no store.
+#[derive(Debug, Drop, Error)]
+pub enum FoldError {
+    /// A link of the list was refused.
+    #[error("a link was refused")]
+    Refused(TakeError),
+    #[error("out of memory")]
+    NoMemory,
+}

@@ -1,0 +1,23 @@
+//! Links between the commits of an OVSDB database, and stores that fold the longest chain of them.
+#![tactic(auto)]
+
+mod answer;
+mod folded;
+mod laws;
+mod link;
+mod run;
+mod scan;
+mod settling;
+mod step;
+mod store;
+
+pub use answer::{By, FoldError, Settled, TakeError, Took};
+pub use folded::Folded;
+pub use laws::{chain_depends_on_the_set_alone, history_is_a_chain, history_is_consistent};
+pub use link::{BadId, Link};
+pub use run::{fold_all, take_all};
+pub use step::Step;
+pub use store::{LinkStore, MAX_LINKS};
+
+#[cfg(test)]
+mod tests;

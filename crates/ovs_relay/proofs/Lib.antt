@@ -1,0 +1,10 @@
+pub mod Breaks
+pub mod Taking
+pub mod Sent
+pub mod Way
+pub mod Spent
+pub mod JsonLines
+pub mod Same
+pub mod Values
+pub mod Intakes
+pub mod Closings

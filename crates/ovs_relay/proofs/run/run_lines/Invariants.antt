@@ -1,0 +1,18 @@
+use Rattle.std.proofs.Common.{◌≡◌, ◌+◌, ◌*◌, ◌≤◌, length}
+use Rattle.std.specs.Io.KnownBytes.{prepend_known}
+use Rattle.ovs_relay.specs.Turns.{IsSpentByCalls}
+use Rattle.ovs_relay.proofs.Way.{Progress}
+use Rattle.ovs_relay.proofs.run.run_lines.Given as goal
+
+abbrev pub invariant-loop-number : goal.invariant-loop-number
+invariant-loop-number g l =
+    let remaining = g.R.Read.remaining in
+    let contents = g.W.Write.contents in
+    record {
+      progress : Progress g.S.Script.rules l.fn.script (remaining l.fn.reader.device) (contents l.fn.writer.device) (contents l.writer.device)
+          l.fn.pending l.pending l.script l.number (prepend_known l.window (remaining l.reader.device));
+      calls : IsSpentByCalls ((l.fn.reader.calls + l.fn.writer.calls) + l.fn.turns) ((l.reader.calls + l.writer.calls) + l.turns);
+      read_failures : l.reader.failures ≡ l.fn.reader.failures;
+      write_failures : l.writer.failures ≡ l.fn.writer.failures;
+      paid : l.number + (l.turns * 65536 + length l.window) ≤ l.fn.turns * 65536;
+    }

@@ -1,0 +1,13 @@
+pub mod Fault
+pub mod Lines
+pub mod Turns
+pub mod Sending
+pub mod Rules
+pub mod RunEnd
+pub mod Words
+pub mod Reading
+pub mod Same
+pub mod Intake
+pub mod Closing
+pub mod Folding
+pub mod CommandLine

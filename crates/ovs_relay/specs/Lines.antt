@@ -1,0 +1,29 @@
+-- The lines of a text.
+use Rattle.std.specs.Prelude.{◌≡◌, ℕ, ◌==◌, nat_lt, List, [], ◌∷◌, length, Bool, false, if◌then◌else◌, Option, Some, None}
+use Rattle.std.specs.List.{onto_first}
+
+-- LF (10) ends a line and is no part of it; the last line may lack it; CR is a byte as any other
+abbrev pub lines_of : List ℕ → List (List ℕ)
+lines_of [] = []
+lines_of (b ∷ text) = if b == 10 then [] ∷ lines_of text else onto_first b (lines_of text)
+
+-- what is kept of a line: nothing where it is longer than 16,777,216 bytes
+abbrev pub kept : List ℕ → Option (List ℕ)
+kept line = if nat_lt 16777216 (length line) then None else Some line
+
+-- a line with no byte; one that is too long is none
+abbrev pub is_empty_line : Option (List ℕ) → Bool
+is_empty_line None = false
+is_empty_line (Some line) = length line == 0
+
+-- no LF
+abbrev pub IsUnbroken : List ℕ → Type 0
+IsUnbroken [] = Unit {0}
+IsUnbroken (b ∷ bytes) = ((b == 10) ≡ false) × IsUnbroken bytes
+
+-- From the text that was left, where it is known, the first line was taken, or there was none.
+abbrev pub TakesLine : Option (List ℕ) → Option (List ℕ) → Option (Option (List ℕ)) → Type 0
+TakesLine None rest found = Unit {0}
+TakesLine (Some text) None found = ⊥
+TakesLine (Some text) (Some rest) None = (text ≡ []) × (rest ≡ [])
+TakesLine (Some text) (Some rest) (Some line) = (whole : List ℕ) × (lines_of text ≡ whole ∷ lines_of rest) × (line ≡ kept whole)

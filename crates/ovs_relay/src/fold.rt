@@ -1,0 +1,136 @@
+//! The script `fold`: a schema, then links, and at the end the database that the longest chain makes.
+
+ghost use Rattle.std.specs.Prelude.{◌≡◌, ◌≤◌, ◌+◌, ℕ, List, IsTrue, IfSome, if◌then◌else◌};
+ghost use Rattle.std.specs.Io.KnownBytes.{Appends};
+ghost use Rattle.ovs_wire.specs.Counted.{one_more};
+ghost use Rattle.ovs_relay.specs.Sending.{AppendsBeginning};
+ghost use Rattle.ovs_relay.specs.Rules.{AreFirstLines, answers_from};
+ghost use Rattle.ovs_relay.specs.RunEnd.{is_whole, writes_failed_by};
+ghost use Rattle.ovs_relay.specs.Folding.{fold_rules, beginning, fold_output, is_clean};
+
+use crate::closing::close_store;
+use crate::intake::answer_line;
+use crate::reading::{link_of_line, schema_of_line};
+use crate::run::{RunEnd, run_script};
+use crate::script::{Closing, Script};
+use crate::words::SchemaRefusal;
+use ovs_links::LinkStore;
+use ovs_types::NoMemory;
+use ovs_wire::Counted;
+use std::alloc::Global;
+use std::io::{Read, Write};
+
+/// What the next line is.
+#[derive(Drop)]
+pub enum Stage {
+    /// The schema.
+    Schema,
+    /// A link, for this store.
+    Links(LinkStore),
+    /// Nothing that is looked at, since the schema was refused.
+    Over,
+}
+
+/// A run of the script: what comes next, and whether a link was refused.
+#[derive(Drop)]
+pub struct Fold {
+    stage: Stage,
+    refused: bool,
+}
+
+impl Fold {
+    /// The run before its first line.
+    pub fn new() -> Fold
+        ensures value { result ≡ beginning }
+    {
+        Fold {
+            stage: Stage::Schema,
+            refused: false,
+        }
+    }
+}
+
+impl Script for Fold {
+    ghost rules = { fold_rules };
+
+    fn take(
+        &mut self,
+        alloc: Global,
+        number: u64,
+        line: Option<&[u8]>,
+    ) -> Result<String, NoMemory> {
+        match &mut self.stage {
+            Stage::Schema => match schema_of_line(alloc, line)? {
+                Ok(schema) => {
+                    self.stage = Stage::Links(LinkStore::new(alloc, &schema)?);
+                    Ok(String::new(alloc))
+                }
+                Err(refusal) => {
+                    self.stage = Stage::Over;
+                    Ok(refusal.line(alloc)?)
+                }
+            },
+            Stage::Links(store) => {
+                let answer = answer_line(alloc, store, number, line)?;
+                self.refused |= answer.is_refused;
+                Ok(answer.text)
+            }
+            Stage::Over => Ok(String::new(alloc)),
+        }
+    }
+
+    fn is_over(&self) -> bool {
+        matches!(&self.stage, Stage::Over)
+    }
+
+    fn close(&mut self, alloc: Global) -> Result<Closing, NoMemory> {
+        match &mut self.stage {
+            Stage::Schema => Ok(Closing {
+                text: SchemaRefusal::BadJson.line(alloc)?,
+                is_content: false,
+            }),
+            Stage::Links(store) => close_store(alloc, store, self.refused),
+            Stage::Over => Ok(Closing {
+                text: String::new(alloc),
+                is_content: false,
+            }),
+        }
+    }
+}
+
+/// Reads a schema and links, line by line, and writes what became of each and the database that they make.
+///
+/// The text is all that the reader has left. The run makes at most 1,000,000 read and write calls. Where it breaks off,
+/// a beginning of the output is written: at `ReadFault` all answers to the lines that were read, at `NoMemory` those to
+/// some first lines.
+pub fn fold_run<R: Read, W: Write>(
+    alloc: Global,
+    reader: &mut Counted<R>,
+    writer: &mut Counted<W>,
+) -> RunEnd
+    // All of the output is written, and the end tells whether all was taken.
+    ensures whole { IsTrue (is_whole result) → IfSome (R.remaining reader.old.device) (λ text.
+        Appends (W.contents writer.old.device) (W.contents writer.new.device) (fold_output text)) }
+    ensures status { IsTrue (is_whole result) → IfSome (R.remaining reader.old.device) (λ text.
+        result ≡ (if is_clean text then RunEnd.Clean else RunEnd.Refused)) }
+
+    // At every end a beginning of the output is written.
+    ensures begun { IfSome (R.remaining reader.old.device) (λ text.
+        AppendsBeginning (W.contents writer.old.device) (W.contents writer.new.device) (fold_output text)) }
+    ensures heard { result ≡ RunEnd.ReadFault → IfSome (R.remaining reader.old.device) (λ text.
+        (lines : List (List ℕ)) × AreFirstLines lines text
+        × Appends (W.contents writer.old.device) (W.contents writer.new.device) (answers_from fold_rules beginning 0 lines)) }
+    ensures answered { result ≡ RunEnd.NoMemory → IfSome (R.remaining reader.old.device) (λ text.
+        (lines : List (List ℕ)) × AreFirstLines lines text
+        × Appends (W.contents writer.old.device) (W.contents writer.new.device) (answers_from fold_rules beginning 0 lines)) }
+
+    // At most 1,000,000 calls are made.
+    ensures calls { reader.new.calls + writer.new.calls ≤ reader.old.calls + writer.old.calls + 1000000 }
+
+    // The faults of the devices are those that were counted.
+    ensures read_fault { result ≡ RunEnd.ReadFault → reader.new.failures ≡ one_more reader.old.failures }
+    ensures no_read_fault { IsTrue (is_whole result) → reader.new.failures ≡ reader.old.failures }
+    ensures write_failures { writer.new.failures ≡ writes_failed_by writer.old.failures result }
+{
+    run_script(alloc, &mut Fold::new(), reader, writer)
+}

@@ -1,0 +1,102 @@
+//! What becomes of a link's line.
+
+ghost use Rattle.std.specs.Prelude.{◌≡◌, IfOk, OnOk, Ok, option_map, string_bytes};
+ghost use Rattle.ovs_rows.specs.Change.{IsChangeOf};
+ghost use Rattle.ovs_links.specs.Store.{tables_of};
+ghost use Rattle.ovs_relay.specs.Folding.{line_outcome, is_refused};
+ghost use Rattle.ovs_relay.specs.Reading.{link_of_line};
+ghost use Rattle.ovs_relay.specs.Words.{outcome_line};
+ghost use Rattle.ovs_relay.specs.Intake.{IsRefusalOf, outcome_of_link, with_link, store_after_line};
+
+use crate::reading::link_of_line;
+use crate::words::{Outcome, Refusal};
+use ovs_links::{Link, LinkStore, TakeError, Took};
+use ovs_types::NoMemory;
+use std::alloc::Global;
+
+impl Outcome {
+    /// Whether the line changed nothing because of a fault in it.
+    pub fn is_refused(&self) -> bool
+        ensures value { result ≡ is_refused self.now }
+    {
+        matches!(self, Outcome::Refused(_))
+    }
+}
+
+// Why the store didn't take a link.
+fn refusal_of(error: &TakeError) -> Result<Refusal, NoMemory>
+    ensures refusal { IfOk result (IsRefusalOf error.now) }
+{
+    match error {
+        TakeError::Fork {
+            held_prev,
+            held_id,
+            ..
+        } => Ok(Refusal::Fork {
+            prev: *held_prev,
+            id: *held_id,
+        }),
+        TakeError::Full { .. } => Ok(Refusal::Full),
+        TakeError::NoMemory { .. } => Err(NoMemory),
+    }
+}
+
+// Gives the link to the store.
+fn take_link(store: &mut LinkStore, link: Link) -> Result<Outcome, NoMemory>
+    requires tables { IsChangeOf (tables_of store.old) link.change }
+    ensures outcome { IfOk result (λ outcome. outcome ≡ outcome_of_link store.old.links link) }
+    ensures after { OnOk result (store.new ≡ with_link store.old link (outcome_of_link store.old.links link)) }
+{
+    let _ = store.head();
+    match store.take(link) {
+        Ok(Took::New) => Ok(Outcome::Took),
+        Ok(Took::Held) => Ok(Outcome::Held),
+        Err(error) => Ok(Outcome::Refused(refusal_of(&error)?)),
+    }
+}
+
+// Takes the link of a line into the store. `None` is a line above the limit.
+fn take_line(alloc: Global, store: &mut LinkStore, line: Option<&[u8]>) -> Result<Outcome, NoMemory>
+    ensures outcome { IfOk result (λ outcome. outcome ≡ line_outcome store.old (option_map (λ l. l.now) line.entry)) }
+    ensures after { OnOk result (store.new ≡ store_after_line store.old (link_of_line (tables_of store.old) (option_map (λ l. l.now) line.entry))) }
+{
+    match link_of_line(alloc, line, store.schema())? {
+        Ok(link) => take_link(store, link),
+        Err(refusal) => Ok(Outcome::Refused(refusal)),
+    }
+}
+
+/// What is said to a line, and whether it was refused.
+#[derive(Debug, Drop)]
+pub struct Answer {
+    pub text: String,
+    pub is_refused: bool,
+}
+
+// The answer that tells of the outcome.
+fn answer_of(alloc: Global, number: u64, outcome: Outcome) -> Result<Answer, NoMemory>
+    ensures text { IfOk result (λ answer. string_bytes answer.text ≡ outcome_line number outcome) }
+    ensures refused { IfOk result (λ answer. answer.is_refused ≡ is_refused outcome) }
+{
+    Ok(Answer {
+        text: outcome.line(alloc, number)?,
+        is_refused: outcome.is_refused(),
+    })
+}
+
+/// Takes the link of a line, with its number, into the store, and tells what became of it.
+pub fn answer_line(
+    alloc: Global,
+    store: &mut LinkStore,
+    number: u64,
+    line: Option<&[u8]>,
+) -> Result<Answer, NoMemory>
+    ensures text { IfOk result (λ answer. string_bytes answer.text ≡ outcome_line number (line_outcome store.old (option_map (λ l. l.now) line.entry))) }
+    ensures refused { IfOk result (λ answer. answer.is_refused ≡ is_refused (line_outcome store.old (option_map (λ l. l.now) line.entry))) }
+    ensures after { OnOk result (store.new ≡ store_after_line store.old (link_of_line (tables_of store.old) (option_map (λ l. l.now) line.entry))) }
+{
+    match take_line(alloc, store, line) {
+        Ok(outcome) => answer_of(alloc, number, outcome),
+        Err(error) => Err(error),
+    }
+}

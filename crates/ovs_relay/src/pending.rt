@@ -1,0 +1,81 @@
+//! Output that waits to be written.
+ghost use Rattle.std.specs.Prelude.{◌≡◌, ◌+◌, ◌≤◌, ◌++◌, ◌⊎◌, ◌↔◌, [], length, Err, IsTrue, OnOk, OnErr, IfErr};
+ghost use Rattle.std.specs.Io.KnownBytes.{Appends};
+ghost use Rattle.ovs_relay.specs.Sending.{AppendsBeginning};
+ghost use Rattle.ovs_relay.specs.Turns.{IsSpentByCalls};
+ghost use Rattle.ovs_relay.specs.Fault.{failed_writes};
+
+use crate::fault::Fault;
+use crate::sending::send;
+use crate::turns::Turns;
+use ovs_types::NoMemory;
+use ovs_wire::Counted;
+use std::alloc::Global;
+use std::io::Write;
+use std::marker::Model;
+
+/// So many bytes wait at least before they are written amid a run.
+const BATCH: usize = 65_536;
+
+/// Bytes that are to be written and were not handed to the writer yet.
+#[derive(Debug, Drop)]
+pub struct Pending {
+    bytes: Vec<u8>,
+}
+
+impl Model for Pending {
+    ghost use Rattle.std.specs.Prelude.{ℕ, List};
+
+    ghost Value = { List ℕ };
+
+    ghost view = { λ p. p.bytes.items };
+}
+
+impl Pending {
+    /// No byte waits.
+    pub fn new(alloc: Global) -> Pending
+        ensures empty { result ≡ [] }
+    {
+        Pending {
+            bytes: Vec::new(alloc),
+        }
+    }
+
+    /// Whether so much waits that it is time to write it.
+    pub fn is_due(&self) -> bool
+        ensures value { IsTrue result ↔ (65536 ≤ length self.now) }
+    {
+        self.bytes.len() >= BATCH
+    }
+
+    /// Puts a text behind what waits. After `NoMemory` what waits is as it was.
+    pub fn push(&mut self, text: &str) -> Result<(), NoMemory>
+        ensures ok { OnOk result (self.new ≡ self.old ++ text.now) }
+        ensures err { OnErr result (self.new ≡ self.old) }
+    {
+        self.bytes.extend_from_slice(text.as_bytes())?;
+        Ok(())
+    }
+
+    /// Writes what waits; then nothing waits. After an error a beginning of it is written and the rest is lost.
+    ///
+    /// `WriteFault` where a write failed, and `TurnsSpent` where another call would be one too many.
+    pub fn send<W: Write>(
+        &mut self,
+        writer: &mut Counted<W>,
+        turns: &mut Turns,
+    ) -> Result<(), Fault>
+        ensures ok { OnOk result (Appends (W.contents writer.old.device) (W.contents writer.new.device) self.old) }
+        ensures err { OnErr result (AppendsBeginning (W.contents writer.old.device) (W.contents writer.new.device) self.old) }
+        ensures empty { self.new ≡ [] }
+        ensures turns { turns.new ≤ turns.old }
+        ensures calls { IsSpentByCalls (writer.old.calls + turns.old) (writer.new.calls + turns.new) }
+        ensures spent { result ≡ Err Fault.TurnsSpent → turns.new ≡ 0 }
+        ensures failures { writer.new.failures ≡ failed_writes writer.old.failures result }
+        ensures fault { IfErr result (λ fault. (fault ≡ Fault.WriteFault) ⊎ (fault ≡ Fault.TurnsSpent)) }
+    {
+        let sent = send(writer, self.bytes.as_slice(), turns);
+        self.bytes.clear();
+        sent
+    }
+}

@@ -1,0 +1,14 @@
+pub mod Maps
+pub mod Data
+pub mod RowSteps
+pub mod PlacingSteps
+pub mod Editing
+pub mod Laws
+pub mod Writings
+pub mod Settled
+pub mod ReadingSteps
+pub mod Defaults
+pub mod ChangeLaws
+pub mod NamedRowLaws
+pub mod ChangeTables
+pub mod ChangeMeanings

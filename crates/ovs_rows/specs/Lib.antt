@@ -1,0 +1,15 @@
+pub mod Place
+pub mod Combined
+pub mod Row
+pub mod Change
+pub mod After
+pub mod DatabaseDifference
+pub mod Applied
+pub mod Placing
+pub mod Database
+pub mod Writing
+pub mod Faults
+pub mod Cells
+pub mod ChangeReading
+pub mod ChangeSpelling
+pub mod ChangeMeaning

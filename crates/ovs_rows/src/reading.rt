@@ -1,0 +1,258 @@
+//! Changes out of JSON.
+
+ghost use Rattle.std.specs.Prelude.{◌≡◌, IfOk, Ok, is_none};
+ghost use Rattle.std.specs.FinMap.{contains_key};
+ghost use Rattle.std.specs.List.{list_all};
+ghost use Rattle.serde_json.specs.View.{view, members_view};
+ghost use Rattle.ovs_types.specs.Members.{read_each};
+ghost use Rattle.ovs_rows.specs.Change.{IsChangeOf};
+ghost use Rattle.ovs_rows.specs.ChangeReading.{read_insert, read_modify, read_action, is_idle, no_rows_named, is_named, with_row, read_row, read_table, read_tables, read_change};
+ghost use Rattle.ovs_rows.specs.ChangeMeaning.{Means, OneValueForAllSpellings};
+ghost use Rattle.ovs_rows.specs.ChangeSpelling.{Spells};
+ghost use Rattle.ovs_rows.specs.Faults.{Gives};
+
+use crate::cells::{Purpose, data_of, read_cells};
+use crate::change::{Action, Actions, Change, Edits};
+use crate::error::ChangeError;
+use crate::place::Place;
+use crate::row::Columns;
+use ovs_types::{Datum, NamedColumn, NoMemory, RowId, Schema, Table, table_named};
+use serde_json::{Map, Value};
+use std::alloc::Global;
+
+fn read_insert(alloc: Global, columns: &[NamedColumn], value: &Value) -> Result<Action, ChangeError>
+    ensures exact { Gives (λ a. a) result (read_insert columns.now (view value.now)) }
+{
+    match value.as_object() {
+        Some(row) => {
+            let cells = read_cells(alloc, Purpose::Whole, columns, row)?;
+            Ok(Action::Insert(Columns::new(data_of(alloc, columns, cells)?)))
+        }
+        None => Err(ChangeError::BadKind),
+    }
+}
+
+fn read_modify(alloc: Global, columns: &[NamedColumn], value: &Value) -> Result<Action, ChangeError>
+    ensures exact { Gives (λ a. a) result (read_modify columns.now (view value.now)) }
+{
+    match value.as_object() {
+        Some(row) => {
+            let cells = read_cells(alloc, Purpose::Differences, columns, row)?;
+            Ok(Action::Modify(Edits::new(cells)))
+        }
+        None => Err(ChangeError::BadKind),
+    }
+}
+
+// What a row update makes of its row. It has exactly one of the four members.
+fn read_action(alloc: Global, columns: &[NamedColumn], value: &Value) -> Result<Action, ChangeError>
+    ensures exact { Gives (λ a. a) result (read_action columns.now (view value.now)) }
+{
+    match (
+        value.get("initial"),
+        value.get("insert"),
+        value.get("delete"),
+        value.get("modify"),
+    ) {
+        (Some(row), None, None, None) => read_insert(alloc, columns, row),
+        (None, Some(row), None, None) => read_insert(alloc, columns, row),
+        (None, None, Some(_), None) => Ok(Action::Delete),
+        (None, None, None, Some(row)) => read_modify(alloc, columns, row),
+        _ => Err(ChangeError::BadKind),
+    }
+}
+
+fn are_none(edits: &[Option<Datum>]) -> bool
+    ensures value { result ≡ list_all is_none edits.now }
+{
+    edits.iter().all(|edit| edit.is_none())
+}
+
+// Whether this is a modification of no column.
+fn is_idle(action: &Action) -> bool
+    ensures value { result ≡ is_idle action.now }
+{
+    match action {
+        Action::Insert(_) => false,
+        Action::Delete => false,
+        Action::Modify(edits) => are_none(edits.as_slice()),
+    }
+}
+
+fn has_action(actions: &Actions, place: &Place) -> bool
+    ensures value { result ≡ contains_key actions.now place.now }
+{
+    actions.get(*place).is_some()
+}
+
+/// The rows that a change has named so far.
+#[derive(Drop)]
+pub(crate) struct NamedRows {
+    /// What becomes of them.
+    pub(crate) actions: Actions,
+    /// Those that were named by a modification of no column. Nothing becomes of them, and none may
+    /// be named again.
+    pub(crate) untouched: Actions,
+}
+
+impl NamedRows {
+    fn new(alloc: Global) -> NamedRows
+        ensures value { result ≡ no_rows_named }
+    {
+        NamedRows {
+            actions: Actions::new(alloc),
+            untouched: Actions::new(alloc),
+        }
+    }
+
+    fn has(&self, place: Place) -> bool
+        ensures value { result ≡ is_named self.now place }
+    {
+        has_action(&self.actions, &place) || has_action(&self.untouched, &place)
+    }
+
+    fn with(self, place: Place, action: Action) -> Result<NamedRows, NoMemory>
+        ensures value { IfOk result (λ r. r ≡ with_row self place action) }
+    {
+        let NamedRows { actions, untouched } = self;
+        if is_idle(&action) {
+            Ok(NamedRows {
+                actions,
+                untouched: untouched.with(place, action)?,
+            })
+        } else {
+            Ok(NamedRows {
+                actions: actions.with(place, action)?,
+                untouched,
+            })
+        }
+    }
+}
+
+// The rows so far with the one of this name. That it is new is looked at before its update.
+fn read_row(
+    alloc: Global,
+    table: usize,
+    columns: &[NamedColumn],
+    rows: NamedRows,
+    name: &str,
+    value: &Value,
+) -> Result<NamedRows, ChangeError>
+    ensures exact { Gives (λ r. r) result (read_row table columns.now rows name.now (view value.now)) }
+{
+    match RowId::read(name) {
+        Ok(id) => {
+            let place = Place { table, id };
+            if rows.has(place) {
+                Err(ChangeError::BadRowId)
+            } else {
+                let action = read_action(alloc, columns, value)?;
+                Ok(rows.with(place, action)?)
+            }
+        }
+        Err(_) => Err(ChangeError::BadRowId),
+    }
+}
+
+fn read_rows(
+    alloc: Global,
+    table: usize,
+    columns: &[NamedColumn],
+    mut rows: NamedRows,
+    members: &Map<String, Value>,
+) -> Result<NamedRows, ChangeError>
+    ensures exact { Gives (λ r. r) result (read_each (read_row table columns.now) rows (members_view members.now.entries)) }
+{
+    for (name, value) in members.iter() {
+        rows = read_row(alloc, table, columns, rows, name.as_str(), value)?;
+    }
+    Ok(rows)
+}
+
+fn read_table(
+    alloc: Global,
+    tables: &[Table],
+    rows: NamedRows,
+    name: &str,
+    value: &Value,
+) -> Result<NamedRows, ChangeError>
+    ensures exact { Gives (λ r. r) result (read_table tables.now rows name.now (view value.now)) }
+{
+    match table_named(tables, name) {
+        Some((number, table)) => match value.as_object() {
+            Some(members) => read_rows(alloc, number, table.columns.as_slice(), rows, members),
+            None => Err(ChangeError::BadKind),
+        },
+        None => Err(ChangeError::NoTable),
+    }
+}
+
+fn read_tables(
+    alloc: Global,
+    tables: &[Table],
+    members: &Map<String, Value>,
+) -> Result<NamedRows, ChangeError>
+    ensures exact { Gives (λ r. r) result (read_tables tables.now (members_view members.now.entries)) }
+{
+    let mut rows = NamedRows::new(alloc);
+    for (name, value) in members.iter() {
+        rows = read_table(alloc, tables, rows, name.as_str(), value)?;
+    }
+    Ok(rows)
+}
+
+fn change_of(alloc: Global, value: &Value, tables: &[Table]) -> Result<Change, ChangeError>
+    ensures exact { Gives (λ c. c) result (read_change tables.now (view value.now)) }
+{
+    match value.as_object() {
+        Some(members) => {
+            let rows = read_tables(alloc, tables, members)?;
+            Ok(Change::new(alloc, rows.actions)?)
+        }
+        None => Err(ChangeError::BadKind),
+    }
+}
+
+impl Change {
+    /// The change that a `<table-updates2>` stands for: what `update2` and `update3` notify of, and what `monitor_cond`
+    /// and `monitor_cond_since` answer (ovsdb-server(7), after the `<table-updates>` of RFC 7047 section 4.1.6).
+    ///
+    /// The change is in its normal form, so that equal changes are one value:
+    /// - "initial" and "insert" are both [`Action::Insert`]; columns that they omit have their defaults.
+    /// - In a "modify" an empty difference is dropped. The new value of a column with "max" 1 is no difference, and is
+    ///   kept also where it is empty.
+    /// - Nothing becomes of a row whose "modify" leaves no column, and nothing of a table without rows.
+    ///
+    /// Tables, their rows and the columns of a row are read in ascending order of their names, each with its value
+    /// before the next name, and the first fault that is met decides:
+    /// - `NoTable`: the schema has no table of this name.
+    /// - `BadRowId`: the name of a row is no UUID of 36 characters, or is one that an earlier name stood for in other
+    ///   letters, be it for an update that was dropped.
+    /// - `NoColumn`: the table has no column of this name. `_uuid` and `_version` are none.
+    /// - `BadKind`: the value, a table's value, or the row in an "initial", "insert" or "modify" is no object; or a row
+    ///   update has none or several of "initial", "insert", "delete" and "modify". A "delete" may hold any value, and
+    ///   members of other names are ignored.
+    /// - `Datum`: what a column is given is no datum of it (RFC 7047 section 5.1).
+    /// - `NoMemory`: a growth was refused, perhaps before a fault was met.
+    pub fn read(alloc: Global, value: &Value, schema: &Schema) -> Result<Change, ChangeError>
+        // What is read is spelled so.
+        ensures found { IfOk result (Spells schema.now.description.tables (view value.now)) }
+        // What is spelled so is read, unless memory runs out.
+        ensures only { (c : _) → Spells schema.now.description.tables (view value.now) c → Gives (λ x. x) result (Ok c) }
+        // Which fault it is.
+        ensures exact { Gives (λ c. c) result (read_change schema.now.description.tables (view value.now)) }
+        // It has the actions that the value says, and no others, however the value says them.
+        ensures meaning { IfOk result (Means schema.now.description.tables (view value.now)) }
+        // It is a change of rows of the schema's tables.
+        ensures tables { IfOk result (IsChangeOf schema.now.description.tables) }
+    {
+        change_of(alloc, value, schema.tables())
+    }
+}
+
+/// A change is one value for all its spellings: two JSON values that are read, and say the same of each row, are read as
+/// equal changes. In this sense `["set",[1,2]]` and `["set",[2,1]]`, a column at its default and none, upper and lower
+/// case in a row's id, and "initial" and "insert" say the same.
+pub fn one_change_for_all_spellings()
+    ensures law { OneValueForAllSpellings }
+{}

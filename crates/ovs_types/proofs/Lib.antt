@@ -1,0 +1,16 @@
+pub mod Ids
+pub mod AtomOrder
+pub mod Ascends
+pub mod Exchanges
+pub mod ReadEach
+pub mod InOrder
+pub mod Differences
+pub mod Found
+pub mod Spellings
+pub mod Writings
+pub mod Equalities
+pub mod Steps
+pub mod FaultOrder
+pub mod ColumnEquality
+pub mod SchemaLaws
+pub mod Finders

@@ -1,0 +1,273 @@
+-- What is read is spelled so, and what is spelled so is read.
+use Rattle.std.proofs.Common.{◌≡◌, inl, inr, ℕ, ℤ, List, [], ◌∷◌, length, Bool, true, false, cond, ◌||◌, Option, Some, None, Result, Ok, Err, refl, sym, ap, subst, ◌∙◌, eqb}
+use Rattle.std.specs.Prelude.{option_map, option_and_then, codes, is_some, IfOk}
+use Rattle.std.proofs.lemmas.Bool.{eq-eqb, eqb-true}
+use Rattle.serde_json.specs.Data.{Num, Data, string, Items, no_items, item}
+use Rattle.serde_json.specs.Find.{as_i64, as_str, as_number, as_bool}
+use Rattle.ovs_types.specs.declared.atom.Atom.{Atom}
+use Rattle.ovs_types.specs.declared.atom.Atom.TheVariants.{Integer, Boolean, String, Uuid}
+use Rattle.ovs_types.specs.declared.atom.AtomKind.{AtomKind}
+use Rattle.ovs_types.specs.declared.atom.AtomKind.TheVariants as kinds
+use Rattle.ovs_types.specs.declared.column.Column.{Column}
+use Rattle.ovs_types.specs.declared.pairs.Pair.{Pair}
+use Rattle.ovs_types.specs.declared.datum.Datum.{Datum}
+use Rattle.ovs_types.specs.declared.datum.Datum.TheVariants.{Set, Map}
+use Rattle.ovs_types.specs.declared.error.DatumError.{DatumError}
+use Rattle.ovs_types.specs.declared.error.DatumError.TheVariants as faults
+use Rattle.ovs_types.specs.Atom.{atom_cmp, atom_eq, atom_total, kind_of}
+use Rattle.ovs_types.specs.Pairs.{key_cmp}
+use Rattle.ovs_types.specs.Column.{may_count}
+use Rattle.ovs_types.specs.Ascending.{distinct, in_order}
+use Rattle.ovs_types.specs.Datum.{contains, value_at, IsOrdered, IsDatumOf}
+use Rattle.ovs_types.specs.Id.{read_id}
+use Rattle.ovs_types.specs.Writing.{two}
+use Rattle.ovs_types.specs.Reading.{◌>>=◌, Gives, ok_or, begins_with, two_items, under, list_under, read_each, read_integer, read_uuid, read_atom, read_one, read_elements, counted, read_set, are_pairs, map_items, read_pair, read_pairs, read_map, read_shaped, read_datum}
+use Rattle.ovs_types.specs.Spelling.{SpellsValue, SpellsAtom, SpellsPair, SpellsEach, SpellsElements, SpellsPairs, IsSetOf, IsMapOf, Spells}
+use Rattle.ovs_types.proofs.Found.{fine, ok_is, some_is, some_of, bind_found, then_found, map_found, tested, number_of, boolean_of, string_of, two_items-is, under-is, list_under-is}
+use Rattle.ovs_types.proofs.InOrder.{at-in_order, Ascends-in_order}
+use Rattle.ovs_types.proofs.Differences.{contains-at, value_at-at, same_sets, same_maps, pair_value, atom_eq-true}
+
+-- ---- atoms
+
+read_integer-is : (o : Option Num) (x : Atom) → read_integer o ≡ Ok x → (n : Num) × (z : ℤ) × (o ≡ Some n) × (as_i64 n ≡ Some z) × (Integer z ≡ x)
+read_integer-is None x e = absurd cc
+read_integer-is (Some n) x e =
+    let h = map_found (as_i64 n) Integer x (some_of (option_map Integer (as_i64 n)) faults.NotInteger x e) in
+    (n, h.0, refl, h.1, h.2)
+
+pub atom_found : (kind : AtomKind) (d : Data) (x : Atom) → read_atom kind d ≡ Ok x → SpellsAtom kind d x
+atom_found kinds.Integer d x e =
+    let h = read_integer-is (as_number d) x e in
+    subst (SpellsAtom kinds.Integer d) h.4 (refl, (h.0, number_of d h.0 h.2, h.3))
+atom_found kinds.Boolean d x e =
+    let h = map_found (as_bool d) Boolean x (some_of (option_map Boolean (as_bool d)) faults.WrongKind x e) in
+    subst (SpellsAtom kinds.Boolean d) h.2 (refl, boolean_of d h.0 h.1)
+atom_found kinds.String d x e =
+    let h = map_found (as_str d) String x (some_of (option_map String (as_str d)) faults.WrongKind x e) in
+    subst (SpellsAtom kinds.String d) h.2 (refl, string_of d h.0 h.1)
+atom_found kinds.Uuid d x e =
+    let h = map_found (read_uuid d) Uuid x (some_of (option_map Uuid (read_uuid d)) faults.WrongKind x e) in
+    let f = then_found (option_and_then as_str (under (codes "uuid") d)) read_id h.0 h.1 in
+    let g = then_found (under (codes "uuid") d) as_str f.0 f.1 in
+    subst (SpellsAtom kinds.Uuid d) h.2 (refl, (f.0, under-is (codes "uuid") d g.0 g.1 ∙ ap (two (string (codes "uuid"))) (string_of g.0 f.0 g.2), f.2))
+
+pub atom_only : (kind : AtomKind) (d : Data) (x : Atom) → SpellsAtom kind d x → read_atom kind d ≡ Ok x
+atom_only kind d (Integer z) (is_kind, (n, is, value)) = rw (← is_kind, is, value) refl
+atom_only kind d (Boolean b) (is_kind, is) = rw (← is_kind, is) refl
+atom_only kind d (String s) (is_kind, is) = rw (← is_kind, is) refl
+atom_only kind d (Uuid id) (is_kind, (text, is, value)) = rw (← is_kind, is, value) refl
+
+-- ---- lists, item by item
+
+module _ {X : Type 0} (read : Data → Result X DatumError) (Spelled : Data → X → Type 0) where
+  each_found : ((d : Data) (x : X) → read d ≡ Ok x → Spelled d x) → (ds : Items) (xs : List X) → read_each read ds ≡ Ok xs → SpellsEach Spelled ds xs
+  each_found found no_items xs e = subst (SpellsEach Spelled no_items) (ok_is [] xs e) tt
+  each_found found (item d ds) xs e =
+      let one = bind_found (read d) (λ x. read_each read ds >>= λ ys. fine (x ∷ ys)) xs e in
+      let rest = bind_found (read_each read ds) (λ ys. fine (one.0 ∷ ys)) xs one.2 in
+      subst (SpellsEach Spelled (item d ds)) (ok_is (one.0 ∷ rest.0) xs rest.2) (found d one.0 one.1, each_found found ds rest.0 rest.1)
+
+  each_only : ((d : Data) (x : X) → Spelled d x → read d ≡ Ok x) → (ds : Items) (xs : List X) → SpellsEach Spelled ds xs → read_each read ds ≡ Ok xs
+  each_only only no_items [] h = refl
+  each_only only no_items (x ∷ xs) h = absurd h
+  each_only only (item d ds) [] h = absurd h
+  each_only only (item d ds) (x ∷ xs) h = rw (only d x h.0, each_only only ds xs h.1) refl
+
+-- ---- sets
+
+elements_found : (kind : AtomKind) (d : Data) (xs : List Atom) → read_elements kind d ≡ Ok xs → SpellsElements kind d xs
+elements_found kind d xs e =
+    elim (begins_with (codes "set") d) as (λ b. cond b (ok_or (list_under (codes "set") d) faults.WrongShape >>= read_each (read_atom kind)) (cond (begins_with (codes "map") d) (Err faults.WrongShape) (read_one kind d)) ≡ Ok xs → SpellsElements kind d xs) [
+      | true ↦ λ f.
+          let h = bind_found (ok_or (list_under (codes "set") d) faults.WrongShape) (read_each (read_atom kind)) xs f in
+          let is = list_under-is (codes "set") d h.0 (some_of (list_under (codes "set") d) faults.WrongShape h.0 h.1) in
+          inl (h.0, is, each_found (read_atom kind) (SpellsAtom kind) (atom_found kind) h.0 xs h.2)
+      | false ↦ λ f. elim (begins_with (codes "map") d) as (λ b. cond b (Err faults.WrongShape) (read_one kind d) ≡ Ok xs → SpellsElements kind d xs) [
+        | true ↦ λ g. absurd cc
+        | false ↦ λ g.
+            let h = bind_found (read_atom kind d) (λ x. fine (x ∷ [])) xs g in
+            inr (h.0, sym (ok_is (h.0 ∷ []) xs h.2), atom_found kind d h.0 h.1)
+      ] f
+    ] e
+
+-- an atom is no list under "set" or "map"
+plain_set : (d : Data) (x : Atom) → SpellsValue d x → begins_with (codes "set") d ≡ false
+plain_set d (Integer z) (n, is, value) = rw is refl
+plain_set d (Boolean b) is = rw is refl
+plain_set d (String s) is = rw is refl
+plain_set d (Uuid id) (text, is, value) = rw is refl
+
+plain_map : (d : Data) (x : Atom) → SpellsValue d x → begins_with (codes "map") d ≡ false
+plain_map d (Integer z) (n, is, value) = rw is refl
+plain_map d (Boolean b) is = rw is refl
+plain_map d (String s) is = rw is refl
+plain_map d (Uuid id) (text, is, value) = rw is refl
+
+elements_only : (kind : AtomKind) (d : Data) (xs : List Atom) → SpellsElements kind d xs → read_elements kind d ≡ Ok xs
+elements_only kind d xs (inl (ds, is, each)) = rw is (each_only (read_atom kind) (SpellsAtom kind) (atom_only kind) ds xs each)
+elements_only kind d xs (inr (x, is, spelled)) = rw (plain_set d x spelled.1, plain_map d x spelled.1, atom_only kind d x spelled, is) refl
+
+distinct-is : {E : Type 0} (all xs ys : List E) → cond (eqb (length all) (length xs)) (Some all) None ≡ Some ys → (all ≡ ys) × (length all ≡ length xs)
+distinct-is all xs ys e =
+    let h = tested (eqb (length all) (length xs)) all ys e in
+    (h.1, eqb-true (length all) (length xs) h.0)
+
+set_of-is : (xs ys : List Atom) → distinct atom_cmp xs ≡ Some ys → IsSetOf xs ys × IsOrdered (Set ys)
+set_of-is xs ys e =
+    let h = distinct-is (in_order atom_cmp xs) xs ys e in
+    let same : (q : Atom) → contains q (in_order atom_cmp xs) ≡ contains q xs = λ q.
+    contains-at q (in_order atom_cmp xs) ∙ ap is_some (at-in_order atom_cmp atom_total (λ (x : Atom). x) q xs) ∙ sym (contains-at q xs) in
+    subst (λ zs. IsSetOf xs zs × IsOrdered (Set zs)) h.0 ((same, h.1), Ascends-in_order atom_cmp atom_total (λ (x : Atom). x) xs)
+
+set_of-only : (xs ys : List Atom) → IsSetOf xs ys → IsOrdered (Set ys) → distinct atom_cmp xs ≡ Some ys
+set_of-only xs ys h a =
+    let same : in_order atom_cmp xs ≡ ys = same_sets (in_order atom_cmp xs) ys (Ascends-in_order atom_cmp atom_total (λ (x : Atom). x) xs) a (λ q.
+    contains-at q (in_order atom_cmp xs) ∙ ap is_some (at-in_order atom_cmp atom_total (λ (x : Atom). x) q xs) ∙ sym (contains-at q xs) ∙ sym (h.0 q)) in
+    let all : eqb (length (in_order atom_cmp xs)) (length xs) ≡ true = eq-eqb _ _ (ap length same ∙ h.1) in
+    rw (all, same) refl
+
+counted-is : (c : Column) (n : ℕ) (x y : Datum) → counted c n x ≡ Ok y → (may_count c n ≡ true) × (x ≡ y)
+counted-is c n x y e =
+    elim (may_count c n) as (λ b. cond b (fine x) (Err faults.WrongCount) ≡ Ok y → (b ≡ true) × (x ≡ y)) [
+      | true ↦ λ f. (refl, ok_is x y f)
+      | false ↦ λ f. absurd cc
+    ] e
+
+set_found : (c : Column) (d : Data) (x : Datum) → c.value ≡ None → read_set c d ≡ Ok x → Spells c d x
+set_found c d x shape e =
+    let f = bind_found (read_elements c.key d) (λ xs. ok_or (distinct atom_cmp xs) faults.Duplicate >>= λ ys. counted c (length ys) (Set ys)) x e in
+    let g = bind_found (ok_or (distinct atom_cmp f.0) faults.Duplicate) (λ ys. counted c (length ys) (Set ys)) x f.2 in
+    let h = counted-is c (length g.0) (Set g.0) x g.2 in
+    let set = set_of-is f.0 g.0 (some_of (distinct atom_cmp f.0) faults.Duplicate g.0 g.1) in
+    subst (Spells c d) h.1 (f.0, shape, elements_found c.key d f.0 f.1, set.0, set.1, h.0)
+
+-- ---- maps
+
+pair_found : (key value : AtomKind) (d : Data) (p : Pair) → read_pair key value d ≡ Ok p → SpellsPair key value d p
+pair_found key value d p e =
+    let f = bind_found (ok_or (two_items d) faults.WrongShape) (λ both. read_atom key both.0 >>= λ k. read_atom value both.1 >>= λ v. fine (record { key = k; value = v })) p e in
+    let g = bind_found (read_atom key f.0.0) (λ k. read_atom value f.0.1 >>= λ v. fine (record { key = k; value = v })) p f.2 in
+    let h = bind_found (read_atom value f.0.1) (λ v. fine (record { key = g.0; value = v })) p g.2 in
+    subst (SpellsPair key value d) (ok_is (record { key = g.0; value = h.0 }) p h.2)
+    (f.0.0, f.0.1, two_items-is d f.0 (some_of (two_items d) faults.WrongShape f.0 f.1), atom_found key f.0.0 g.0 g.1, atom_found value f.0.1 h.0 h.1)
+
+pair_only : (key value : AtomKind) (d : Data) (p : Pair) → SpellsPair key value d p → read_pair key value d ≡ Ok p
+pair_only key value d p (k, v, is, spelled_key, spelled_value) = rw (is, atom_only key k p.key spelled_key, atom_only value v p.value spelled_value) refl
+
+are_pairs-spelled : (key value : AtomKind) (ds : Items) (ps : List Pair) → SpellsEach (SpellsPair key value) ds ps → are_pairs ds ≡ true
+are_pairs-spelled key value no_items ps h = refl
+are_pairs-spelled key value (item d ds) [] h = absurd h
+are_pairs-spelled key value (item d ds) (p ∷ ps) ((k, v, is, spelled_key, spelled_value), rest) = rw is (are_pairs-spelled key value ds ps rest)
+
+map_items-is : (o : Option Items) (ds : Items) → map_items o ≡ Some ds → o ≡ Some ds
+map_items-is None ds e = absurd cc
+map_items-is (Some es) ds e = ap Some (tested (are_pairs es) es ds e).1
+
+pairs_found : (key value : AtomKind) (d : Data) (ps : List Pair) → read_pairs key value d ≡ Ok ps → SpellsPairs key value d ps
+pairs_found key value d ps e =
+    let h = bind_found (ok_or (map_items (list_under (codes "map") d)) faults.WrongShape) (read_each (read_pair key value)) ps e in
+    let is = map_items-is (list_under (codes "map") d) h.0 (some_of (map_items (list_under (codes "map") d)) faults.WrongShape h.0 h.1) in
+    (h.0, list_under-is (codes "map") d h.0 is, each_found (read_pair key value) (SpellsPair key value) (pair_found key value) h.0 ps h.2)
+
+pairs_only : (key value : AtomKind) (d : Data) (ps : List Pair) → SpellsPairs key value d ps → read_pairs key value d ≡ Ok ps
+pairs_only key value d ps (ds, is, each) =
+    rw (is, are_pairs-spelled key value ds ps each) (each_only (read_pair key value) (SpellsPair key value) (pair_only key value) ds ps each)
+
+map_of-is : (xs ys : List Pair) → distinct key_cmp xs ≡ Some ys → IsMapOf xs ys × IsOrdered (Map ys)
+map_of-is xs ys e =
+    let h = distinct-is (in_order key_cmp xs) xs ys e in
+    let same : (k : Atom) → value_at k (in_order key_cmp xs) ≡ value_at k xs = λ k.
+    value_at-at k (in_order key_cmp xs) ∙ ap pair_value (at-in_order atom_cmp atom_total (λ (p : Pair). p.key) k xs) ∙ sym (value_at-at k xs) in
+    subst (λ zs. IsMapOf xs zs × IsOrdered (Map zs)) h.0 ((same, h.1), Ascends-in_order atom_cmp atom_total (λ (p : Pair). p.key) xs)
+
+map_of-only : (xs ys : List Pair) → IsMapOf xs ys → IsOrdered (Map ys) → distinct key_cmp xs ≡ Some ys
+map_of-only xs ys h a =
+    let same : in_order key_cmp xs ≡ ys = same_maps (in_order key_cmp xs) ys (Ascends-in_order atom_cmp atom_total (λ (p : Pair). p.key) xs) a (λ k.
+    value_at-at k (in_order key_cmp xs) ∙ ap pair_value (at-in_order atom_cmp atom_total (λ (p : Pair). p.key) k xs) ∙ sym (value_at-at k xs) ∙ sym (h.0 k)) in
+    let all : eqb (length (in_order key_cmp xs)) (length xs) ≡ true = eq-eqb _ _ (ap length same ∙ h.1) in
+    rw (all, same) refl
+
+map_found_in : (c : Column) (value : AtomKind) (d : Data) (x : Datum) → c.value ≡ Some value → read_map c value d ≡ Ok x → Spells c d x
+map_found_in c value d x shape e =
+    let f = bind_found (read_pairs c.key value d) (λ ps. ok_or (distinct key_cmp ps) faults.Duplicate >>= λ qs. counted c (length qs) (Map qs)) x e in
+    let g = bind_found (ok_or (distinct key_cmp f.0) faults.Duplicate) (λ qs. counted c (length qs) (Map qs)) x f.2 in
+    let h = counted-is c (length g.0) (Map g.0) x g.2 in
+    let map = map_of-is f.0 g.0 (some_of (distinct key_cmp f.0) faults.Duplicate g.0 g.1) in
+    subst (Spells c d) h.1 (value, f.0, shape, pairs_found c.key value d f.0 f.1, map.0, map.1, h.0)
+
+-- ---- data
+
+pub datum_found : (c : Column) (d : Data) (x : Datum) → read_datum c d ≡ Ok x → Spells c d x
+datum_found c d x e =
+    elim c.value as (λ v. c.value ≡ v → read_shaped c v d ≡ Ok x → Spells c d x) [
+      | None ↦ λ shape f. set_found c d x shape f
+      | Some value ↦ λ shape f. map_found_in c value d x shape f
+    ] refl e
+
+pub datum_only : (c : Column) (d : Data) (x : Datum) → Spells c d x → read_datum c d ≡ Ok x
+datum_only c d (Set xs) (all, shape, elements, set, ascending, count) =
+    rw (shape, elements_only c.key d all elements, set_of-only all xs set ascending, count) refl
+datum_only c d (Map ps) (value, all, shape, pairs, map, ascending, count) =
+    rw (shape, pairs_only c.key value d all pairs, map_of-only all ps map ascending, count) refl
+
+-- ---- what is read is a datum of the column
+
+either_of : (a b : Bool) → (a || b) ≡ true → (P : Type 0) → (a ≡ true → P) → (b ≡ true → P) → P
+either_of true b e P f g = f refl
+either_of false b e P f g = g e
+
+each_kind : (kind : AtomKind) (ds : Items) (xs : List Atom) → SpellsEach (SpellsAtom kind) ds xs → (q : Atom) → contains q xs ≡ true → kind_of q ≡ kind
+each_kind kind no_items [] h q e = absurd cc
+each_kind kind no_items (x ∷ xs) h q e = absurd h
+each_kind kind (item d ds) [] h q e = absurd h
+each_kind kind (item d ds) (x ∷ xs) h q e =
+    either_of (atom_eq q x) (contains q xs) e (kind_of q ≡ kind) (λ f. ap kind_of (atom_eq-true q x f) ∙ h.0.0) (λ f. each_kind kind ds xs h.1 q f)
+
+elements_kind : (kind : AtomKind) (d : Data) (xs : List Atom) → SpellsElements kind d xs → (q : Atom) → contains q xs ≡ true → kind_of q ≡ kind
+elements_kind kind d xs (inl (ds, is, each)) q e = each_kind kind ds xs each q e
+elements_kind kind d xs (inr (x, is, spelled)) q e = each_kind kind (item d no_items) (x ∷ []) (spelled, tt) q (ap (contains q) (sym is) ∙ e)
+
+abbrev PairKinds : AtomKind → AtomKind → Atom → Atom → Type 0
+PairKinds key value k v = (kind_of k ≡ key) × (kind_of v ≡ value)
+
+pairs_kinds : (key value : AtomKind) (ds : Items) (ps : List Pair) → SpellsEach (SpellsPair key value) ds ps → (k v : Atom) → value_at k ps ≡ Some v → PairKinds key value k v
+pairs_kinds key value no_items [] h k v e = absurd cc
+pairs_kinds key value no_items (p ∷ ps) h k v e = absurd h
+pairs_kinds key value (item d ds) [] h k v e = absurd h
+pairs_kinds key value (item d ds) (p ∷ ps) ((f, g, is, spelled_key, spelled_value), rest) k v e =
+    elim (atom_eq k p.key) as (λ b. atom_eq k p.key ≡ b → cond b (Some p.value) (value_at k ps) ≡ Some v → PairKinds key value k v) [
+      | true ↦ λ same h. (ap kind_of (atom_eq-true k p.key same) ∙ spelled_key.0, ap kind_of (sym (some_is p.value v h)) ∙ spelled_value.0)
+      | false ↦ λ same h. pairs_kinds key value ds ps rest k v h
+    ] refl e
+
+pub IsDatumOf-spelled : (c : Column) (d : Data) (x : Datum) → Spells c d x → IsDatumOf c x
+IsDatumOf-spelled c d (Set xs) (all, shape, elements, set, ascending, count) = record {
+  shape = shape;
+  order = ascending;
+  kinds = λ q e. elements_kind c.key d all elements q (sym (set.0 q) ∙ e);
+}
+IsDatumOf-spelled c d (Map ps) (value, all, shape, (ds, is, each), map, ascending, count) = record {
+  shape = rw shape refl;
+  order = ascending;
+  kinds = λ k v e. let h = pairs_kinds c.key value ds all each k v (sym (map.0 k) ∙ e) in (h.0, ap Some h.1 ∙ sym shape);
+}
+
+-- ---- for what a call answers
+
+pub atom_is_found : (kind : AtomKind) (d : Data) (r : Result Atom DatumError) → Gives (λ a. a) r (read_atom kind d) → IfOk r (SpellsAtom kind d)
+atom_is_found kind d (Ok x) e = atom_found kind d x e
+atom_is_found kind d (Err f) e = tt
+
+pub atom_is_only : (kind : AtomKind) (d : Data) (r : Result Atom DatumError) → Gives (λ a. a) r (read_atom kind d) → (x : Atom) → SpellsAtom kind d x → Gives (λ a. a) r (Ok x)
+atom_is_only kind d r given x spelled = rw (atom_only kind d x spelled) at given
+
+pub datum_is_found : (c : Column) (d : Data) (r : Result Datum DatumError) → Gives (λ x. x) r (read_datum c d) → IfOk r (Spells c d)
+datum_is_found c d (Ok x) e = datum_found c d x e
+datum_is_found c d (Err f) e = tt
+
+pub datum_is_only : (c : Column) (d : Data) (r : Result Datum DatumError) → Gives (λ x. x) r (read_datum c d) → (x : Datum) → Spells c d x → Gives (λ y. y) r (Ok x)
+datum_is_only c d r given x spelled = rw (datum_only c d x spelled) at given
+
+pub datum_is_kept : (c : Column) (d : Data) (r : Result Datum DatumError) → Gives (λ x. x) r (read_datum c d) → IfOk r (IsDatumOf c)
+datum_is_kept c d (Ok x) e = IsDatumOf-spelled c d x (datum_found c d x e)
+datum_is_kept c d (Err f) e = tt

@@ -1,0 +1,52 @@
+-- Differences between two data of a column, as update notifications carry them.
+use Rattle.std.specs.Prelude.{◌≡◌, Bool, true, false, not, Option, Some, None, if◌then◌else◌, MatchBool}
+use Rattle.ovs_types.specs.declared.atom.Atom.{Atom}
+use Rattle.ovs_types.specs.declared.column.Column.{Column}
+use Rattle.ovs_types.specs.declared.datum.Datum.{Datum}
+use Rattle.ovs_types.specs.declared.datum.Datum.TheVariants.{Set, Map}
+use Rattle.ovs_types.specs.Atom.{atom_cmp, atom_eq}
+use Rattle.ovs_types.specs.Column.{is_single}
+use Rattle.ovs_types.specs.Datum.{contains, value_at}
+use Rattle.ovs_types.specs.Exchange.{exchange}
+use Rattle.ovs_types.specs.Pairs.{key_cmp, same_value}
+
+-- in exactly one of the two
+abbrev pub in_one : Bool → Bool → Bool
+in_one true b = not b
+in_one false b = b
+
+-- of a key in one map only its value, and the second of two values that differ
+abbrev pub changed : Option Atom → Option Atom → Option Atom
+changed None w = w
+changed (Some v) None = Some v
+changed (Some v) (Some w) = if atom_eq v w then None else Some w
+
+-- the elements of exactly one of the two; the pairs of keys of only one of the two, and of keys in
+-- both with different values those of the second
+abbrev pub IsExchange : Datum → Datum → Datum → Type 0
+IsExchange (Set old) (Set new) (Set d) = (x : Atom) → contains x d ≡ in_one (contains x old) (contains x new)
+IsExchange (Map old) (Map new) (Map d) = (k : Atom) → value_at k d ≡ changed (value_at k old) (value_at k new)
+IsExchange (Set old) (Set new) (Map d) = ⊥
+IsExchange (Set old) (Map new) d = ⊥
+IsExchange (Map old) (Set new) d = ⊥
+IsExchange (Map old) (Map new) (Set d) = ⊥
+
+-- d is the difference from old to new: the whole of new for a single column
+abbrev pub IsDifference : Column → Datum → Datum → Datum → Type 0
+IsDifference c old new d = MatchBool (is_single c) (d ≡ new) (IsExchange old new d)
+
+-- ---- the same as functions, for definitions that need a value
+
+abbrev pub exchange_of : Datum → Datum → Datum
+exchange_of (Set old) (Set new) = Set (exchange atom_cmp (λ _ _. true) old new)
+exchange_of (Map old) (Map new) = Map (exchange key_cmp same_value old new)
+exchange_of (Set old) (Map new) = Map new
+exchange_of (Map old) (Set new) = Set new
+
+-- the difference from old to new
+abbrev pub difference_of : Column → Datum → Datum → Datum
+difference_of c old new = if is_single c then new else exchange_of old new
+
+-- the datum to which diff is the difference from old
+abbrev pub changed_by : Column → Datum → Datum → Datum
+changed_by c old diff = if is_single c then diff else exchange_of old diff

@@ -1,0 +1,69 @@
+//! Differences between the data of a column.
+
+ghost use Rattle.std.specs.Prelude.{◌≡◌, IfOk};
+ghost use Rattle.ovs_types.specs.Datum.{IsAlike, IsDatumOf, IsOrdered};
+ghost use Rattle.ovs_types.specs.Difference.{IsDifference, IsExchange, exchange_of, difference_of, changed_by};
+
+use crate::column::Column;
+use crate::datum::Datum;
+use crate::error::NoMemory;
+
+impl Datum {
+    // What only one of the two has, and the second's value of a key whose values differ.
+    fn exchanged(&self, other: &Datum) -> Result<Datum, NoMemory>
+        requires alike { IsAlike self.now other.now }
+        ensures exchange { IfOk result (IsExchange self.now other.now) }
+        ensures exact { IfOk result (λ d. d ≡ exchange_of self.now other.now) }
+        ensures ordered { IfOk result IsOrdered }
+    {
+        match (self, other) {
+            (Datum::Set(left), Datum::Set(right)) => Ok(Datum::Set(left.exchanged(right)?)),
+            (Datum::Map(left), Datum::Map(right)) => Ok(Datum::Map(left.exchanged(right)?)),
+            _ => unreachable!(),
+        }
+    }
+}
+
+/// The difference from `old` to `new`: for a single column the whole of `new`; for other sets the
+/// elements in exactly one of the two; for other maps the pairs whose key is in only one of them,
+/// and for keys in both with different values the key with the new value.
+pub fn difference(old: &Datum, new: &Datum, column: &Column) -> Result<Datum, NoMemory>
+    requires alike { IsAlike old.now new.now }
+    ensures difference { IfOk result (IsDifference column.now old.now new.now) }
+    ensures exact { IfOk result (λ d. d ≡ difference_of column.now old.now new.now) }
+    ensures ordered { IfOk result IsOrdered }
+    ensures kept { IsDatumOf column.now old.now → IsDatumOf column.now new.now → IfOk result (IsDatumOf column.now) }
+{
+    if column.is_single() {
+        new.copy()
+    } else {
+        old.exchanged(new)
+    }
+}
+
+/// The datum to which `diff` is the difference from `old`.
+pub fn apply_difference(old: &Datum, diff: &Datum, column: &Column) -> Result<Datum, NoMemory>
+    requires alike { IsAlike old.now diff.now }
+    ensures applied { IfOk result (λ new. IsDifference column.now old.now new diff.now) }
+
+    // No other datum has this difference from `old`.
+    ensures only { IfOk result (λ new. (b : Datum) → IsOrdered b → IsDifference column.now old.now b diff.now → new ≡ b) }
+    ensures exact { IfOk result (λ new. new ≡ changed_by column.now old.now diff.now) }
+    ensures ordered { IfOk result IsOrdered }
+    ensures kept { IsDatumOf column.now old.now → IsDatumOf column.now diff.now → IfOk result (IsDatumOf column.now) }
+{
+    if column.is_single() {
+        diff.copy()
+    } else {
+        old.exchanged(diff)
+    }
+}
+
+/// Applying the difference from one datum to another gives the other.
+pub fn there_and_back(old: &Datum, new: &Datum, column: &Column) -> Result<Datum, NoMemory>
+    requires alike { IsAlike old.now new.now }
+    ensures back { IfOk result (λ d. d ≡ new.now) }
+{
+    let given = new.copy()?;
+    apply_difference(old, &difference(old, &given, column)?, column)
+}

@@ -1,0 +1,180 @@
+//! Columns out of JSON (RFC 7047 section 3.2).
+
+ghost use Rattle.std.specs.Prelude.{◌≡◌, option_map};
+ghost use Rattle.serde_json.specs.View.{view};
+ghost use Rattle.ovs_types.specs.SchemaReading.{kind_named, read_kind, read_base, read_key, read_value, read_least, limit_named, read_most, read_kinds, read_bounds, read_object, read_type, read_column};
+
+use crate::atom::AtomKind;
+use crate::column::Column;
+use crate::schema_error::{SchemaError, both};
+use serde_json::Value;
+
+// An `<atomic-type>` by its name.
+fn kind_named(name: &str) -> Result<AtomKind, SchemaError>
+    ensures exact { result ≡ kind_named name.now }
+{
+    if name == "integer" {
+        Ok(AtomKind::Integer)
+    } else if name == "boolean" {
+        Ok(AtomKind::Boolean)
+    } else if name == "string" {
+        Ok(AtomKind::String)
+    } else if name == "uuid" {
+        Ok(AtomKind::Uuid)
+    } else if name == "real" {
+        Err(SchemaError::Real)
+    } else {
+        Err(SchemaError::BadShape)
+    }
+}
+
+fn read_kind(value: &Value) -> Result<AtomKind, SchemaError>
+    ensures exact { result ≡ read_kind (view value.now) }
+{
+    match value.as_str() {
+        Some(name) => kind_named(name),
+        None => Err(SchemaError::BadShape),
+    }
+}
+
+// A `<base-type>`: an `<atomic-type>`, or an object with it as its "type".
+fn read_base(value: &Value) -> Result<AtomKind, SchemaError>
+    ensures exact { result ≡ read_base (view value.now) }
+{
+    match value.as_str() {
+        Some(name) => kind_named(name),
+        None => match value.get("type") {
+            Some(inner) => read_kind(inner),
+            None => Err(SchemaError::BadShape),
+        },
+    }
+}
+
+fn read_key(value: Option<&Value>) -> Result<AtomKind, SchemaError>
+    ensures exact { result ≡ read_key (option_map (λ v. view v.now) value.entry) }
+{
+    match value {
+        Some(value) => read_base(value),
+        None => Err(SchemaError::BadShape),
+    }
+}
+
+fn read_value(value: Option<&Value>) -> Result<Option<AtomKind>, SchemaError>
+    ensures exact { result ≡ read_value (option_map (λ v. view v.now) value.entry) }
+{
+    match value {
+        Some(value) => match read_base(value) {
+            Ok(kind) => Ok(Some(kind)),
+            Err(fault) => Err(fault),
+        },
+        None => Ok(None),
+    }
+}
+
+// Whether "min" lets a column be empty.
+fn read_least(value: Option<&Value>) -> Result<bool, SchemaError>
+    ensures exact { result ≡ read_least (option_map (λ v. view v.now) value.entry) }
+{
+    match value {
+        Some(value) => match value.as_u64() {
+            Some(least) => {
+                if least == 0 {
+                    Ok(true)
+                } else if least == 1 {
+                    Ok(false)
+                } else {
+                    Err(SchemaError::BadBounds)
+                }
+            }
+            None => Err(SchemaError::BadBounds),
+        },
+        None => Ok(false),
+    }
+}
+
+fn limit_named(name: &str) -> Result<Option<u64>, SchemaError>
+    ensures exact { result ≡ limit_named name.now }
+{
+    if name == "unlimited" {
+        Ok(None)
+    } else {
+        Err(SchemaError::BadBounds)
+    }
+}
+
+// The most elements that "max" lets a column have.
+fn read_most(value: Option<&Value>) -> Result<Option<u64>, SchemaError>
+    ensures exact { result ≡ read_most (option_map (λ v. view v.now) value.entry) }
+{
+    let Some(value) = value else {
+        return Ok(Some(1));
+    };
+    if let Some(name) = value.as_str() {
+        return limit_named(name);
+    }
+    match value.as_u64() {
+        Some(most) => {
+            if most == 0 {
+                Err(SchemaError::BadBounds)
+            } else {
+                Ok(Some(most))
+            }
+        }
+        None => Err(SchemaError::BadBounds),
+    }
+}
+
+fn read_kinds(value: &Value) -> Result<(AtomKind, Option<AtomKind>), SchemaError>
+    ensures exact { result ≡ read_kinds (view value.now) }
+{
+    both(read_key(value.get("key")), read_value(value.get("value")))
+}
+
+fn read_bounds(value: &Value) -> Result<(bool, Option<u64>), SchemaError>
+    ensures exact { result ≡ read_bounds (view value.now) }
+{
+    both(read_least(value.get("min")), read_most(value.get("max")))
+}
+
+// A `<type>` that is an object.
+fn read_object(value: &Value) -> Result<Column, SchemaError>
+    ensures exact { result ≡ read_object (view value.now) }
+{
+    match both(read_kinds(value), read_bounds(value)) {
+        Ok(((key, value), (may_be_empty, most))) => Ok(Column {
+            key,
+            value,
+            may_be_empty,
+            most,
+        }),
+        Err(fault) => Err(fault),
+    }
+}
+
+// A `<type>`.
+fn read_type(value: &Value) -> Result<Column, SchemaError>
+    ensures exact { result ≡ read_type (view value.now) }
+{
+    match value.as_str() {
+        Some(name) => match kind_named(name) {
+            Ok(key) => Ok(Column {
+                key,
+                value: None,
+                may_be_empty: false,
+                most: Some(1),
+            }),
+            Err(fault) => Err(fault),
+        },
+        None => read_object(value),
+    }
+}
+
+/// What a `<column-schema>` says that the column holds.
+pub(crate) fn read_column(value: &Value) -> Result<Column, SchemaError>
+    ensures exact { result ≡ read_column (view value.now) }
+{
+    match value.get("type") {
+        Some(inner) => read_type(inner),
+        None => Err(SchemaError::BadShape),
+    }
+}

@@ -1,0 +1,129 @@
+//! Data as JSON (RFC 7047 section 5.1).
+
+ghost use Rattle.std.specs.Prelude.{◌≡◌, IfOk, true, false};
+ghost use Rattle.serde_json.specs.View.{view, items_view};
+ghost use Rattle.serde_json.specs.Data.{string, array};
+ghost use Rattle.serde_json.specs.Written.{has_float};
+ghost use Rattle.ovs_types.specs.declared.column.Column.{Column};
+ghost use Rattle.ovs_types.specs.Atom.{kind_of};
+ghost use Rattle.ovs_types.specs.Column.{may_count};
+ghost use Rattle.ovs_types.specs.Datum.{IsDatumOf, datum_len};
+ghost use Rattle.ovs_types.specs.Spelling.{Spells, SpellsAtom, SpellsValue, SpellsBoth, SpellsEach, IsWritten};
+ghost use Rattle.ovs_types.specs.Writing.{atom_json, atoms_json, pairs_json, datum_json, two, listed};
+
+use crate::atom::Atom;
+use crate::datum::Datum;
+use crate::error::NoMemory;
+use crate::pairs::Pair;
+use serde_json::Value;
+use std::alloc::Global;
+
+impl Atom {
+    /// The value that it is written as: a number, a boolean, a text or `["uuid", text]`.
+    pub fn to_json(&self, alloc: Global) -> Result<Value, NoMemory>
+        ensures value { IfOk result (λ v. view v ≡ atom_json self.now) }
+        // It stands for this atom.
+        ensures spelled { IfOk result (λ v. SpellsAtom (kind_of self.now) (view v) self.now) }
+        ensures no_float { IfOk result (λ v. has_float (view v) ≡ false) }
+    {
+        atom_json(alloc, self)
+    }
+}
+
+impl Datum {
+    /// The value that it is written as: exactly one element of a set as itself, every other set as
+    /// `["set", [..]]`, a map as `["map", [[key, value]..]]`; elements and keys ascend.
+    pub fn to_json(&self, alloc: Global) -> Result<Value, NoMemory>
+        ensures value { IfOk result (λ v. view v ≡ datum_json self.now) }
+        // It stands for this datum in each column of which it is a datum.
+        ensures spelled { IfOk result (λ v. (c : Column) → IsDatumOf c self.now → may_count c (datum_len self.now) ≡ true → Spells c (view v) self.now) }
+        ensures no_float { IfOk result (λ v. has_float (view v) ≡ false) }
+    {
+        datum_json(alloc, self)
+    }
+}
+
+fn text_json(alloc: Global, text: &str) -> Result<Value, NoMemory>
+    ensures value { IfOk result (λ v. view v ≡ string text.now) }
+{
+    Ok(Value::String(String::from_str(alloc, text)?))
+}
+
+fn two(alloc: Global, first: Value, second: Value) -> Result<Value, NoMemory>
+    ensures value { IfOk result (λ v. view v ≡ two (view first) (view second)) }
+{
+    let mut items = Vec::with_capacity(alloc, 2)?;
+    items.push(first)?;
+    items.push(second)?;
+    Ok(Value::Array(items))
+}
+
+// A list under a word.
+fn listed(alloc: Global, word: &str, items: Vec<Value>) -> Result<Value, NoMemory>
+    ensures value { IfOk result (λ v. view v ≡ listed word.now (items_view items.items)) }
+{
+    two(alloc, text_json(alloc, word)?, Value::Array(items))
+}
+
+fn atom_json(alloc: Global, atom: &Atom) -> Result<Value, NoMemory>
+    ensures value { IfOk result (λ v. view v ≡ atom_json atom.now) }
+    ensures spelled { IfOk result (λ v. SpellsValue (view v) atom.now) }
+{
+    match atom {
+        Atom::Integer(number) => Ok(Value::from(*number)),
+        Atom::Boolean(truth) => Ok(Value::Bool(*truth)),
+        Atom::String(text) => text_json(alloc, text.as_str()),
+        Atom::Uuid(id) => {
+            let text = id.to_text(alloc)?;
+            two(
+                alloc,
+                text_json(alloc, "uuid")?,
+                text_json(alloc, text.as_str())?,
+            )
+        }
+    }
+}
+
+fn atoms_json(alloc: Global, atoms: &[Atom]) -> Result<Vec<Value>, NoMemory>
+    ensures value { IfOk result (λ v. items_view v.items ≡ atoms_json atoms.now) }
+    ensures spelled { IfOk result (λ v. SpellsEach SpellsValue (items_view v.items) atoms.now) }
+{
+    let mut items = Vec::with_capacity(alloc, atoms.len())?;
+    for atom in atoms {
+        items.push(atom_json(alloc, atom)?)?;
+    }
+    Ok(items)
+}
+
+fn pairs_json(alloc: Global, pairs: &[Pair]) -> Result<Vec<Value>, NoMemory>
+    ensures value { IfOk result (λ v. items_view v.items ≡ pairs_json pairs.now) }
+    ensures spelled { IfOk result (λ v. SpellsEach SpellsBoth (items_view v.items) pairs.now) }
+{
+    let mut items = Vec::with_capacity(alloc, pairs.len())?;
+    for pair in pairs {
+        let key = atom_json(alloc, &pair.key)?;
+        let value = atom_json(alloc, &pair.value)?;
+        items.push(two(alloc, key, value)?)?;
+    }
+    Ok(items)
+}
+
+fn datum_json(alloc: Global, datum: &Datum) -> Result<Value, NoMemory>
+    ensures value { IfOk result (λ v. view v ≡ datum_json datum.now) }
+    ensures spelled { IfOk result (λ v. IsWritten (view v) datum.now) }
+{
+    match datum {
+        Datum::Set(atoms) => {
+            if let [atom] = atoms.as_slice() {
+                atom_json(alloc, atom)
+            } else {
+                let items = atoms_json(alloc, atoms.as_slice())?;
+                listed(alloc, "set", items)
+            }
+        }
+        Datum::Map(pairs) => {
+            let items = pairs_json(alloc, pairs.as_slice())?;
+            listed(alloc, "map", items)
+        }
+    }
+}

@@ -1,0 +1,134 @@
+-- Streams one after another.
+use Rattle.std.specs.List.{concat}
+use Rattle.std.proofs.Common.{All, ◌≡◌, ℕ, List, [], ◌∷◌, ◌++◌, refl, ap, sym, ◌∙◌, subst, append_assoc, arith}
+use Rattle.std.proofs.lemmas.List.{append-nil}
+use Rattle.std.proofs.Math.Seq.{take-nil}
+use Rattle.std.proofs.lemmas.List.Elements.{All-append, All-nil, All-cons, All-head, All-tail}
+use Rattle.ovs_wire.specs.declared.error.FrameError.{FrameError}
+use Rattle.ovs_wire.specs.Frames.{Part, Space, Object, IsPart, IsSpace, IsObject, bytes_of, joined, objects, Ending, Rest, Fault, AreFrames, IsUnfinished, HasFault}
+use Rattle.ovs_wire.specs.Framing.{Framing, FeedsAfter, Feeds, Follows}
+
+pub joined-append : (ps qs : List Part) → joined (ps ++ qs) ≡ joined ps ++ joined qs
+joined-append [] qs = refl
+joined-append (p ∷ ps) qs = ap (λ l. bytes_of p ++ l) (joined-append ps qs) ∙ sym
+    (append_assoc (bytes_of p) (joined ps) (joined qs))
+
+pub objects-append : (ps qs : List Part) → objects (ps ++ qs) ≡ objects ps ++ objects qs
+objects-append [] qs = refl
+objects-append (Space b ∷ ps) qs = objects-append ps qs
+objects-append (Object o ∷ ps) qs = ap (λ l. o ∷ l) (objects-append ps qs)
+
+pub cut : (x y : List ℕ) (first second : List (List ℕ)) (left : List ℕ) (ending : Ending)
+    → AreFrames x first (Rest left) → AreFrames (left ++ y) second ending
+    → AreFrames (x ++ y) (first ++ second) ending
+cut x y first second left ending a b =
+    let split : x ++ y ≡ joined a.parts ++ (left ++ y) =
+    ap (λ l. l ++ y) (a.whole ∙ ap (λ r. joined a.parts ++ r) a.ends.0) ∙ append_assoc (joined a.parts)
+    left y in
+    record {
+      parts = a.parts ++ b.parts;
+      rest = b.rest;
+      whole = split ∙ ap (λ l. joined a.parts ++ l) b.whole ∙ sym
+          (append_assoc (joined a.parts) (joined b.parts) b.rest) ∙ ap (λ l. l ++ b.rest)
+          (sym (joined-append a.parts b.parts));
+      each = All-append IsPart a.parts b.parts a.each b.each;
+      found_are = objects-append a.parts b.parts ∙ ap (λ l. l ++ objects b.parts) a.found_are ∙ ap
+          (λ l. first ++ l) b.found_are;
+      ends = b.ends;
+    }
+
+pub fault_on : (x y : List ℕ) (found : List (List ℕ)) (f : FrameError) → AreFrames x found (Fault f)
+    → AreFrames (x ++ y) found (Fault f)
+fault_on x y found f a =
+    let h = a.ends in
+    record {
+      parts = a.parts;
+      rest = a.rest ++ y;
+      whole = ap (λ l. l ++ y) a.whole ∙ append_assoc (joined a.parts) a.rest y;
+      each = a.each;
+      found_are = a.found_are;
+      ends = record {
+        before = h.before;
+        byte = h.byte;
+        more = h.more ++ y;
+        whole = ap (λ l. l ++ y) h.whole ∙ append_assoc h.before (h.byte ∷ h.more) y;
+        unfinished = h.unfinished;
+        breaks = h.breaks;
+      };
+    }
+
+pub only_rest : (r : List ℕ) → IsUnfinished r → AreFrames r [] (Rest r)
+only_rest r u = record {
+  parts = [];
+  rest = r;
+  whole = refl;
+  each = All-nil IsPart;
+  found_are = refl;
+  ends =
+      (refl, u);
+}
+
+pub only_fault : (r : List ℕ) (f : FrameError) → HasFault r f → AreFrames r [] (Fault f)
+only_fault r f h = record {
+  parts = [];
+  rest = r;
+  whole = refl;
+  each = All-nil IsPart;
+  found_are = refl;
+  ends =
+      h;
+}
+
+pub nothing : IsUnfinished []
+nothing = record {
+  begins = λ lt. absurd (omega arith);
+  inside = λ k more le. absurd (omega arith);
+  nests = λ k. rw take-nil (omega arith);
+  fits = omega arith;
+}
+
+pub only_space : (b : ℕ) → IsSpace b → AreFrames (b ∷ []) [] (Rest [])
+only_space b blank = record {
+  parts = Space b ∷ [];
+  rest = [];
+  whole = refl;
+  each =
+      All-cons IsPart (Space b) [] blank (All-nil IsPart);
+  found_are = refl;
+  ends = (refl, nothing);
+}
+
+pub only_object : (o : List ℕ) → IsObject o → AreFrames o (o ∷ []) (Rest [])
+only_object o is = record {
+  parts = Object o ∷ [];
+  rest = [];
+  whole = simp append-nil;
+  each =
+      All-cons IsPart (Object o) [] is (All-nil IsPart);
+  found_are = refl;
+  ends = (refl, nothing);
+}
+
+-- feeding a piece to what follows the stream, by how the stream ended before
+follows_after : (stream piece : List ℕ) (taken : List (List ℕ)) (ending : Ending) (old new : Framing)
+    → AreFrames stream (taken ++ old.waiting) ending → ending ≡ old.ending → FeedsAfter ending old piece new
+    → Follows (stream ++ piece) taken new
+follows_after stream piece taken (Rest left) old new before is feeds =
+    let whole = cut stream piece (taken ++ old.waiting) feeds.found left new.ending before feeds.frames in
+    subst (λ (l : List (List ℕ)). AreFrames (stream ++ piece) l new.ending)
+    (append_assoc taken old.waiting feeds.found ∙ ap (λ l. taken ++ l) (sym feeds.waiting)) whole
+follows_after stream piece taken (Fault fault) old new before is feeds =
+    subst (λ (n : Framing). Follows (stream ++ piece) taken n) (sym feeds)
+    (subst (λ (e : Ending). AreFrames (stream ++ piece) (taken ++ old.waiting) e) is
+    (fault_on stream piece (taken ++ old.waiting) fault before))
+
+pub follows : (stream piece : List ℕ) (taken : List (List ℕ)) (old new : Framing) → Follows stream taken old
+    → Feeds old piece new → Follows (stream ++ piece) taken new
+follows stream piece taken old new before feeds =
+    follows_after stream piece taken old.ending old new before refl feeds
+
+-- objects one after another
+pub only_objects : (found : List (List ℕ)) → All IsObject found → AreFrames (concat found) found (Rest [])
+only_objects [] each = only_rest [] nothing
+only_objects (o ∷ os) each = cut o (concat os) (o ∷ []) os [] (Rest [])
+    (only_object o (All-head IsObject o os each)) (only_objects os (All-tail IsObject o os each))

@@ -1,0 +1,267 @@
+-- One more byte of a stream.
+use Rattle.std.proofs.Common.{◌⊎◌, ◌≡◌, ℕ, ◌+◌, ◌-◌, ◌<◌, ◌≤◌, List, [], ◌∷◌, ◌++◌, length, take, drop, get_or, slice_index, refl, ap, sym, ◌∙◌, subst, arith, ⊎_elim, length-append}
+use Rattle.std.proofs.lemmas.List.{take_more, take-append-le, take_all, drop-append-le, take-append-drop, length-take-le, drop-take, append-nil, drop_all, length-take}
+use Rattle.std.proofs.Math.Seq.{take-length}
+use Rattle.std.proofs.lemmas.List.Sums.{fold-append}
+use Rattle.std.proofs.lemmas.Bool.{cases_lt}
+use Rattle.ovs_wire.specs.declared.error.FrameError.{FrameError}
+use Rattle.ovs_wire.specs.declared.error.FrameError.TheVariants.{NotObject, TooDeep, TooLong}
+use Rattle.ovs_wire.specs.declared.limits.TheConstants.{MAX_MESSAGE_BYTES, MAX_NESTING}
+use Rattle.std.proofs.lemmas.Grind.{common_steps}
+use Rattle.ovs_wire.specs.declared.place.Place.{Place}
+use Rattle.ovs_wire.specs.Place.{depth, past, start, place_after}
+use Rattle.ovs_wire.specs.Frames.{IsSpace, IsObject, IsUnfinished, HasFault, Breaks, Ending, Rest, Fault, AreFrames}
+use Rattle.ovs_wire.proofs.Cuts.{cut, fault_on, only_rest, only_fault, only_space, only_object}
+
+pub place_after-more : (u : List ℕ) (b : ℕ) → place_after (u ++ b ∷ []) ≡ past (place_after u) b
+place_after-more u b = fold-append past start u (b ∷ [])
+
+-- a property of the beginnings of a list, at one more byte
+front_more : (P : List ℕ → Type 0) (u : List ℕ) (b k : ℕ) → (k ≤ length u → P (take k u)) → P (u ++ b ∷ [])
+    → P (take k (u ++ b ∷ []))
+front_more P u b k low here = ⊎_elim
+    (λ (h : k < length u + 1). subst P (sym (take-append-le k u (b ∷ []) (omega arith))) (low (omega arith)))
+    (λ (h : length u + 1 ≤ k). subst P
+    (sym (take_all k (u ++ b ∷ []) (omega (arith, length-append u (b ∷ []))))) here)
+    (cases_lt k (length u + 1))
+
+head_more : (u : List ℕ) (b : ℕ) → (0 < length u → slice_index u 0 ≡ 123) → (length u ≡ 0 → b ≡ 123)
+    → slice_index (u ++ b ∷ []) 0 ≡ 123
+head_more [] b low here = here refl
+head_more (a ∷ u) b low here = low (omega arith)
+
+pub unfinished_more : (u : List ℕ) (b : ℕ) → IsUnfinished u → (length u ≡ 0 → b ≡ 123)
+    → 0 < depth (u ++ b ∷ []) → depth (u ++ b ∷ []) ≤ MAX_NESTING → length u < MAX_MESSAGE_BYTES
+    → IsUnfinished (u ++ b ∷ [])
+unfinished_more u b is head deep low short = record {
+  begins = λ _. head_more u b is.begins head;
+  inside = λ k more le. front_more (λ (l : List ℕ). 0 < depth l) u b k (λ h. is.inside k more h) deep;
+  nests = λ k. front_more (λ (l : List ℕ). depth l ≤ MAX_NESTING) u b k (λ h. is.nests k) low;
+  fits = omega (arith, length-append u (b ∷ []));
+}
+
+pub object_whole : (u : List ℕ) (b : ℕ) → IsUnfinished u → (length u ≡ 0 → b ≡ 123) → depth (u ++ b ∷ []) ≡ 0
+    → length u < MAX_MESSAGE_BYTES → IsObject (u ++ b ∷ [])
+object_whole u b is head deep short = record {
+  begins = (omega (arith, length-append u (b ∷ [])), head_more u b is.begins head);
+  ends = deep;
+  inside = λ k more lt. let le : k ≤ length u =
+      omega (arith, length-append u (b ∷ [])) in subst (λ (l : List ℕ). 0 < depth l)
+      (sym (take-append-le k u (b ∷ []) le)) (is.inside k more le);
+  nests = λ k. front_more (λ (l : List ℕ). depth l ≤ MAX_NESTING) u b k (λ h. is.nests k) (omega (arith, deep));
+  fits = omega (arith, length-append u (b ∷ []));
+}
+
+pub faulty : (u : List ℕ) (b : ℕ) (f : FrameError) → IsUnfinished u → Breaks u b f → HasFault (u ++ b ∷ []) f
+faulty u b f is breaks = record {
+  before = u;
+  byte = b;
+  more = [];
+  whole = refl;
+  unfinished = is;
+  breaks =
+      breaks;
+}
+
+-- what stands between start and i, with the next byte
+pub current_more : (bytes : List ℕ) (start i : ℕ) → start ≤ i → i < length bytes
+    → drop start (take (i + 1) bytes) ≡ drop start (take i bytes) ++ get_or bytes i 0 ∷ []
+current_more bytes start i le lt = ap (drop start) (take_more bytes i 0 lt) ∙ drop-append-le start
+    (take i bytes) (get_or bytes i 0 ∷ []) (omega (arith, length-take-le i bytes (omega arith)))
+
+pub more : (bytes : List ℕ) (i : ℕ) (found found' : List (List ℕ)) (current : List ℕ) (ending : Ending)
+    → i < length bytes → AreFrames (take i bytes) found (Rest current)
+    → AreFrames (current ++ get_or bytes i 0 ∷ []) found' ending
+    → AreFrames (take (i + 1) bytes) (found ++ found') ending
+more bytes i found found' current ending lt a b =
+    subst (λ (l : List ℕ). AreFrames l (found ++ found') ending) (sym (take_more bytes i 0 lt))
+    (cut (take i bytes) (get_or bytes i 0 ∷ []) found found' current ending a b)
+
+pub unfinished_now : (x : List ℕ) (found : List (List ℕ)) (r : List ℕ) → AreFrames x found (Rest r)
+    → IsUnfinished r
+unfinished_now x found r a = subst IsUnfinished a.ends.0 a.ends.1
+
+pub fault_now : (bytes : List ℕ) (i : ℕ) (found : List (List ℕ)) (f : FrameError)
+    → AreFrames (take i bytes) found (Fault f) → AreFrames bytes found (Fault f)
+fault_now bytes i found f a = subst (λ (l : List ℕ). AreFrames l found (Fault f)) (take-append-drop i bytes)
+    (fault_on (take i bytes) (drop i bytes) found f a)
+
+length_current : (bytes : List ℕ) (start i : ℕ) → start ≤ i → i ≤ length bytes
+    → length (drop start (take i bytes)) ≡ i - start
+length_current bytes start i le short = grind (arith, common_steps)
+
+current_none : (bytes : List ℕ) (i : ℕ) → drop i (take i bytes) ≡ []
+current_none bytes i = drop_all i (take i bytes) (omega (arith, length-take i bytes))
+
+-- where a scan stands before byte i
+pub record Stands (bytes : List ℕ) (i start : ℕ) (found : List (List ℕ)) (p : Place) : Type 0 where
+  pub within : start ≤ i
+  pub frames : AreFrames (take i bytes) found (Rest (drop start (take i bytes)))
+  pub place : p ≡ place_after (drop start (take i bytes))
+
+pub stands_first : (bytes : List ℕ) (i : ℕ) (p : Place) → IsUnfinished (take i bytes)
+    → p ≡ place_after (take i bytes) → Stands bytes i 0 [] p
+stands_first bytes i p is at = record { within = omega arith; frames = only_rest (take i bytes) is; place = at }
+
+pub stands_space : (bytes : List ℕ) (i start : ℕ) (found : List (List ℕ)) (p : Place)
+    → Stands bytes i start found p → i < length bytes → start ≡ i → IsSpace (get_or bytes i 0)
+    → Stands bytes (i + 1) (i + 1) found p
+stands_space bytes i start found p s lt same blank =
+    let here : drop start (take i bytes) ≡ [] = ap (λ k. drop k (take i bytes)) same ∙ current_none bytes i in
+    let none = current_none bytes (i + 1) in
+    let next : AreFrames (take (i + 1) bytes) (found ++ []) (Rest []) =
+    more bytes i found [] [] (Rest []) lt
+    (subst (λ (l : List ℕ). AreFrames (take i bytes) found (Rest l)) here s.frames)
+    (only_space (get_or bytes i 0) blank) in
+    record {
+      within = omega arith;
+      frames = subst (λ (l : List ℕ). AreFrames (take (i + 1) bytes) found (Rest l)) (sym none)
+          (simp append-nil at next);
+      place = s.place ∙ ap place_after here ∙ ap place_after (sym none);
+    }
+
+-- what the next byte makes of what stands there
+now_more : (bytes : List ℕ) (i start : ℕ) (found : List (List ℕ)) (p q : Place) → Stands bytes i start found p
+    → q ≡ past p (get_or bytes i 0) → q ≡ place_after (drop start (take i bytes) ++ get_or bytes i 0 ∷ [])
+now_more bytes i start found p q s next = next ∙ ap (λ a. past a (get_or bytes i 0)) s.place ∙ sym
+    (place_after-more (drop start (take i bytes)) (get_or bytes i 0))
+
+pub stands_more : (bytes : List ℕ) (i start : ℕ) (found : List (List ℕ)) (p q : Place)
+    → Stands bytes i start found p → i < length bytes → (start ≡ i → get_or bytes i 0 ≡ 123)
+    → q ≡ past p (get_or bytes i 0) → 0 < q.depth → q.depth ≤ MAX_NESTING → i - start < MAX_MESSAGE_BYTES
+    → Stands bytes (i + 1) start found q
+stands_more bytes i start found p q s lt head next deep low short =
+    let u = drop start (take i bytes) in
+    let b = get_or bytes i 0 in
+    let len = length_current bytes start i s.within (omega arith) in
+    let now = now_more bytes i start found p q s next in
+    let d : q.depth ≡ depth (u ++ b ∷ []) = ap (λ a. a.depth) now in
+    let is = unfinished_more u b (unfinished_now (take i bytes) found u s.frames)
+    (λ none. head (omega (arith, none, len, s.within))) (omega (arith, d, deep)) (omega (arith, d, low))
+    (omega (arith, len, short)) in
+    let grown = current_more bytes start i s.within lt in
+    let frames : AreFrames (take (i + 1) bytes) (found ++ []) (Rest (u ++ b ∷ [])) =
+    more bytes i found [] u (Rest (u ++ b ∷ [])) lt s.frames (only_rest (u ++ b ∷ []) is) in
+    record {
+      within = omega (arith, s.within);
+      frames = subst (λ (l : List ℕ). AreFrames (take (i + 1) bytes) found (Rest l)) (sym grown)
+          (simp append-nil at frames);
+      place = now ∙ ap place_after (sym grown);
+    }
+
+pub stands_whole : (bytes : List ℕ) (i start : ℕ) (found : List (List ℕ)) (p q : Place) (o : List ℕ)
+    → Stands bytes i start found p → i < length bytes → (start ≡ i → get_or bytes i 0 ≡ 123)
+    → q ≡ past p (get_or bytes i 0) → q.depth ≡ 0 → i - start < MAX_MESSAGE_BYTES
+    → o ≡ drop start (take (i + 1) bytes) → Stands bytes (i + 1) (i + 1) (found ++ o ∷ []) (place_after [])
+stands_whole bytes i start found p q o s lt head next deep short whole =
+    let u = drop start (take i bytes) in
+    let b = get_or bytes i 0 in
+    let len = length_current bytes start i s.within (omega arith) in
+    let now = now_more bytes i start found p q s next in
+    let d : q.depth ≡ depth (u ++ b ∷ []) = ap (λ a. a.depth) now in
+    let is = object_whole u b (unfinished_now (take i bytes) found u s.frames)
+    (λ none. head (omega (arith, none, len, s.within))) (sym d ∙ deep) (omega (arith, len, short)) in
+    let o_is : u ++ b ∷ [] ≡ o = sym (whole ∙ current_more bytes start i s.within lt) in
+    let none = current_none bytes (i + 1) in
+    let frames : AreFrames (take (i + 1) bytes) (found ++ (u ++ b ∷ []) ∷ []) (Rest []) =
+    more bytes i found ((u ++ b ∷ []) ∷ []) u (Rest []) lt s.frames (only_object (u ++ b ∷ []) is) in
+    record {
+      within = omega arith;
+      frames = subst (λ (l : List ℕ). AreFrames (take (i + 1) bytes) (found ++ o ∷ []) (Rest l)) (sym none)
+          (subst (λ (m : List ℕ). AreFrames (take (i + 1) bytes) (found ++ m ∷ []) (Rest [])) o_is frames);
+      place = ap place_after (sym none);
+    }
+
+stands_fault : (bytes : List ℕ) (i start : ℕ) (found : List (List ℕ)) (p : Place) (f : FrameError)
+    → Stands bytes i start found p → i < length bytes → Breaks (drop start (take i bytes)) (get_or bytes i 0) f
+    → AreFrames bytes found (Fault f)
+stands_fault bytes i start found p f s lt breaks =
+    let u = drop start (take i bytes) in
+    let b = get_or bytes i 0 in
+    let h = faulty u b f (unfinished_now (take i bytes) found u s.frames) breaks in
+    let frames : AreFrames (take (i + 1) bytes) (found ++ []) (Fault f) =
+    more bytes i found [] u (Fault f) lt s.frames (only_fault (u ++ b ∷ []) f h) in
+    fault_now bytes (i + 1) found f (simp append-nil at frames)
+
+pub not_object : (bytes : List ℕ) (i start : ℕ) (found : List (List ℕ)) (p : Place)
+    → Stands bytes i start found p → i < length bytes → start ≡ i → (IsSpace (get_or bytes i 0) → ⊥)
+    → (get_or bytes i 0 ≡ 123 → ⊥) → AreFrames bytes found (Fault NotObject)
+not_object bytes i start found p s lt same blank other =
+    stands_fault bytes i start found p NotObject s lt
+    (omega (arith, length_current bytes start i s.within (omega arith)), blank, other)
+
+-- at most one deeper
+pub past_by_one : (a : Place) (b : ℕ) → (past a b).depth ≤ a.depth + 1
+past_by_one a b = grind (arith, common_steps)
+
+pub nests_now : (u : List ℕ) → IsUnfinished u → depth u ≤ MAX_NESTING
+nests_now u is = subst (λ (l : List ℕ). depth l ≤ MAX_NESTING) (take-length u) (is.nests (length u))
+
+some_before : (u : List ℕ) (b : ℕ) → depth (u ++ b ∷ []) ≤ depth u + 1 → MAX_NESTING < depth (u ++ b ∷ [])
+    → 0 < length u
+some_before [] b by_one deep = absurd (omega (arith, by_one, deep))
+some_before (a ∷ u) b by_one deep = omega arith
+
+-- only place_after a byte, and one too many
+pub deeper : (u : List ℕ) (b : ℕ) → IsUnfinished u → MAX_NESTING < depth (u ++ b ∷ [])
+    → (0 < length u) × (depth (u ++ b ∷ []) ≡ MAX_NESTING + 1)
+deeper u b is deep =
+    let by_one : depth (u ++ b ∷ []) ≤ depth u + 1 =
+    subst (λ (a : Place). a.depth ≤ depth u + 1) (sym (place_after-more u b))
+    (past_by_one (place_after u) b) in
+    (some_before u b by_one deep, omega (arith, by_one, nests_now u is, deep))
+
+pub too_deep : (bytes : List ℕ) (i start : ℕ) (found : List (List ℕ)) (p q : Place)
+    → Stands bytes i start found p → i < length bytes → q ≡ past p (get_or bytes i 0) → MAX_NESTING < q.depth
+    → AreFrames bytes found (Fault TooDeep)
+too_deep bytes i start found p q s lt next deep =
+    let u = drop start (take i bytes) in
+    let b = get_or bytes i 0 in
+    let d : q.depth ≡ depth (u ++ b ∷ []) = ap (λ a. a.depth) (now_more bytes i start found p q s next) in
+    stands_fault bytes i start found p TooDeep s lt
+    (deeper u b (unfinished_now (take i bytes) found u s.frames) (omega (arith, d, deep)))
+
+pub too_long : (bytes : List ℕ) (i start : ℕ) (found : List (List ℕ)) (p q : Place)
+    → Stands bytes i start found p → i < length bytes → q ≡ past p (get_or bytes i 0) → q.depth ≤ MAX_NESTING
+    → MAX_MESSAGE_BYTES ≤ i - start → AreFrames bytes found (Fault TooLong)
+too_long bytes i start found p q s lt next low long =
+    let u = drop start (take i bytes) in
+    let b = get_or bytes i 0 in
+    let len = length_current bytes start i s.within (omega arith) in
+    let is = unfinished_now (take i bytes) found u s.frames in
+    let d : q.depth ≡ depth (u ++ b ∷ []) = ap (λ a. a.depth) (now_more bytes i start found p q s next) in
+    stands_fault bytes i start found p TooLong s lt (omega (arith, len, is.fits, long), omega (arith, d, low))
+
+pub stands_last : (bytes : List ℕ) (i start : ℕ) (found : List (List ℕ)) (p : Place)
+    → Stands bytes i start found p → length bytes ≤ i
+    → AreFrames bytes found (Rest (drop start bytes)) × (p ≡ place_after (drop start bytes))
+stands_last bytes i start found p s le =
+    let all = take_all i bytes le in (
+      subst (λ (l : List ℕ). AreFrames l found (Rest (drop start l))) all s.frames,
+      s.place ∙ ap
+          (λ l. place_after (drop start l)) all,
+    )
+
+pub depth_now : (bytes : List ℕ) (i start : ℕ) (found : List (List ℕ)) (p : Place)
+    → Stands bytes i start found p → p.depth ≤ MAX_NESTING
+depth_now bytes i start found p s =
+    let u = drop start (take i bytes) in
+    omega (arith, ap (λ a. a.depth) s.place, nests_now u (unfinished_now (take i bytes) found u s.frames))
+
+pub opens : (bytes : List ℕ) (i start : ℕ) → ((start ≡ i) × (get_or bytes i 0 ≡ 123)) ⊎ (start ≡ i → ⊥)
+    → start ≡ i → get_or bytes i 0 ≡ 123
+opens bytes i start either same = ⊎_elim (λ (b : (start ≡ i) × (get_or bytes i 0 ≡ 123)). b.1)
+    (λ (n : start ≡ i → ⊥). absurd (n same)) either
+
+pub moved : (bytes : List ℕ) (i start start' : ℕ) (found found' : List (List ℕ)) (p p' : Place)
+    → Stands bytes i start found p → start' ≡ start → found' ≡ found → p' ≡ p → Stands bytes i start' found' p'
+moved bytes i start start' found found' p p' s a b c =
+    subst (λ (k : ℕ). Stands bytes i k found' p') (sym a)
+    (subst (λ (l : List (List ℕ)). Stands bytes i start l p') (sym b)
+    (subst (λ (x : Place). Stands bytes i start found x) (sym c) s))
+
+pub cut_out : (bytes : List ℕ) (start i : ℕ) → start ≤ i
+    → take (i + 1 - start) (drop start bytes) ≡ drop start (take (i + 1) bytes)
+cut_out bytes start i le =
+    let sum : start + (i + 1 - start) ≡ i + 1 = omega arith in
+    sym (drop-take start (i + 1 - start) bytes) ∙ ap (λ k. drop start (take k bytes)) sum

@@ -1,0 +1,41 @@
+-- What a framer holds, and what feeding it does.
+use Rattle.std.specs.Prelude.{◌≡◌, ℕ, Option, Some, None, Result, Ok, Err, List, ◌++◌}
+use Rattle.ovs_wire.specs.declared.error.FrameError.{FrameError}
+use Rattle.ovs_wire.specs.Frames.{Ending, Rest, Fault, AreFrames}
+
+-- the whole messages that wait, and then the rest or the first fault
+pub record Framing : Type 0 where
+  pub waiting : List (List ℕ)
+  pub ending : Ending
+
+abbrev pub framing : List (List ℕ) → Ending → Framing
+framing waiting ending = record { waiting = waiting; ending = ending }
+
+abbrev pub ending_of : Option FrameError → List ℕ → Ending
+ending_of None rest = Rest rest
+ending_of (Some fault) rest = Fault fault
+
+-- the frames of what was left with the piece are added
+pub record Adds (old : Framing) (left : List ℕ) (piece : List ℕ) (new : Framing) : Type 0 where
+  pub found : List (List ℕ)
+  pub frames : AreFrames (left ++ piece) found new.ending
+  pub waiting : new.waiting ≡ old.waiting ++ found
+
+abbrev pub FeedsAfter : Ending → Framing → List ℕ → Framing → Type 0
+FeedsAfter (Rest left) old piece new = Adds old left piece new
+FeedsAfter (Fault fault) old piece new = new ≡ old
+
+-- feeding the piece: after a fault nothing changes
+abbrev pub Feeds : Framing → List ℕ → Framing → Type 0
+Feeds old piece new = FeedsAfter old.ending old piece new
+
+-- a feed answers the fault, where there is one
+abbrev pub Answers : {X : Type 0} → Ending → Result X FrameError → Type 0
+Answers (Rest rest) (Ok x) = Unit {0}
+Answers (Rest rest) (Err e) = ⊥
+Answers (Fault fault) (Ok x) = ⊥
+Answers (Fault fault) (Err e) = fault ≡ e
+
+-- the framing is that of the stream that was fed so far, of which these messages were taken
+abbrev pub Follows : List ℕ → List (List ℕ) → Framing → Type 0
+Follows stream taken now = AreFrames stream (taken ++ now.waiting) now.ending

@@ -1,0 +1,137 @@
+ghost use Rattle.std.specs.Prelude.{◌≡◌, ◌++◌, [], OnOk, OnErr, option_to_list};
+ghost use Rattle.ovs_wire.specs.Frames.{Rest, Fault};
+ghost use Rattle.ovs_wire.specs.Framing.{Feeds, Answers};
+
+use crate::error::{FrameError, NoMemory};
+use crate::frame::Frame;
+use crate::place::Place;
+use crate::scan::{Scanned, scan};
+use std::alloc::Global;
+use std::collections::VecDeque;
+use std::marker::Model;
+
+// The room, in bytes, that is kept for the next message once one is whole.
+const SPARE_ROOM: usize = 4096;
+
+// Puts the messages that were found behind those that wait. Where none waits, the room of those that did is given
+// back.
+fn queue(waiting: &mut VecDeque<Frame>, mut found: VecDeque<Frame>) -> Result<(), NoMemory>
+    ensures ok { OnOk result (waiting.new.items ≡ waiting.old.items ++ found.items) }
+    ensures err { OnErr result (waiting.new.items ≡ waiting.old.items) }
+{
+    if waiting.is_empty() {
+        *waiting = found;
+        return Ok(());
+    }
+    waiting.append(&mut found)?;
+    Ok(())
+}
+
+/// Splits a stream of bytes into JSON objects with white space between them, as they come over a connection
+/// (RFC 7047 section 4).
+///
+/// The stream comes in pieces, cut anywhere. A contract sees the messages that are whole and wait, and then the
+/// rest, of which more bytes may make a message, or the stream's first fault.
+///
+/// Each byte is looked at once, and the memory that is held is at most in proportion to the bytes that wait.
+#[derive(Drop)]
+pub struct Framer {
+    waiting: VecDeque<Frame>,
+    rest: Vec<u8>,
+    // the place after `rest`
+    place: Place,
+    fault: Option<FrameError>,
+}
+
+impl Model for Framer {
+    ghost use Rattle.std.specs.Prelude.{◌≡◌};
+    ghost use Rattle.ovs_wire.specs.Place.{place_after};
+    ghost use Rattle.ovs_wire.specs.Frames.{IsUnfinished};
+    ghost use Rattle.ovs_wire.specs.Framing.{Framing, framing, ending_of};
+
+    ghost Value = { Framing };
+
+    ghost view = { λ f. framing f.waiting.items (ending_of f.fault f.rest.items) };
+
+    ghost invariant = { λ f. IsUnfinished f.rest.items × (f.place ≡ place_after f.rest.items) };
+}
+
+impl Framer {
+    /// The framer of a stream of which nothing has come yet.
+    pub fn new(alloc: Global) -> Framer
+        ensures waiting { result.waiting ≡ [] }
+        ensures ending { result.ending ≡ Rest [] }
+    {
+        Framer {
+            waiting: VecDeque::new(alloc),
+            rest: Vec::new(alloc),
+            place: Place::start(),
+            fault: None,
+        }
+    }
+
+    /// Takes the next piece of the stream. The messages that are whole now wait, also those before a fault.
+    ///
+    /// - `NotObject`, `TooDeep`, `TooLong`: the stream has this fault, which ends it: every later feed answers it again.
+    /// - `NoMemory`: nothing of the piece was taken.
+    pub fn feed(&mut self, piece: &[u8]) -> Result<(), FrameError>
+        ensures fed { (result ≡ Err FrameError.NoMemory → ⊥) → Feeds self.old piece.now self.new }
+        ensures answer { (result ≡ Err FrameError.NoMemory → ⊥) → Answers self.new.ending result }
+        ensures ended { (f : _) → self.old.ending ≡ Fault f → result ≡ Err f }
+        ensures memory { result ≡ Err FrameError.NoMemory → self.new ≡ self.old }
+    {
+        if let Some(fault) = self.fault {
+            return Err(fault);
+        }
+        let alloc = *self.rest.allocator();
+        let held = self.rest.len();
+        if self.rest.extend_from_slice(piece).is_err() {
+            return Err(FrameError::NoMemory);
+        }
+        match scan(alloc, &self.rest, held, self.place) {
+            Ok(
+                Scanned {
+                    found,
+                    start,
+                    place,
+                    fault,
+                },
+            ) => {
+                if queue(&mut self.waiting, found).is_err() {
+                    self.rest.truncate(held);
+                    return Err(FrameError::NoMemory);
+                }
+                match fault {
+                    Some(fault) => {
+                        self.rest.clear();
+                        self.rest.shrink_to_fit();
+                        self.place = Place::start();
+                        self.fault = Some(fault);
+                        Err(fault)
+                    }
+                    None => {
+                        self.rest.drain(..start);
+                        if start > 0 {
+                            self.rest.shrink_to(SPARE_ROOM);
+                        }
+                        self.place = place;
+                        Ok(())
+                    }
+                }
+            }
+            Err(_) => {
+                self.rest.truncate(held);
+                Err(FrameError::NoMemory)
+            }
+        }
+    }
+
+    /// Takes out the first message that waits, if one does. It takes no memory.
+    pub fn next(&mut self) -> Option<Frame>
+        ensures waiting { self.old.waiting ≡ option_to_list result ++ self.new.waiting }
+        ensures none { result ≡ None → self.old.waiting ≡ [] }
+        ensures ending { self.new.ending ≡ self.old.ending }
+    {
+        self.waiting.pop_front()
+    }
+}

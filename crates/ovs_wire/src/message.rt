@@ -1,0 +1,126 @@
+ghost use Rattle.std.specs.Prelude.{◌≡◌, ◌≤◌, IfOk, IfErr, IsUtf8, false, length};
+ghost use Rattle.serde_json.specs.Data.{Data, depth};
+ghost use Rattle.serde_json.specs.Read.{max_depth};
+ghost use Rattle.serde_json.specs.View.{view};
+ghost use Rattle.serde_json.specs.Written.{has_float, compact_text};
+
+use crate::error::{MessageError, NoMemory};
+use crate::id::Id;
+use crate::json::Json;
+use crate::limits::{MAX_MESSAGE_BYTES, MAX_NESTING};
+use crate::method::Method;
+use crate::params::Params;
+use crate::reading::message_of;
+use serde_json::{Value, json};
+use std::alloc::{AllocError, Global};
+
+/// A message of JSON-RPC 1.0 (RFC 7047 section 4).
+#[derive(Drop)]
+pub enum Message {
+    /// It asks for a reply, which bears its id.
+    Request {
+        method: Method,
+        params: Params,
+        id: Id,
+    },
+    /// It answers the request of this id. A member that was absent is null.
+    Reply {
+        result: Json,
+        error: Json,
+        id: Id,
+    },
+    /// A notification: a request whose id is null or absent, and which has no reply.
+    Notice {
+        method: Method,
+        params: Params,
+    },
+}
+
+impl Message {
+    ghost use Rattle.ovs_wire.specs.declared.message.Message.{Message};
+    ghost use Rattle.ovs_wire.specs.Frames.{IsObject};
+    ghost use Rattle.ovs_wire.specs.Message.{IsText, Spells, Says, json};
+
+    /// The message that a text spells. Members that it doesn't know are ignored.
+    ///
+    /// - `NotJson`: the bytes are no JSON text in UTF-8, or nest deeper than 127.
+    /// - `BadShape`: the JSON is no message.
+    /// - `NoMemory`: memory ran out, perhaps before a fault was found.
+    #[tactic(auto, using(crate::proofs::Lists::items_again, crate::proofs::Lists::list_again))]
+    pub fn read(alloc: Global, bytes: &[u8]) -> Result<Message, MessageError>
+        ensures ok { IfOk result (λ m. Says bytes.now m) }
+        ensures not_json { result ≡ Err MessageError.NotJson → (d : Data) → IsText bytes.now d → ⊥ }
+        ensures bad_shape { result ≡ Err MessageError.BadShape
+            → (d : Data) × IsText bytes.now d × ((m : Message) → Spells d m → ⊥) }
+    {
+        match Value::from_slice(alloc, bytes) {
+            Ok(value) => message_of(value).ok_or(MessageError::BadShape),
+            Err(error) => Err(if error.is_memory() {
+                MessageError::NoMemory
+            } else {
+                MessageError::NotJson
+            }),
+        }
+    }
+
+    /// The message as compact JSON text, its members in ascending order of their names. It reads back as this
+    /// message, where that nests at most 127 deep. `NoMemory` is its only error.
+    #[tactic(auto, using(crate::proofs::Texts::message_is_object))]
+    pub fn write(self, alloc: Global) -> Result<Vec<u8>, NoMemory>
+        ensures utf8 { IfOk result (λ b. IsUtf8 b.items) }
+        ensures text { IfOk result (λ b. has_float (json self) ≡ false → b.items ≡ compact_text (json self)) }
+        ensures says { IfOk result (λ b. depth (json self) ≤ max_depth → Says b.items self) }
+        // It is one object of a stream.
+        ensures frame { IfOk result (λ b. has_float (json self) ≡ false → depth (json self) ≤ MAX_NESTING
+            → length b.items ≤ MAX_MESSAGE_BYTES → IsObject b.items) }
+    {
+        let value = value_of(alloc, self)?;
+        let bytes = value.to_vec(alloc)?;
+        Ok(bytes)
+    }
+
+    /// An equal message.
+    pub fn copy(&self) -> Result<Message, NoMemory>
+        ensures value { IfOk result (λ m. m ≡ self.now) }
+    {
+        match self {
+            Message::Request { method, params, id } => Ok(Message::Request {
+                method: method.copy()?,
+                params: params.copy()?,
+                id: id.copy()?,
+            }),
+            Message::Reply { result, error, id } => Ok(Message::Reply {
+                result: result.copy()?,
+                error: error.copy()?,
+                id: id.copy()?,
+            }),
+            Message::Notice { method, params } => Ok(Message::Notice {
+                method: method.copy()?,
+                params: params.copy()?,
+            }),
+        }
+    }
+}
+
+ghost use Rattle.ovs_wire.specs.Message.{Spells, json};
+
+// The JSON that spells the message.
+fn value_of(alloc: Global, message: Message) -> Result<Value, AllocError>
+    ensures value { IfOk result (λ v. view v ≡ json message) }
+    ensures spelled { IfOk result (λ v. Spells (json message) message) }
+{
+    match message {
+        Message::Request { method, params, id } => {
+            let (method, params) = (method.into_string(), params.into_values());
+            json!(in alloc; {"id": id.into_value(), "method": method, "params": params})
+        }
+        Message::Reply { result, error, id } => {
+            let (result, error) = (result.into_value(), error.into_value());
+            json!(in alloc; {"error": error, "id": id.into_value(), "result": result})
+        }
+        Message::Notice { method, params } => {
+            let (method, params) = (method.into_string(), params.into_values());
+            json!(in alloc; {"id": null, "method": method, "params": params})
+        }
+    }
+}

@@ -1,0 +1,55 @@
+ghost use Rattle.std.specs.Prelude.{◌≡◌, ◌≤◌};
+ghost use Rattle.ovs_wire.specs.Place.{start, past};
+
+use crate::limits::MAX_NESTING;
+
+/// What the bytes of a message before a place say about it: whether it lies in a string, there right after a
+/// backslash that escapes, and how many objects and arrays are open.
+#[derive(Clone, Copy)]
+pub(crate) struct Place {
+    pub quoted: bool,
+    pub escaped: bool,
+    pub depth: u32,
+}
+
+impl Place {
+    /// The place before the first byte of a message.
+    pub fn start() -> Place
+        ensures value { result ≡ start }
+    {
+        Place {
+            quoted: false,
+            escaped: false,
+            depth: 0,
+        }
+    }
+
+    /// The place after one more byte.
+    pub fn past(self, byte: u8) -> Place
+        requires { self.depth ≤ MAX_NESTING }
+        ensures value { result ≡ past self byte }
+    {
+        let Place {
+            quoted,
+            escaped,
+            depth,
+        } = self;
+        if quoted {
+            return Place {
+                quoted: escaped || byte != b'"',
+                escaped: !escaped && byte == b'\\',
+                depth,
+            };
+        }
+        let depth = match byte {
+            b'{' | b'[' => depth + 1,
+            b'}' | b']' => depth.saturating_sub(1),
+            _ => depth,
+        };
+        Place {
+            quoted: byte == b'"',
+            escaped: false,
+            depth,
+        }
+    }
+}
