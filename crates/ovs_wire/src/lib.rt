@@ -11,7 +11,7 @@ mod framer;
 #[cfg(test)]
 mod framing_tests;
 mod id;
-mod json;
+mod json_value;
 mod laws;
 mod limits;
 mod message;
@@ -28,7 +28,7 @@ pub use error::{FrameError, MessageError, NoMemory};
 pub use frame::Frame;
 pub use framer::Framer;
 pub use id::Id;
-pub use json::Json;
+pub use json_value::Json;
 pub use laws::{
     a_fault_ends_the_stream, a_text_says_one_message, feeds_follow_the_stream, frames_are_unique,
     frames_exist, frames_of_a_cut_stream, read_back,

@@ -6,7 +6,7 @@ ghost use Rattle.serde_json.specs.Written.{has_float, compact_text};
 
 use crate::error::{MessageError, NoMemory};
 use crate::id::Id;
-use crate::json::Json;
+use crate::json_value::Json;
 use crate::limits::{MAX_MESSAGE_BYTES, MAX_NESTING};
 use crate::method::Method;
 use crate::params::Params;

@@ -5,7 +5,7 @@ ghost use Rattle.ovs_wire.specs.Message.{or_null};
 ghost use Rattle.ovs_wire.specs.Reading.{list_of, message_of, called, replied};
 
 use crate::id::Id;
-use crate::json::Json;
+use crate::json_value::Json;
 use crate::message::Message;
 use crate::method::Method;
 use crate::params::Params;
