@@ -13,7 +13,9 @@ use Rattle.ovs_links.specs.Kept.{IsSound}
 use Rattle.ovs_links.specs.declared.link.Link.{Link}
 
 -- of two chains from one place, the shorter is a prefix of the longer
-pub chain_prefix : (S : Link → Type 0) → IsConsistent S → (ts : List Table) (from : ℕ) (rows : Rows) (ms ls : List Link) → AllOf S ms → AllOf S ls → JoinUp ts from rows ms → JoinUp ts from rows ls → length ms ≤ length ls → IsPrefixOf ms ls
+pub chain_prefix : (S : Link → Type 0) → IsConsistent S
+    → (ts : List Table) (from : ℕ) (rows : Rows) (ms ls : List Link) → AllOf S ms → AllOf S ls
+    → JoinUp ts from rows ms → JoinUp ts from rows ls → length ms ≤ length ls → IsPrefixOf ms ls
 chain_prefix S k ts from rows [] ls a b j h n = (ls, refl)
 chain_prefix S k ts from rows (m ∷ ms) [] a b j h n = absurd (omega arith)
 chain_prefix S k ts from rows (m ∷ ms) (l ∷ ls) a b j h n =
@@ -44,23 +46,28 @@ AllOf-at S (l ∷ ls) d zero n a = a.0
 AllOf-at S (l ∷ ls) d (suc k) n a = AllOf-at S ls d k (omega arith) a.1
 
 -- what joins up after a chain
-pub JoinUp-right : (ts : List Table) (from : ℕ) (rows : Rows) (xs ys : List Link) → JoinUp ts from rows (xs ++ ys) → JoinUp ts (head_after from xs) (rows_after ts rows xs) ys
+pub JoinUp-right : (ts : List Table) (from : ℕ) (rows : Rows) (xs ys : List Link) → JoinUp ts from rows (xs ++ ys)
+    → JoinUp ts (head_after from xs) (rows_after ts rows xs) ys
 JoinUp-right ts from rows [] ys j = j
 JoinUp-right ts from rows (x ∷ xs) ys j = JoinUp-right ts x.id (after ts rows x.change x.id) xs ys j.2
 
-pub JoinUp-append : (ts : List Table) (from : ℕ) (rows : Rows) (xs ys : List Link) → JoinUp ts from rows xs → JoinUp ts (head_after from xs) (rows_after ts rows xs) ys → JoinUp ts from rows (xs ++ ys)
+pub JoinUp-append : (ts : List Table) (from : ℕ) (rows : Rows) (xs ys : List Link) → JoinUp ts from rows xs
+    → JoinUp ts (head_after from xs) (rows_after ts rows xs) ys → JoinUp ts from rows (xs ++ ys)
 JoinUp-append ts from rows [] ys j h = h
 JoinUp-append ts from rows (x ∷ xs) ys j h = (j.0, j.1, JoinUp-append ts x.id (after ts rows x.change x.id) xs ys j.2 h)
 
-pub JoinUp-left : (ts : List Table) (from : ℕ) (rows : Rows) (xs ys : List Link) → JoinUp ts from rows (xs ++ ys) → JoinUp ts from rows xs
+pub JoinUp-left : (ts : List Table) (from : ℕ) (rows : Rows) (xs ys : List Link) → JoinUp ts from rows (xs ++ ys)
+    → JoinUp ts from rows xs
 JoinUp-left ts from rows [] ys j = tt
 JoinUp-left ts from rows (x ∷ xs) ys j = (j.0, j.1, JoinUp-left ts x.id (after ts rows x.change x.id) xs ys j.2)
 
-pub rows_after-append : (ts : List Table) (rows : Rows) (xs ys : List Link) → rows_after ts rows (xs ++ ys) ≡ rows_after ts (rows_after ts rows xs) ys
+pub rows_after-append : (ts : List Table) (rows : Rows) (xs ys : List Link)
+    → rows_after ts rows (xs ++ ys) ≡ rows_after ts (rows_after ts rows xs) ys
 rows_after-append ts rows [] ys = refl
 rows_after-append ts rows (x ∷ xs) ys = rows_after-append ts (after ts rows x.change x.id) xs ys
 
-pub steps_of-push : (ts : List Table) (rows : Rows) (xs : List Link) (l : Link) → steps_of ts rows (xs ++ l ∷ []) ≡ steps_of ts rows xs ++ step_of ts (rows_after ts rows xs) l ∷ []
+pub steps_of-push : (ts : List Table) (rows : Rows) (xs : List Link) (l : Link)
+    → steps_of ts rows (xs ++ l ∷ []) ≡ steps_of ts rows xs ++ step_of ts (rows_after ts rows xs) l ∷ []
 steps_of-push ts rows [] l = refl
 steps_of-push ts rows (x ∷ xs) l = ap (λ ss. step_of ts rows x ∷ ss) (steps_of-push ts (after ts rows x.change x.id) xs l)
 
@@ -68,7 +75,8 @@ pub head_after-append : (from : ℕ) (xs ys : List Link) → head_after from (xs
 head_after-append from [] ys = refl
 head_after-append from (x ∷ xs) ys = head_after-append x.id xs ys
 
-pub head_after-take : (from : ℕ) (ls : List Link) (d : Link) (k : ℕ) → k < length ls → head_after from (take (suc k) ls) ≡ (get_or ls k d).id
+pub head_after-take : (from : ℕ) (ls : List Link) (d : Link) (k : ℕ) → k < length ls
+    → head_after from (take (suc k) ls) ≡ (get_or ls k d).id
 head_after-take from [] d k n = absurd (omega arith)
 head_after-take from (l ∷ ls) d zero n = refl
 head_after-take from (l ∷ ls) d (suc k) n = head_after-take l.id ls d k (omega arith)
@@ -77,8 +85,10 @@ pub prefix_push : (xs ys : List Link) (l : Link) → IsPrefixOf xs ys → IsPref
 prefix_push xs ys l p = (p.0 ++ l ∷ [], sym (append_assoc xs p.0 (l ∷ [])) ∙ ap (λ (x : List Link). x ++ l ∷ []) p.1)
 
 -- a chain is longest where no link of the set follows it and fits
-pub longest_from_no_next : (S : Link → Type 0) → IsConsistent S → (ts : List Table) (start : ℕ) (opening : Rows) (ls : List Link) → IsChain ts start opening S ls
-    → ((l : Link) → S l → l.prev ≡ head_after start ls → fits (rows_after ts opening ls) l.change ≡ true → ⊥) → IsLongestChain ts start opening S ls
+pub longest_from_no_next : (S : Link → Type 0) → IsConsistent S
+    → (ts : List Table) (start : ℕ) (opening : Rows) (ls : List Link) → IsChain ts start opening S ls
+    → ((l : Link) → S l → l.prev ≡ head_after start ls → fits (rows_after ts opening ls) l.change ≡ true → ⊥)
+    → IsLongestChain ts start opening S ls
 longest_from_no_next S k ts start opening ls c none =
     record {
       chain = c;
@@ -94,7 +104,9 @@ longest_from_no_next S k ts start opening ls c none =
         absurd (none l (AllOf-right S ls (l ∷ rest) m).0 n.0 n.1)
 
 -- there is one longest chain
-pub longest_unique : (S : Link → Type 0) → IsConsistent S → (ts : List Table) (start : ℕ) (opening : Rows) (ls ms : List Link) → IsLongestChain ts start opening S ls → IsLongestChain ts start opening S ms → ls ≡ ms
+pub longest_unique : (S : Link → Type 0) → IsConsistent S
+    → (ts : List Table) (start : ℕ) (opening : Rows) (ls ms : List Link) → IsLongestChain ts start opening S ls
+    → IsLongestChain ts start opening S ms → ls ≡ ms
 longest_unique S k ts start opening ls ms c d =
     let n = c.longest ms d.chain in
     let m = d.longest ls c.chain in
@@ -106,7 +118,9 @@ longest_unique S k ts start opening ls ms c d =
     by_rest (l ∷ rest) e n = absurd (let f = simp length-append at (ap (λ (x : List Link). length x) e) in omega arith)
 
 -- a chain is the same for all sets with the same links
-pub longest_same_set : (S T : Link → Type 0) (ts : List Table) (start : ℕ) (opening : Rows) (ls : List Link) → ((l : Link) → S l → T l) → ((l : Link) → T l → S l) → IsLongestChain ts start opening S ls → IsLongestChain ts start opening T ls
+pub longest_same_set : (S T : Link → Type 0) (ts : List Table) (start : ℕ) (opening : Rows) (ls : List Link)
+    → ((l : Link) → S l → T l) → ((l : Link) → T l → S l) → IsLongestChain ts start opening S ls
+    → IsLongestChain ts start opening T ls
 longest_same_set S T ts start opening ls there back a =
     record {
       chain = record { members = AllOf-weaker S T there ls a.chain.members; joined = a.chain.joined };
@@ -115,18 +129,21 @@ longest_same_set S T ts start opening ls there back a =
 
 -- ---- no chain comes back to where it was
 
-JoinUp-first : (ts : List Table) (from : ℕ) (rows : Rows) (ls : List Link) (d : Link) → 0 < length ls → JoinUp ts from rows ls → (get_or ls 0 d).prev ≡ from
+JoinUp-first : (ts : List Table) (from : ℕ) (rows : Rows) (ls : List Link) (d : Link) → 0 < length ls
+    → JoinUp ts from rows ls → (get_or ls 0 d).prev ≡ from
 JoinUp-first ts from rows [] d n j = absurd (omega arith)
 JoinUp-first ts from rows (l ∷ ls) d n j = j.0
 
-JoinUp-at : (ts : List Table) (from : ℕ) (rows : Rows) (ls : List Link) (d : Link) (k : ℕ) → suc k < length ls → JoinUp ts from rows ls → (get_or ls (suc k) d).prev ≡ (get_or ls k d).id
+JoinUp-at : (ts : List Table) (from : ℕ) (rows : Rows) (ls : List Link) (d : Link) (k : ℕ) → suc k < length ls
+    → JoinUp ts from rows ls → (get_or ls (suc k) d).prev ≡ (get_or ls k d).id
 JoinUp-at ts from rows [] d k n j = absurd (omega arith)
 JoinUp-at ts from rows (l ∷ ls) d zero n j = JoinUp-first ts l.id (after ts rows l.change l.id) ls d (omega arith) j.2
 JoinUp-at ts from rows (l ∷ ls) d (suc k) n j = JoinUp-at ts l.id (after ts rows l.change l.id) ls d k (omega arith) j.2
 
 -- no id stands as the prev of the same link or of an earlier one
-no_way_back : (S : Link → Type 0) → IsConsistent S → (ts : List Table) (start : ℕ) (opening : Rows) → IsStart start → (ls : List Link) → AllOf S ls → AllOf IsSound ls → JoinUp ts start opening ls
-    → (d : Link) (i j : ℕ) → i ≤ j → j < length ls → (get_or ls j d).id ≡ (get_or ls i d).prev → ⊥
+no_way_back : (S : Link → Type 0) → IsConsistent S → (ts : List Table) (start : ℕ) (opening : Rows) → IsStart start
+    → (ls : List Link) → AllOf S ls → AllOf IsSound ls → JoinUp ts start opening ls → (d : Link) (i j : ℕ) → i ≤ j
+    → j < length ls → (get_or ls j d).id ≡ (get_or ls i d).prev → ⊥
 no_way_back S k ts start opening below ls a s h d zero j le lt e =
     let sound : IsSound (get_or ls j d) = AllOf-at IsSound ls d j lt s in
     let first : (get_or ls 0 d).prev ≡ start = JoinUp-first ts start opening ls d (omega arith) h in
@@ -138,7 +155,8 @@ no_way_back S k ts start opening below ls a s h d (suc i) (suc j) le lt e =
     let there : (get_or ls (suc j) d).prev ≡ (get_or ls j d).id = JoinUp-at ts start opening ls d j lt h in
     no_way_back S k ts start opening below ls a s h d i j (omega arith) (omega arith) (sym there ∙ ap (λ (x : Link). x.prev) same)
 
-head_after-at : (from : ℕ) (ls : List Link) (d : Link) (n : ℕ) → length ls ≡ suc n → head_after from ls ≡ (get_or ls n d).id
+head_after-at : (from : ℕ) (ls : List Link) (d : Link) (n : ℕ) → length ls ≡ suc n
+    → head_after from ls ≡ (get_or ls n d).id
 head_after-at from [] d n e = absurd (omega arith)
 head_after-at from (l ∷ []) d zero e = refl
 head_after-at from (l ∷ []) d (suc n) e = absurd (omega arith)
@@ -146,7 +164,8 @@ head_after-at from (l ∷ m ∷ ls) d zero e = absurd (omega arith)
 head_after-at from (l ∷ m ∷ ls) d (suc n) e = head_after-at l.id (m ∷ ls) d n (omega arith)
 
 -- no link of a chain follows its head
-pub none_follows : (S : Link → Type 0) → IsConsistent S → (ts : List Table) (start : ℕ) (opening : Rows) → IsStart start → (ls : List Link) → AllOf S ls → AllOf IsSound ls → JoinUp ts start opening ls
+pub none_follows : (S : Link → Type 0) → IsConsistent S → (ts : List Table) (start : ℕ) (opening : Rows)
+    → IsStart start → (ls : List Link) → AllOf S ls → AllOf IsSound ls → JoinUp ts start opening ls
     → (d : Link) (i : ℕ) → i < length ls → (get_or ls i d).prev ≡ head_after start ls → ⊥
 none_follows S k ts start opening below ls a s h d i lt e =
     let last : length ls ≡ suc (length ls - 1) = omega arith in

@@ -12,15 +12,17 @@ use Rattle.ovs_links.specs.History.{Commit, IsNoId, AreDistinct, NoneIsStart, Co
 use Rattle.ovs_links.specs.Kept.{IsSound}
 use Rattle.ovs_links.specs.Answers.{IsSourceChain, IsOfSource}
 use Rattle.ovs_links.specs.declared.link.Link.{Link}
-use Rattle.ovs_links.proofs.ChainLemmas.{AllOf-weaker, AllOf-right, JoinUp-left, JoinUp-right, chain_prefix, none_follows, longest_unique}
+use Rattle.ovs_links.proofs.ChainLemmas.{AllOf-weaker, AllOf-right, JoinUp-left, JoinUp-right, chain_prefix, none_follows}
 
-pub history_joins : (ts : List Table) (start : ℕ) (rows : Rows) (ks : List Commit) → CommitsFrom ts rows ks → JoinUp ts start rows (links_of ts start rows ks)
+pub history_joins : (ts : List Table) (start : ℕ) (rows : Rows) (ks : List Commit) → CommitsFrom ts rows ks
+    → JoinUp ts start rows (links_of ts start rows ks)
 history_joins ts start rows [] v = tt
 history_joins ts start rows (k ∷ ks) v =
     let commit = v.0 in
     (refl, difference_fits ts rows k.rows commit.before commit.after, subst (λ (x : Rows). JoinUp ts k.id x (links_of ts k.id k.rows ks)) (sym (difference_after ts rows k.rows k.id commit.before commit.after commit)) (history_joins ts k.id k.rows ks v.1))
 
-pub history_rows : (ts : List Table) (start : ℕ) (rows : Rows) (ks : List Commit) (n : ℕ) → CommitsFrom ts rows ks → rows_after ts rows (take n (links_of ts start rows ks)) ≡ rows_at rows ks n
+pub history_rows : (ts : List Table) (start : ℕ) (rows : Rows) (ks : List Commit) (n : ℕ) → CommitsFrom ts rows ks
+    → rows_after ts rows (take n (links_of ts start rows ks)) ≡ rows_at rows ks n
 history_rows ts start rows [] zero v = refl
 history_rows ts start rows [] (suc n) v = refl
 history_rows ts start rows (k ∷ ks) zero v = refl
@@ -28,31 +30,37 @@ history_rows ts start rows (k ∷ ks) (suc n) v =
     let commit = v.0 in
     ap (λ (x : Rows). rows_after ts x (take n (links_of ts k.id k.rows ks))) (difference_after ts rows k.rows k.id commit.before commit.after commit) ∙ history_rows ts k.id k.rows ks n v.1
 
-pub history_changes : (ts : List Table) (start : ℕ) (rows : Rows) (ks : List Commit) → CommitsFrom ts rows ks → AllOf (IsOfTables ts) (links_of ts start rows ks)
+pub history_changes : (ts : List Table) (start : ℕ) (rows : Rows) (ks : List Commit) → CommitsFrom ts rows ks
+    → AllOf (IsOfTables ts) (links_of ts start rows ks)
 history_changes ts start rows [] v = tt
 history_changes ts start rows (k ∷ ks) v =
     let commit = v.0 in
     (difference_of_tables ts rows k.rows commit.before commit.after, history_changes ts k.id k.rows ks v.1)
 
 -- ids and prevs of a history's links
-id_among : (ts : List Table) (start : ℕ) (rows : Rows) (ks : List Commit) (i : ℕ) (l : Link) → IsNoId i ks → Among (links_of ts start rows ks) l → l.id ≡ i → ⊥
+id_among : (ts : List Table) (start : ℕ) (rows : Rows) (ks : List Commit) (i : ℕ) (l : Link) → IsNoId i ks
+    → Among (links_of ts start rows ks) l → l.id ≡ i → ⊥
 id_among ts start rows [] i l n a e = a
 id_among ts start rows (k ∷ ks) i l n (inl s) e = n.0 (sym (ap (λ (x : Link). x.id) s) ∙ e)
 id_among ts start rows (k ∷ ks) i l n (inr a) e = id_among ts k.id k.rows ks i l n.1 a e
 
-prev_among : (ts : List Table) (start : ℕ) (rows : Rows) (ks : List Commit) (i : ℕ) (l : Link) → (start ≡ i → ⊥) → IsNoId i ks → Among (links_of ts start rows ks) l → l.prev ≡ i → ⊥
+prev_among : (ts : List Table) (start : ℕ) (rows : Rows) (ks : List Commit) (i : ℕ) (l : Link) → (start ≡ i → ⊥)
+    → IsNoId i ks → Among (links_of ts start rows ks) l → l.prev ≡ i → ⊥
 prev_among ts start rows [] i l d n a e = a
 prev_among ts start rows (k ∷ ks) i l d n (inl s) e = d (sym (ap (λ (x : Link). x.prev) s) ∙ e)
 prev_among ts start rows (k ∷ ks) i l d n (inr a) e = prev_among ts k.id k.rows ks i l n.0 n.1 a e
 
-by_prev_from : (ts : List Table) (start : ℕ) (rows : Rows) (ks : List Commit) → IsNoId start ks → AreDistinct ks → (l m : Link) → Among (links_of ts start rows ks) l → Among (links_of ts start rows ks) m → l.prev ≡ m.prev → l ≡ m
+by_prev_from : (ts : List Table) (start : ℕ) (rows : Rows) (ks : List Commit) → IsNoId start ks → AreDistinct ks
+    → (l m : Link) → Among (links_of ts start rows ks) l → Among (links_of ts start rows ks) m → l.prev ≡ m.prev
+    → l ≡ m
 by_prev_from ts start rows [] f d l m a b e = absurd a
 by_prev_from ts start rows (k ∷ ks) f d l m (inl s) (inl t) e = s ∙ sym t
 by_prev_from ts start rows (k ∷ ks) f d l m (inl s) (inr b) e = absurd (prev_among ts k.id k.rows ks start m f.0 f.1 b (sym e ∙ ap (λ (x : Link). x.prev) s))
 by_prev_from ts start rows (k ∷ ks) f d l m (inr a) (inl t) e = absurd (prev_among ts k.id k.rows ks start l f.0 f.1 a (e ∙ ap (λ (x : Link). x.prev) t))
 by_prev_from ts start rows (k ∷ ks) f d l m (inr a) (inr b) e = by_prev_from ts k.id k.rows ks d.0 d.1 l m a b e
 
-by_id_from : (ts : List Table) (start : ℕ) (rows : Rows) (ks : List Commit) → AreDistinct ks → (l m : Link) → Among (links_of ts start rows ks) l → Among (links_of ts start rows ks) m → l.id ≡ m.id → l ≡ m
+by_id_from : (ts : List Table) (start : ℕ) (rows : Rows) (ks : List Commit) → AreDistinct ks → (l m : Link)
+    → Among (links_of ts start rows ks) l → Among (links_of ts start rows ks) m → l.id ≡ m.id → l ≡ m
 by_id_from ts start rows [] d l m a b e = absurd a
 by_id_from ts start rows (k ∷ ks) d l m (inl s) (inl t) e = s ∙ sym t
 by_id_from ts start rows (k ∷ ks) d l m (inl s) (inr b) e = absurd (id_among ts k.id k.rows ks k.id m d.0 b (sym e ∙ ap (λ (x : Link). x.id) s))
@@ -63,7 +71,8 @@ start_is_no_id : (start : ℕ) → IsStart start → (ks : List Commit) → None
 start_is_no_id start below [] n = tt
 start_is_no_id start below (k ∷ ks) n = (λ e. omega (arith, n.0, e), start_is_no_id start below ks n.1)
 
-pub history_consistent : (ts : List Table) (start : ℕ) (opening : Rows) (h : List Commit) → IsStart start → IsHistory ts opening h → IsConsistent (Among (links_of ts start opening h))
+pub history_consistent : (ts : List Table) (start : ℕ) (opening : Rows) (h : List Commit) → IsStart start
+    → IsHistory ts opening h → IsConsistent (Among (links_of ts start opening h))
 history_consistent ts start opening h below k =
     record {
       by_prev = λ l m a b e. by_prev_from ts start opening h (start_is_no_id start below h k.no_start) k.distinct l m a b e;
@@ -74,7 +83,8 @@ all_among : (ls : List Link) → AllOf (Among ls) ls
 all_among [] = tt
 all_among (l ∷ ls) = (inl refl, AllOf-weaker (Among ls) (Among (l ∷ ls)) (λ m a. inr a) ls (all_among ls))
 
-history_sound : (ts : List Table) (start : ℕ) (rows : Rows) (ks : List Commit) → IsNoId start ks → AreDistinct ks → NoneIsStart ks → AllOf IsSound (links_of ts start rows ks)
+history_sound : (ts : List Table) (start : ℕ) (rows : Rows) (ks : List Commit) → IsNoId start ks → AreDistinct ks
+    → NoneIsStart ks → AllOf IsSound (links_of ts start rows ks)
 history_sound ts start rows [] f d n = tt
 history_sound ts start rows (k ∷ ks) f d n = ((n.0, f.0), history_sound ts k.id k.rows ks d.0 d.1 n.1)
 
@@ -89,10 +99,13 @@ record IsSource (ts : List Table) (start : ℕ) (opening : Rows) (h : List Commi
   pub history : IsHistory ts opening h
 
 -- no chain of a history's links is longer than the history
-no_longer : (ts : List Table) (start : ℕ) (opening : Rows) (h : List Commit) → IsSource ts start opening h → (ms : List Link) → AllOf (Among (links_of ts start opening h)) ms → JoinUp ts start opening ms → length ms ≤ length (links_of ts start opening h)
+no_longer : (ts : List Table) (start : ℕ) (opening : Rows) (h : List Commit) → IsSource ts start opening h
+    → (ms : List Link) → AllOf (Among (links_of ts start opening h)) ms → JoinUp ts start opening ms
+    → length ms ≤ length (links_of ts start opening h)
 no_longer ts start opening h k ms a j = ⊎_elim (λ (n : length (links_of ts start opening h) < length ms). longer n) (λ (n : length ms ≤ length (links_of ts start opening h)). n) (cases_lt (length (links_of ts start opening h)) (length ms))
   where
-    by_rest : (rest : List Link) → links_of ts start opening h ++ rest ≡ ms → length (links_of ts start opening h) < length ms → length ms ≤ length (links_of ts start opening h)
+    by_rest : (rest : List Link) → links_of ts start opening h ++ rest ≡ ms
+        → length (links_of ts start opening h) < length ms → length ms ≤ length (links_of ts start opening h)
     by_rest [] e n = let f = ap (λ (x : List Link). length x) (sym e ∙ append-nil (links_of ts start opening h)) in omega (arith, f)
     by_rest (l ∷ rest) e n =
         let all = links_of ts start opening h in
@@ -113,7 +126,9 @@ length-take (suc n) [] a = absurd (omega arith)
 length-take (suc n) (l ∷ ls) a = let t = length-take n ls (omega arith) in omega arith
 
 -- the first links of a history are a chain
-history_chain : (ts : List Table) (start : ℕ) (opening : Rows) (h : List Commit) (S : Link → Type 0) (n : ℕ) → IsSource ts start opening h → AllOf S (take n (links_of ts start opening h)) → IsChain ts start opening S (take n (links_of ts start opening h))
+history_chain : (ts : List Table) (start : ℕ) (opening : Rows) (h : List Commit) (S : Link → Type 0) (n : ℕ)
+    → IsSource ts start opening h → AllOf S (take n (links_of ts start opening h))
+    → IsChain ts start opening S (take n (links_of ts start opening h))
 history_chain ts start opening h S n k a =
     let all = links_of ts start opening h in
     record {
@@ -122,15 +137,19 @@ history_chain ts start opening h S n k a =
     }
 
 -- a chain of a history's links is the beginning of the history
-history_prefix : (ts : List Table) (start : ℕ) (opening : Rows) (h : List Commit) (ms : List Link) → IsSource ts start opening h → AllOf (Among (links_of ts start opening h)) ms → JoinUp ts start opening ms → take (length ms) (links_of ts start opening h) ≡ ms
+history_prefix : (ts : List Table) (start : ℕ) (opening : Rows) (h : List Commit) (ms : List Link)
+    → IsSource ts start opening h → AllOf (Among (links_of ts start opening h)) ms → JoinUp ts start opening ms
+    → take (length ms) (links_of ts start opening h) ≡ ms
 history_prefix ts start opening h ms k a j =
     let all = links_of ts start opening h in
     let t = chain_prefix (Among all) (history_consistent ts start opening h k.below k.history) ts start opening ms all a (all_among all) j (history_joins ts start opening h k.history.commits) (no_longer ts start opening h k ms a j) in
     ap (λ (x : List Link). take (length ms) x) (sym t.1) ∙ take_at ms t.0 (length ms) refl
 
 -- a longest chain of a history's links is as long as the set has all of the history
-source_count : (S : Link → Type 0) (ts : List Table) (start : ℕ) (opening : Rows) (ls : List Link) (h : List Commit) → IsLongestChain ts start opening S ls → IsSource ts start opening h
-    → ((l : Link) → S l → Among (links_of ts start opening h) l) → IsHeldCount S (links_of ts start opening h) (length ls)
+source_count : (S : Link → Type 0) (ts : List Table) (start : ℕ) (opening : Rows) (ls : List Link) (h : List Commit)
+    → IsLongestChain ts start opening S ls → IsSource ts start opening h
+    → ((l : Link) → S l → Among (links_of ts start opening h) l)
+    → IsHeldCount S (links_of ts start opening h) (length ls)
 source_count S ts start opening ls h long k w =
     let all = links_of ts start opening h in
     let a = AllOf-weaker S (Among all) w ls long.chain.members in
@@ -143,7 +162,8 @@ source_count S ts start opening ls h long k w =
     }
 
 -- a longest chain is that of the source
-pub source_chain : (S : Link → Type 0) (ts : List Table) (ls : List Link) → IsLongestChain ts 0 no_rows S ls → IsSourceChain ts S ls
+pub source_chain : (S : Link → Type 0) (ts : List Table) (ls : List Link) → IsLongestChain ts 0 no_rows S ls
+    → IsSourceChain ts S ls
 source_chain S ts ls long h history w =
     let k : IsSource ts 0 no_rows h = record { below = omega arith; history = history } in
     let all = links_of ts 0 no_rows h in

@@ -23,7 +23,8 @@ apart : (a q : ℕ) → q ≢ a → eq_by_cmp nat_cmp q a ≡ false
 apart a q e = grind (arith, nat_tests)
 
 -- a link that was taken is held, and nothing else comes or goes
-taken_members : (s : Stored) (l : Link) (t : Stored) (r : Took) → TakesAs s.links l (Ok r) → TakesTo s l (Ok r) t → (x : Link) → Holds t.links x ↔ (Holds s.links x ⊎ (x ≡ l))
+taken_members : (s : Stored) (l : Link) (t : Stored) (r : Took) → TakesAs s.links l (Ok r) → TakesTo s l (Ok r) t
+    → (x : Link) → Holds t.links x ↔ (Holds s.links x ⊎ (x ≡ l))
 taken_members s l t Held a e x = (
   λ h. inl (subst (λ (v : Stored). Holds v.links x) e h),
   λ h. subst (λ (v : Stored). Holds v.links x) (sym e) (⊎_elim (λ (k : Holds s.links x). k) (λ (k : x ≡ l). subst (λ (y : Link). Holds s.links y) (sym k) a) h),
@@ -64,7 +65,8 @@ among_last [] l x e = inl e
 among_last (m ∷ ms) l x e = inr (among_last ms l x e)
 
 -- one more link of the list is taken
-pub holds_taken : (s t : Stored) (S : Link → Type 0) (ls : List Link) (l : Link) (r : Took) → HoldsBoth s.links S ls → TakesAs s.links l (Ok r) → TakesTo s l (Ok r) t → HoldsBoth t.links S (ls ++ l ∷ [])
+pub holds_taken : (s t : Stored) (S : Link → Type 0) (ls : List Link) (l : Link) (r : Took) → HoldsBoth s.links S ls
+    → TakesAs s.links l (Ok r) → TakesTo s l (Ok r) t → HoldsBoth t.links S (ls ++ l ∷ [])
 holds_taken s t S ls l r h a e x =
     let taken = taken_members s l t r a e x in (
       λ k. ⊎_elim (λ (old : Holds s.links x). ⊎_elim (λ (m : S x). inl m) (λ (m : Among ls x). inr (among_before ls l x m)) ((h x).0 old)) (λ (new : x ≡ l). inr (among_last ls l x new)) (taken.0 k),
@@ -82,7 +84,8 @@ empty_holds m l e h = none (sym (ap (λ (x : FinMap nat_cmp Link). get x l.prev)
     none e = cc
 
 -- what was added to a map that held nothing
-pub holds_from_nothing : (m n : FinMap nat_cmp Link) (ls : List Link) → m ≡ empty → HoldsBoth n (Holds m) ls → HoldsBoth n (λ l. ⊥) ls
+pub holds_from_nothing : (m n : FinMap nat_cmp Link) (ls : List Link) → m ≡ empty → HoldsBoth n (Holds m) ls
+    → HoldsBoth n (λ l. ⊥) ls
 holds_from_nothing m n ls e h x = (
   λ k. ⊎_elim (λ (old : Holds m x). absurd (empty_holds m x e old)) (λ (a : Among ls x). inr a) ((h x).0 k),
   λ k. ⊎_elim (λ (a : ⊥). absurd a) (λ (a : Among ls x). (h x).1 (inr a)) k,

@@ -30,10 +30,12 @@ find_head f x xs p e = ap (λ b. cond b (Some x) (find_key f p xs)) (eq-eqb (f x
 pub find_past : (f : Link → ℕ) (x : Link) (xs : List Link) (p : ℕ) → f x ≢ p → find_key f p (x ∷ xs) ≡ find_key f p xs
 find_past f x xs p e = ap (λ b. cond b (Some x) (find_key f p xs)) (ne_eqb (f x) p e)
 
-pub count_head : (f : Link → ℕ) (x : Link) (xs : List Link) (p : ℕ) → f x ≡ p → count_key f p (x ∷ xs) ≡ 1 + count_key f p xs
+pub count_head : (f : Link → ℕ) (x : Link) (xs : List Link) (p : ℕ) → f x ≡ p
+    → count_key f p (x ∷ xs) ≡ 1 + count_key f p xs
 count_head f x xs p e = ap (λ b. cond b 1 0 + count_key f p xs) (eq-eqb (f x) p e)
 
-pub count_past : (f : Link → ℕ) (x : Link) (xs : List Link) (p : ℕ) → f x ≢ p → count_key f p (x ∷ xs) ≡ count_key f p xs
+pub count_past : (f : Link → ℕ) (x : Link) (xs : List Link) (p : ℕ) → f x ≢ p
+    → count_key f p (x ∷ xs) ≡ count_key f p xs
 count_past f x xs p e = let h = ap (λ b. cond b 1 0 + count_key f p xs) (ne_eqb (f x) p e) in omega (arith, h)
 
 pub find_none : (f : Link → ℕ) (p : ℕ) (xs : List Link) → count_key f p xs ≡ 0 → find_key f p xs ≡ None
@@ -58,7 +60,8 @@ find_key_is f p (x ∷ xs) l e =
     (λ (s : f x ≢ p). find_key_is f p xs l (sym (find_past f x xs p s) ∙ e)) (cases_eq (f x) p)
 
 -- what is found by one key counts for another
-pub count_found : (f g : Link → ℕ) (p : ℕ) (xs : List Link) (l : Link) → find_key f p xs ≡ Some l → 1 ≤ count_key g (g l) xs
+pub count_found : (f g : Link → ℕ) (p : ℕ) (xs : List Link) (l : Link) → find_key f p xs ≡ Some l
+    → 1 ≤ count_key g (g l) xs
 count_found f g p [] l e = absurd (not_Some l (sym e))
 count_found f g p (x ∷ xs) l e =
     ⊎_elim (λ (s : f x ≡ p). let same : x ≡ l = same_Some x l (sym (find_head f x xs p s) ∙ e) in omega (arith, count_head g x xs (g l) (ap g same)))
@@ -70,7 +73,8 @@ pub fewer : (g : Link → ℕ) (x : Link) (xs : List Link) (p : ℕ) → count_k
 fewer g x xs p n = ⊎_elim (λ (e : g x ≡ p). omega (arith, count_head g x xs p e)) (λ (e : g x ≢ p). omega (arith, count_past g x xs p e)) (cases_eq (g x) p)
 
 -- two that are found by one key, and share another that is there at most once, are the same
-pub found_once : (f g : Link → ℕ) (p q : ℕ) (xs : List Link) (l m : Link) → find_key f p xs ≡ Some l → find_key f q xs ≡ Some m → g l ≡ g m → count_key g (g l) xs ≤ 1 → l ≡ m
+pub found_once : (f g : Link → ℕ) (p q : ℕ) (xs : List Link) (l m : Link) → find_key f p xs ≡ Some l
+    → find_key f q xs ≡ Some m → g l ≡ g m → count_key g (g l) xs ≤ 1 → l ≡ m
 found_once f g p q [] l m e h s n = absurd (not_Some l (sym e))
 found_once f g p q (x ∷ xs) l m e h s n =
     ⊎_elim (λ (a : f x ≡ p). let xl : x ≡ l = same_Some x l (sym (find_head f x xs p a) ∙ e) in
@@ -96,7 +100,8 @@ same_find (l ∷ ls) q = ap (λ b. cond b (Some l) (entries.find nat_cmp q (map 
 pub get-from_links : (ls : List Link) (q : ℕ) → get (from_links ls) q ≡ find_prev q ls
 get-from_links ls q = get-from_entries nat_cmp_total (map (λ (l : Link). (l.prev, l)) ls) q ∙ same_find ls q
 
-pub from_links_push : (ls : List Link) (l : Link) → find_prev l.prev ls ≡ None → from_links (ls ++ l ∷ []) ≡ insert (from_links ls) l.prev l
+pub from_links_push : (ls : List Link) (l : Link) → find_prev l.prev ls ≡ None
+    → from_links (ls ++ l ∷ []) ≡ insert (from_links ls) l.prev l
 from_links_push ls l e = ap from_entries (map_push (λ (l : Link). (l.prev, l)) ls l) ∙ from_entries_push nat_cmp_total nat_cmp-IsAntisymmetric (map (λ (l : Link). (l.prev, l)) ls) l.prev l (same_find ls l.prev ∙ e)
 
 pub In_consistent : (ls : List Link) → ((i : ℕ) → count_key (λ l. l.id) i ls ≤ 1) → IsConsistent (In ls)
@@ -115,7 +120,8 @@ AllOf_In (x ∷ xs) n = (
       (AllOf_In xs (λ p. fewer (λ l. l.prev) x xs p (n p))),
 )
 
-pub count-append : (f : Link → ℕ) (p : ℕ) (xs ys : List Link) → count_key f p (xs ++ ys) ≡ count_key f p xs + count_key f p ys
+pub count-append : (f : Link → ℕ) (p : ℕ) (xs ys : List Link)
+    → count_key f p (xs ++ ys) ≡ count_key f p xs + count_key f p ys
 count-append f p [] ys = omega arith
 count-append f p (x ∷ xs) ys = omega (arith, count-append f p xs ys)
 
@@ -132,7 +138,8 @@ moved_from a b l c = a ++ (b ++ l ∷ c)
 abbrev pub moved_to : List Link → List Link → Link → List Link → List Link
 moved_to a b l c = (a ++ l ∷ []) ++ (b ++ c)
 
-pub count_moved : (f : Link → ℕ) (p : ℕ) (a b : List Link) (l : Link) (c : List Link) → count_key f p (moved_to a b l c) ≡ count_key f p (moved_from a b l c)
+pub count_moved : (f : Link → ℕ) (p : ℕ) (a b : List Link) (l : Link) (c : List Link)
+    → count_key f p (moved_to a b l c) ≡ count_key f p (moved_from a b l c)
 count_moved f p a b l c =
     omega (arith, count-append f p (a ++ l ∷ []) (b ++ c), count-append f p a (l ∷ []), count-append f p b c, count-append f p a (b ++ l ∷ c), count-append f p b (l ∷ c))
 
@@ -140,24 +147,29 @@ or_skip : (x y z : Option Link) → option_or (option_or x None) (option_or y z)
 or_skip None y z = refl
 or_skip (Some x) y z = refl
 
-find_moved_to : (q : ℕ) (a b : List Link) (l : Link) (c : List Link) → find_prev q (moved_to a b l c) ≡ option_or (option_or (find_prev q a) (find_prev q (l ∷ []))) (option_or (find_prev q b) (find_prev q c))
+find_moved_to : (q : ℕ) (a b : List Link) (l : Link) (c : List Link)
+    → find_prev q (moved_to a b l c) ≡ option_or (option_or (find_prev q a) (find_prev q (l ∷ []))) (option_or (find_prev q b) (find_prev q c))
 find_moved_to q a b l c =
     let T : Link → Bool = λ (x : Link). eqb x.prev q in
     find-append T (a ++ l ∷ []) (b ++ c) ∙ ap (λ (o : Option Link). option_or o (find T (b ++ c))) (find-append T a (l ∷ [])) ∙ ap (λ (o : Option Link). option_or (option_or (find T a) (find T (l ∷ []))) o) (find-append T b c)
 
-find_moved_from : (q : ℕ) (a b : List Link) (l : Link) (c : List Link) → find_prev q (moved_from a b l c) ≡ option_or (find_prev q a) (option_or (find_prev q b) (find_prev q (l ∷ c)))
+find_moved_from : (q : ℕ) (a b : List Link) (l : Link) (c : List Link)
+    → find_prev q (moved_from a b l c) ≡ option_or (find_prev q a) (option_or (find_prev q b) (find_prev q (l ∷ c)))
 find_moved_from q a b l c =
     let T : Link → Bool = λ (x : Link). eqb x.prev q in
     find-append T a (b ++ l ∷ c) ∙ ap (λ (o : Option Link). option_or (find T a) o) (find-append T b (l ∷ c))
 
-find_moved_past : (q : ℕ) (a b : List Link) (l : Link) (c : List Link) → l.prev ≢ q → find_prev q (moved_to a b l c) ≡ find_prev q (moved_from a b l c)
+find_moved_past : (q : ℕ) (a b : List Link) (l : Link) (c : List Link) → l.prev ≢ q
+    → find_prev q (moved_to a b l c) ≡ find_prev q (moved_from a b l c)
 find_moved_past q a b l c e =
     let p = find_past (λ l. l.prev) l [] q e in
     let r = find_past (λ l. l.prev) l c q e in
     find_moved_to q a b l c ∙ ap (λ (o : Option Link). option_or (option_or (find_prev q a) o) (option_or (find_prev q b) (find_prev q c))) p
     ∙ or_skip (find_prev q a) (find_prev q b) (find_prev q c) ∙ ap (λ (o : Option Link). option_or (find_prev q a) (option_or (find_prev q b) o)) (sym r) ∙ sym (find_moved_from q a b l c)
 
-find_moved_here : (q : ℕ) (a b : List Link) (l : Link) (c : List Link) → l.prev ≡ q → count_key (λ l. l.prev) q (moved_from a b l c) ≤ 1 → find_prev q (moved_to a b l c) ≡ find_prev q (moved_from a b l c)
+find_moved_here : (q : ℕ) (a b : List Link) (l : Link) (c : List Link) → l.prev ≡ q
+    → count_key (λ l. l.prev) q (moved_from a b l c) ≤ 1
+    → find_prev q (moved_to a b l c) ≡ find_prev q (moved_from a b l c)
 find_moved_here q a b l c e n =
     let k : count_key (λ l. l.prev) q (moved_from a b l c) ≡ count_key (λ l. l.prev) q a + (count_key (λ l. l.prev) q b + (1 + count_key (λ l. l.prev) q c)) = omega (arith, count-append (λ l. l.prev) q a (b ++ l ∷ c), count-append (λ l. l.prev) q b (l ∷ c), count_head (λ l. l.prev) l c q e) in
     let na = find_none (λ l. l.prev) q a (omega arith) in
@@ -168,7 +180,9 @@ find_moved_here q a b l c e n =
     ∙ ap (λ (o : Option Link). option_or o (option_or (find_prev q b) (find_prev q c))) p
     ∙ sym (find_moved_from q a b l c ∙ ap (λ (o : Option Link). option_or o (option_or (find_prev q b) (find_prev q (l ∷ c)))) na ∙ ap (λ (o : Option Link). option_or o (find_prev q (l ∷ c))) nb ∙ r)
 
-pub same_links_moved : (a b : List Link) (l : Link) (c : List Link) → ((p : ℕ) → count_key (λ l. l.prev) p (moved_from a b l c) ≤ 1) → from_links (moved_to a b l c) ≡ from_links (moved_from a b l c)
+pub same_links_moved : (a b : List Link) (l : Link) (c : List Link)
+    → ((p : ℕ) → count_key (λ l. l.prev) p (moved_from a b l c) ≤ 1)
+    → from_links (moved_to a b l c) ≡ from_links (moved_from a b l c)
 same_links_moved a b l c n = same_map nat_cmp_total nat_cmp-IsAntisymmetric _ _ (λ q. get-from_links (moved_to a b l c) q ∙ same q ∙ sym (get-from_links (moved_from a b l c) q))
   where
     same : (q : ℕ) → find_prev q (moved_to a b l c) ≡ find_prev q (moved_from a b l c)
@@ -183,14 +197,17 @@ len-from_links (x ∷ xs) n =
     let rest = len-from_links xs (λ p. fewer (λ l. l.prev) x xs p (n p)) in
     len-insert nat_cmp_total (from_links xs) x.prev x ∙ ap (λ b. cond b (len (from_links xs)) (len (from_links xs) + 1)) absent ∙ omega arith
 
-pub found_left : (f : Link → ℕ) (p : ℕ) (xs ys : List Link) (l : Link) → find_key f p xs ≡ Some l → find_key f p (xs ++ ys) ≡ Some l
+pub found_left : (f : Link → ℕ) (p : ℕ) (xs ys : List Link) (l : Link) → find_key f p xs ≡ Some l
+    → find_key f p (xs ++ ys) ≡ Some l
 found_left f p xs ys l e = find-append (λ (x : Link). eqb (f x) p) xs ys ∙ ap (λ (o : Option Link). option_or o (find_key f p ys)) e
 
-pub found_right : (f : Link → ℕ) (p : ℕ) (xs ys : List Link) → find_key f p xs ≡ None → find_key f p (xs ++ ys) ≡ find_key f p ys
+pub found_right : (f : Link → ℕ) (p : ℕ) (xs ys : List Link) → find_key f p xs ≡ None
+    → find_key f p (xs ++ ys) ≡ find_key f p ys
 found_right f p xs ys e = find-append (λ (x : Link). eqb (f x) p) xs ys ∙ ap (λ (o : Option Link). option_or o (find_key f p ys)) e
 
 -- what is found by any key stands in the list
-pub found_in : (f : Link → ℕ) (p : ℕ) (xs : List Link) (l : Link) → ((q : ℕ) → count_key (λ l. l.prev) q xs ≤ 1) → find_key f p xs ≡ Some l → In xs l
+pub found_in : (f : Link → ℕ) (p : ℕ) (xs : List Link) (l : Link) → ((q : ℕ) → count_key (λ l. l.prev) q xs ≤ 1)
+    → find_key f p xs ≡ Some l → In xs l
 found_in f p [] l n e = absurd (not_Some l (sym e))
 found_in f p (x ∷ xs) l n e =
     ⊎_elim (λ (s : f x ≡ p). let same : x ≡ l = same_Some x l (sym (find_head f x xs p s) ∙ e) in find_head (λ l. l.prev) x xs l.prev (ap (λ (y : Link). y.prev) same) ∙ ap Some same)

@@ -18,10 +18,11 @@ use Rattle.ovs_links.specs.declared.answer.TakeError.TheVariants.{Fork, Full, No
 use Rattle.ovs_links.specs.declared.answer.Settled.{Settled}
 use Rattle.ovs_links.specs.declared.answer.Settled.TheVariants.{Done, Stuck}
 
--- Done: no held link follows the head. Stuck: the held link with this id follows the head, and its change doesn't fit
+-- Done: no held link follows the head. Stuck: the held link with this id follows it, and its change doesn't fit
 abbrev pub SettlesAs : Stored → Settled → Type 0
 SettlesAs s Done = (l : Link) → Holds s.links l → l.prev ≢ head_of s
-SettlesAs s (Stuck id) = (l : Link) × Holds s.links l × (l.prev ≡ head_of s) × (l.id ≡ id) × (fits (rows_of s) l.change ≡ false)
+SettlesAs s (Stuck id) =
+    (l : Link) × Holds s.links l × (l.prev ≡ head_of s) × (l.id ≡ id) × (fits (rows_of s) l.change ≡ false)
 
 -- no held link has the prev of this one
 abbrev pub NonePrev : FinMap nat_cmp Link → Link → Type 0
@@ -35,8 +36,10 @@ NoneId m l = (h : Link) → Holds m h → h.id ≢ l.id
 abbrev pub TakesAs : FinMap nat_cmp Link → Link → Result Took TakeError → Type 0
 TakesAs m l (Ok Held) = Holds m l
 TakesAs m l (Ok New) = NonePrev m l × NoneId m l × (len m < max_links)
-TakesAs m l (Err (Fork link Prev p i)) = (link ≡ l) × ((h : Link) × Holds m h × Contradict h l × (h.prev ≡ l.prev) × (p ≡ h.prev) × (i ≡ h.id))
-TakesAs m l (Err (Fork link Id p i)) = (link ≡ l) × NonePrev m l × ((h : Link) × Holds m h × Contradict h l × (h.id ≡ l.id) × (p ≡ h.prev) × (i ≡ h.id))
+TakesAs m l (Err (Fork link Prev p i)) =
+    (link ≡ l) × ((h : Link) × Holds m h × Contradict h l × (h.prev ≡ l.prev) × (p ≡ h.prev) × (i ≡ h.id))
+TakesAs m l (Err (Fork link Id p i)) =
+    (link ≡ l) × NonePrev m l × ((h : Link) × Holds m h × Contradict h l × (h.id ≡ l.id) × (p ≡ h.prev) × (i ≡ h.id))
 TakesAs m l (Err (Full link)) = (link ≡ l) × NonePrev m l × NoneId m l × (len m ≡ max_links)
 TakesAs m l (Err (NoMemory link)) = (link ≡ l) × NonePrev m l × NoneId m l × (len m < max_links)
 
@@ -52,13 +55,17 @@ IsFork (Err (Fork l b p i)) = Unit {0}
 IsFork (Err (Full l)) = ⊥
 IsFork (Err (NoMemory l)) = ⊥
 
--- where all links of the set come from one history, this chain is the history's as far as the set holds all of it, and leads to the same rows
+-- where all links of the set come from one history, this chain is the history's as far as the set holds all of it,
+-- and leads to the same rows
 abbrev pub IsSourceChain : List Table → (Link → Type 0) → List Link → Type 0
 IsSourceChain tables S ls =
     (h : List Commit) → IsHistory tables no_rows h → ((l : Link) → S l → Among (links_of tables 0 no_rows h) l)
-    → IsHeldCount S (links_of tables 0 no_rows h) (length ls) × (ls ≡ take (length ls) (links_of tables 0 no_rows h)) × (rows_after tables no_rows ls ≡ rows_at no_rows h (length ls))
+    → IsHeldCount S (links_of tables 0 no_rows h) (length ls)
+    × (ls ≡ take (length ls) (links_of tables 0 no_rows h))
+    × (rows_after tables no_rows ls ≡ rows_at no_rows h (length ls))
 
 -- a link of the same history as all links of the set
 abbrev pub IsOfSource : List Table → (Link → Type 0) → Link → Type 0
 IsOfSource tables S l =
-    (h : List Commit) × IsHistory tables no_rows h × ((m : Link) → S m → Among (links_of tables 0 no_rows h) m) × Among (links_of tables 0 no_rows h) l
+    (h : List Commit) × IsHistory tables no_rows h
+    × ((m : Link) → S m → Among (links_of tables 0 no_rows h) m) × Among (links_of tables 0 no_rows h) l

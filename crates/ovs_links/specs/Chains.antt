@@ -9,7 +9,8 @@ use Rattle.ovs_links.specs.declared.link.Link.{Link}
 -- the links join up, prev to id, from this id, and their changes fit one after the other from these rows
 abbrev pub JoinUp : List Table → ℕ → Rows → List Link → Type 0
 JoinUp tables from rows [] = Unit {0}
-JoinUp tables from rows (l ∷ ls) = (l.prev ≡ from) × (fits rows l.change ≡ true) × JoinUp tables l.id (after tables rows l.change l.id) ls
+JoinUp tables from rows (l ∷ ls) =
+    (l.prev ≡ from) × (fits rows l.change ≡ true) × JoinUp tables l.id (after tables rows l.change l.id) ls
 
 -- the last id, or the one before the first link
 abbrev pub head_after : ℕ → List Link → ℕ
@@ -22,12 +23,14 @@ rows_after tables rows [] = rows
 rows_after tables rows (l ∷ ls) = rows_after tables (after tables rows l.change l.id) ls
 
 -- links of the set that join up from the start
-pub record IsChain (tables : List Table) (start : ℕ) (opening : Rows) (S : Link → Type 0) (ls : List Link) : Type 0 where
+pub record IsChain (tables : List Table) (start : ℕ) (opening : Rows) (S : Link → Type 0) (ls : List Link)
+    : Type 0 where
   pub members : AllOf S ls
   pub joined : JoinUp tables start opening ls
 
 -- a chain of the set, and no other is longer
-pub record IsLongestChain (tables : List Table) (start : ℕ) (opening : Rows) (S : Link → Type 0) (ls : List Link) : Type 0 where
+pub record IsLongestChain (tables : List Table) (start : ℕ) (opening : Rows) (S : Link → Type 0) (ls : List Link)
+    : Type 0 where
   pub chain : IsChain tables start opening S ls
   pub longest : (ms : List Link) → IsChain tables start opening S ms → length ms ≤ length ls
 

@@ -5,7 +5,7 @@ use Rattle.std.specs.FinMap.{FinMap, from_entries}
 use Rattle.ovs_rows.specs.Row.{no_rows}
 use Rattle.ovs_links.specs.Link.{AreEnds}
 use Rattle.ovs_links.specs.Sets.{AllOf, IsOfTables}
-use Rattle.ovs_links.specs.Chains.{JoinUp, head_after}
+use Rattle.ovs_links.specs.Chains.{JoinUp}
 use Rattle.ovs_links.specs.Steps.{FoldedValue, folded_of}
 use Rattle.ovs_links.specs.Store.{Stored, max_links}
 use Rattle.ovs_links.specs.declared.link.Link.{Link}

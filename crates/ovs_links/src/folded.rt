@@ -30,7 +30,9 @@ impl Model for Folded {
 
     ghost Value = { FoldedValue };
 
-    ghost coded = { code_by (DatabaseValue × List Step) (coded× database_row.the_row.coded (coded_list step_row.the_row.coded)) (λ f. (f.database, f.steps)) (λ p. record { database = p.0; steps = p.1 }) (λ _. refl) };
+    ghost coded = { code_by (DatabaseValue × List Step)
+        (coded× database_row.the_row.coded (coded_list step_row.the_row.coded))
+        (λ f. (f.database, f.steps)) (λ p. record { database = p.0; steps = p.1 }) (λ _. refl) };
 
     ghost view = { λ f. record { database = f.database; steps = f.steps.items } };
 }

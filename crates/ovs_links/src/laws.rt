@@ -13,18 +13,29 @@ ghost use Rattle.ovs_links.specs.declared.link.Link.{Link};
 
 /// Two sets with the same links have the same longest chain, and the same rows after it.
 pub fn chain_depends_on_the_set_alone()
-    ensures same { (tables : List Table) (start : ℕ) (opening : Rows) (s t : map.FinMap nat_cmp Link) (ls ms : List Link) → IsConsistent (Holds s) → ((l : Link) → Holds s l ↔ Holds t l)
-        → IsLongestChain tables start opening (Holds s) ls → IsLongestChain tables start opening (Holds t) ms → (ls ≡ ms) × (rows_after tables opening ls ≡ rows_after tables opening ms) }
+    ensures same { (tables : List Table) (start : ℕ) (opening : Rows)
+        → (s t : map.FinMap nat_cmp Link) (ls ms : List Link)
+        → IsConsistent (Holds s) → ((l : Link) → Holds s l ↔ Holds t l)
+        → IsLongestChain tables start opening (Holds s) ls
+        → IsLongestChain tables start opening (Holds t) ms
+        → (ls ≡ ms) × (rows_after tables opening ls ≡ rows_after tables opening ms) }
 {}
 
 /// The links of a history don't contradict each other, and their changes are of its tables.
 pub fn history_is_consistent()
-    ensures consistent { (tables : List Table) (start : ℕ) (opening : Rows) (h : List Commit) → IsStart start → IsHistory tables opening h → IsConsistent (Among (links_of tables start opening h)) }
-    ensures changes { (tables : List Table) (start : ℕ) (opening : Rows) (h : List Commit) → IsHistory tables opening h → AllOf (IsOfTables tables) (links_of tables start opening h) }
+    ensures consistent { (tables : List Table) (start : ℕ) (opening : Rows) (h : List Commit)
+        → IsStart start → IsHistory tables opening h
+        → IsConsistent (Among (links_of tables start opening h)) }
+    ensures changes { (tables : List Table) (start : ℕ) (opening : Rows) (h : List Commit)
+        → IsHistory tables opening h
+        → AllOf (IsOfTables tables) (links_of tables start opening h) }
 {}
 
 /// The links of a history join up, and the first of them lead to the rows after as many commits.
 pub fn history_is_a_chain()
-    ensures joined { (tables : List Table) (start : ℕ) (opening : Rows) (h : List Commit) → IsHistory tables opening h → JoinUp tables start opening (links_of tables start opening h) }
-    ensures rows { (tables : List Table) (start : ℕ) (opening : Rows) (h : List Commit) (n : ℕ) → IsHistory tables opening h → rows_after tables opening (take n (links_of tables start opening h)) ≡ rows_at opening h n }
+    ensures joined { (tables : List Table) (start : ℕ) (opening : Rows) (h : List Commit)
+        → IsHistory tables opening h → JoinUp tables start opening (links_of tables start opening h) }
+    ensures rows { (tables : List Table) (start : ℕ) (opening : Rows) (h : List Commit) (n : ℕ)
+        → IsHistory tables opening h
+        → rows_after tables opening (take n (links_of tables start opening h)) ≡ rows_at opening h n }
 {}

@@ -40,7 +40,10 @@ impl Model for Link {
 
     ghost Value = { LinkValue };
 
-    ghost coded = { code_by (ℕ × (ℕ × Actions)) (coded× coded_ℕ (coded× coded_ℕ change_row.the_row.coded)) (λ l. (l.prev, (l.id, l.change))) (λ p. record { prev = p.0; id = p.1.0; change = p.1.1 }) (λ _. refl) };
+    ghost coded = { code_by (ℕ × (ℕ × Actions))
+        (coded× coded_ℕ (coded× coded_ℕ change_row.the_row.coded))
+        (λ l. (l.prev, (l.id, l.change)))
+        (λ p. record { prev = p.0; id = p.1.0; change = p.1.1 }) (λ _. refl) };
 
     ghost view = { λ l. record { prev = l.prev; id = l.id; change = l.change } };
 

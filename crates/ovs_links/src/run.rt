@@ -35,7 +35,8 @@ fn fold_into(alloc: Global, store: &mut LinkStore, links: Vec<Link>) -> Result<(
     requires of_tables { AllOf (IsOfTables (tables_of store.old)) links.items }
     ensures schema { store.new.schema ≡ store.old.schema }
     ensures links { OnOk result ((l : Link) → Holds store.new.links l ↔ Among links.items l) }
-    ensures chain { OnOk result (IsLongestChain (tables_of store.old) 0 no_rows (Among links.items) store.new.folded) }
+    ensures chain { OnOk result
+        (IsLongestChain (tables_of store.old) 0 no_rows (Among links.items) store.new.folded) }
     ensures refused { IfErr result (FailsToFold links.items) }
 {
     if let Err(refused) = take_all(store, links) {
@@ -53,7 +54,8 @@ pub fn fold_all(alloc: Global, schema: &Schema, links: Vec<Link>) -> Result<Link
     requires of_tables { AllOf (IsOfTables schema.now.description.tables) links.items }
     ensures schema { IfOk result (λ s. s.schema ≡ schema.now) }
     ensures links { IfOk result (λ s. (l : Link) → Holds s.links l ↔ Among links.items l) }
-    ensures chain { IfOk result (λ s. IsLongestChain schema.now.description.tables 0 no_rows (Among links.items) s.folded) }
+    ensures chain { IfOk result (λ s.
+        IsLongestChain schema.now.description.tables 0 no_rows (Among links.items) s.folded) }
     ensures refused { IfErr result (FailsToFold links.items) }
 {
     let Ok(mut store) = LinkStore::new(alloc, schema) else {

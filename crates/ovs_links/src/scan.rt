@@ -1,17 +1,16 @@
 //! Looking for links in a list.
 
-ghost use Rattle.std.specs.Prelude.{◌≡◌, ◌<◌, ◌++◌, MatchOption, None, Some, length, slice_index_or};
+ghost use Rattle.std.specs.Prelude.{◌++◌};
 ghost use Rattle.ovs_links.specs.Link.{AreEnds};
 ghost use Rattle.ovs_links.specs.Kept.{find_prev, find_id};
-ghost use Rattle.ovs_links.specs.Beside.{HasByPrev, HasById, HasBeside};
-ghost use Rattle.ovs_links.specs.declared.link.Link.{Link};
+ghost use Rattle.ovs_links.specs.Beside.{IsPlaceOf, HasByPrev, HasById, HasBeside};
 
 use crate::link::Link;
 use ovs_types::TxnId;
 
 /// The place of the first link with this prev.
 pub(crate) fn place_of_prev(links: &[Link], prev: TxnId) -> Option<usize>
-    ensures found { MatchOption result (find_prev prev links.now ≡ None) (λ k. (k < length links.now) × ((d : Link) → find_prev prev links.now ≡ Some (slice_index_or links.now k d))) }
+    ensures found { IsPlaceOf (find_prev prev links.now) links.now result }
 {
     for (k, link) in links.iter().enumerate() {
         if link.prev() == prev {
@@ -23,7 +22,7 @@ pub(crate) fn place_of_prev(links: &[Link], prev: TxnId) -> Option<usize>
 
 /// The place of the first link with this id.
 pub(crate) fn place_of_id(links: &[Link], id: TxnId) -> Option<usize>
-    ensures found { MatchOption result (find_id id links.now ≡ None) (λ k. (k < length links.now) × ((d : Link) → find_id id links.now ≡ Some (slice_index_or links.now k d))) }
+    ensures found { IsPlaceOf (find_id id links.now) links.now result }
 {
     for (k, link) in links.iter().enumerate() {
         if link.id() == id {

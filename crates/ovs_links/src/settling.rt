@@ -26,11 +26,15 @@ fn fold_one(
     k: usize,
 ) -> Result<(), NoMemory>
     requires in_range { k < vec_len parked.old }
-    requires fits { (d : Link) → fits folded.old.database.rows (slice_index_or parked.old.items k d).change ≡ true }
-    requires of_tables { (d : Link) → IsOfTables folded.old.database.schema.description.tables (slice_index_or parked.old.items k d) }
-    ensures chain { OnOk result ((d : Link) → chain.new.items ≡ chain.old.items ++ slice_index_or parked.old.items k d ∷ []) }
+    requires fits { (d : Link)
+        → fits folded.old.database.rows (slice_index_or parked.old.items k d).change ≡ true }
+    requires of_tables { (d : Link)
+        → IsOfTables folded.old.database.schema.description.tables (slice_index_or parked.old.items k d) }
+    ensures chain { OnOk result ((d : Link)
+        → chain.new.items ≡ chain.old.items ++ slice_index_or parked.old.items k d ∷ []) }
     ensures parked { OnOk result (parked.new.items ≡ remove parked.old.items k) }
-    ensures folded { OnOk result ((d : Link) → folded.new ≡ folded_with folded.old (slice_index_or parked.old.items k d)) }
+    ensures folded { OnOk result ((d : Link)
+        → folded.new ≡ folded_with folded.old (slice_index_or parked.old.items k d)) }
     ensures chain_kept { OnErr result (chain.new.items ≡ chain.old.items) }
     ensures parked_kept { OnErr result (parked.new.items ≡ parked.old.items) }
     ensures folded_kept { OnErr result (folded.new ≡ folded.old) }
@@ -59,10 +63,12 @@ pub(crate) fn settle_lists(
     ensures kept { IsKept chain.new.items parked.new.items folded.new }
     ensures head { head.new ≡ head_after 0 chain.new.items }
     ensures schema { folded.new.database.schema ≡ folded.old.database.schema }
-    ensures links { from_links (chain.new.items ++ parked.new.items) ≡ from_links (chain.old.items ++ parked.old.items) }
+    ensures links { from_links (chain.new.items ++ parked.new.items)
+        ≡ from_links (chain.old.items ++ parked.old.items) }
     ensures prefix { IsPrefixOf chain.old.items chain.new.items }
     ensures settled { IfOk result (SettlesAs (stored_of chain.new.items parked.new.items folded.new)) }
-    ensures unfinished { OnErr result (¬ (IsChainOf (stored_of chain.new.items parked.new.items folded.new) chain.new.items)) }
+    ensures unfinished { OnErr result
+        (¬ (IsChainOf (stored_of chain.new.items parked.new.items folded.new) chain.new.items)) }
 {
     'fold: loop {
         match place_of_prev(parked.as_slice(), *head) {

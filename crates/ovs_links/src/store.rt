@@ -50,11 +50,16 @@ impl Model for LinkStore {
 
     ghost Value = { Stored };
 
-    ghost coded = { code_by (Schema × (map.FinMap nat_cmp Link × List Link)) (coded× schema_row.the_row.coded (coded× (map.code coded_ℕ link_row.the_row.coded) (coded_list link_row.the_row.coded))) (λ s. (s.schema, (s.links, s.folded))) (λ p. record { schema = p.0; links = p.1.0; folded = p.1.1 }) (λ _. refl) };
+    ghost coded = { code_by (Schema × (map.FinMap nat_cmp Link × List Link))
+        (coded× schema_row.the_row.coded
+        (coded× (map.code coded_ℕ link_row.the_row.coded) (coded_list link_row.the_row.coded)))
+        (λ s. (s.schema, (s.links, s.folded)))
+        (λ p. record { schema = p.0; links = p.1.0; folded = p.1.1 }) (λ _. refl) };
 
     ghost view = { λ s. stored_of s.chain.items s.parked.items s.folded };
 
-    ghost invariant = { λ s. IsKept s.chain.items s.parked.items s.folded × (s.head ≡ head_after 0 s.chain.items) };
+    ghost invariant = { λ s.
+        IsKept s.chain.items s.parked.items s.folded × (s.head ≡ head_after 0 s.chain.items) };
 }
 
 impl LinkStore {
@@ -183,8 +188,10 @@ impl LinkStore {
 
     /// How many links are folded up to this id: 0 for the id 0, k for the id of the k-th folded link, else none.
     pub fn position_of(&self, id: TxnId) -> Option<usize>
-        ensures found { IfSome result (λ k. (k ≤ length self.now.folded) × (head_after 0 (take k self.now.folded) ≡ id)) }
-        ensures only { (k : _) → k ≤ length self.now.folded → head_after 0 (take k self.now.folded) ≡ id → result ≡ Some k }
+        ensures found { IfSome result (λ k.
+            (k ≤ length self.now.folded) × (head_after 0 (take k self.now.folded) ≡ id)) }
+        ensures only { (k : _) → k ≤ length self.now.folded
+            → head_after 0 (take k self.now.folded) ≡ id → result ≡ Some k }
     {
         let chain = self.chain.as_slice();
         if id == TxnId::zero() {

@@ -12,7 +12,8 @@ use Rattle.ovs_links.proofs.RunLemmas.{holds_from_nothing}
 use Rattle.ovs_links.proofs.run.fold_into.Goals as goal
 
 -- the links of a list that was added to nothing
-only_list : (m n : FinMap nat_cmp Link) (ls : List Link) → n ≡ m → HoldsBoth m (λ l. ⊥) ls → (l : Link) → Holds n l ↔ Among ls l
+only_list : (m n : FinMap nat_cmp Link) (ls : List Link) → n ≡ m → HoldsBoth m (λ l. ⊥) ls → (l : Link)
+    → Holds n l ↔ Among ls l
 only_list m n ls e h l = (
   λ k. ⊎_elim (λ (a : ⊥). absurd a) (λ (a : Among ls l). a) ((h l).0 (subst (λ (x : FinMap nat_cmp Link). Holds x l) e k)),
   λ a. subst (λ (x : FinMap nat_cmp Link). Holds x l) (sym e) ((h l).1 (inr a)),

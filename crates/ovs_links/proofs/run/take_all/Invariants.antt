@@ -1,7 +1,6 @@
 use Rattle.std.proofs.Common.{◌≡◌, ◌++◌, length}
 use Rattle.std.specs.Vec.Iter.{into_iter_items, into_iter_len}
-use Rattle.ovs_links.specs.Sets.{AllOf, IsOfTables, Holds}
-use Rattle.ovs_links.specs.Store.{tables_of}
+use Rattle.ovs_links.specs.Sets.{Holds}
 use Rattle.ovs_links.specs.Runs.{HoldsBoth}
 use Rattle.ovs_links.proofs.run.take_all.Given as goal
 

@@ -1,6 +1,5 @@
 use Rattle.std.proofs.Common.{◌≡◌, ◌<◌, ℕ, length, List, [], ◌∷◌, refl, Some, get_or, sym, ◌∙◌, ap, subst, true, false, Bool, Result, Ok, Err, OnErr}
 use Rattle.std.proofs.lemmas.List.{get_or_default}
-use Rattle.ovs_rows.specs.Row.{Rows}
 use Rattle.ovs_rows.specs.Change.{Actions}
 use Rattle.ovs_rows.specs.Database.{DatabaseValue}
 use Rattle.ovs_rows.specs.After.{fits}
@@ -13,11 +12,14 @@ use Rattle.ovs_links.proofs.SetLemmas.{find_key_is}
 use Rattle.ovs_links.proofs.settling.settle_lists.Goals as goal
 
 -- the parked link that is found at the head
-found_at : (head k : ℕ) (chain parked slice : List Link) → head ≡ head_after 0 chain → slice ≡ parked → ((d : Link) → find_prev head slice ≡ Some (get_or slice k d)) → (d : Link) → find_prev (head_after 0 chain) parked ≡ Some (get_or parked k d)
+found_at : (head k : ℕ) (chain parked slice : List Link) → head ≡ head_after 0 chain → slice ≡ parked
+    → ((d : Link) → find_prev head slice ≡ Some (get_or slice k d)) → (d : Link)
+    → find_prev (head_after 0 chain) parked ≡ Some (get_or parked k d)
 found_at head k chain parked slice e same found d =
     ap (λ (p : ℕ). find_prev p parked) (sym e) ∙ ap (λ (xs : List Link). find_prev head xs) (sym same) ∙ found d ∙ ap (λ (xs : List Link). Some (get_or xs k d)) same
 
-fits_at : (b : Bool) (d e : DatabaseValue) (a : Actions) (l m : Link) → b ≡ fits d.rows a → d ≡ e → a ≡ l.change → l ≡ m → fits e.rows m.change ≡ b
+fits_at : (b : Bool) (d e : DatabaseValue) (a : Actions) (l m : Link) → b ≡ fits d.rows a → d ≡ e → a ≡ l.change
+    → l ≡ m → fits e.rows m.change ≡ b
 fits_at b d e a l m h same change link =
     ap (λ (x : Link). fits e.rows x.change) (sym link) ∙ ap (λ (x : Actions). fits e.rows x) (sym change) ∙ ap (λ (x : DatabaseValue). fits x.rows a) (sym same) ∙ sym h
 

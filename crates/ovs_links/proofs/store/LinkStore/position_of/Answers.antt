@@ -1,8 +1,8 @@
-use Rattle.std.proofs.Common.{◌≡◌, ◌≢◌, ◌≤◌, ℕ, List, [], ◌∷◌, length, take, refl, sym, ◌∙◌, ap, subst, arith, Some, eqb, true≢false, ◌+◌}
+use Rattle.std.proofs.Common.{◌≡◌, ◌≢◌, ◌≤◌, List, [], ◌∷◌, length, take, refl, sym, ◌∙◌, ap, subst, arith, Some, true≢false, ◌+◌}
 use Rattle.std.proofs.lemmas.Bool.{eqb-true, eq-eqb}
 use Rattle.ovs_links.specs.Chains.{head_after}
 use Rattle.ovs_links.specs.Store.{Stored}
-use Rattle.ovs_links.specs.Kept.{IsSound, find_id}
+use Rattle.ovs_links.specs.Kept.{IsSound}
 use Rattle.ovs_links.specs.declared.link.Link.{Link}
 use Rattle.ovs_links.proofs.ChainLemmas.{AllOf-left}
 use Rattle.ovs_links.proofs.PositionLemmas.{head_after-found, position_once, nowhere, count_left}
