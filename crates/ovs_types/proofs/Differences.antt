@@ -5,7 +5,7 @@ use Rattle.std.specs.declared.cmp.Ordering.TheVariants.{Less, Equal, Greater}
 use Rattle.std.specs.Ordering.{match_ordering, is_eq}
 use Rattle.ovs_types.specs.declared.atom.Atom.{Atom}
 use Rattle.ovs_types.specs.declared.column.Column.{Column}
-use Rattle.ovs_types.specs.Column.{is_single}
+use Rattle.ovs_types.specs.Column.{is_single, may_count}
 use Rattle.ovs_types.specs.declared.pairs.Pair.{Pair}
 use Rattle.ovs_types.specs.declared.datum.Datum.{Datum}
 use Rattle.ovs_types.specs.declared.datum.Datum.TheVariants.{Set, Map}
@@ -14,7 +14,7 @@ use Rattle.ovs_types.specs.Pairs.{key_cmp, same_value}
 use Rattle.ovs_types.specs.Ascending.{entry_at, IsAscending, exchanged_at}
 use Rattle.ovs_types.specs.Exchange.{exchange}
 use Rattle.ovs_types.specs.Atom.{atom_eq}
-use Rattle.ovs_types.specs.Datum.{contains, value_at, is_empty, IsAlike, IsOrdered, IsDatumOf, IsShaped, HasKinds}
+use Rattle.ovs_types.specs.Datum.{contains, value_at, datum_len, is_empty, IsAlike, IsOrdered, IsDatumOf, IsShaped, HasKinds}
 use Rattle.ovs_types.specs.Difference.{in_one, changed, IsExchange, IsDifference, exchange_of, difference_of, changed_by}
 use Rattle.ovs_types.proofs.Ascends.{entry_at-exchange, IsAscending-exchange, same_entries, exchange-twice}
 use Rattle.ovs_types.proofs.Exchanges.{exchange-nil}
@@ -358,27 +358,32 @@ IsShaped-exchange c (Set old) (Map new) d e h = absurd e
 IsShaped-exchange c (Map old) (Set new) d e h = absurd e
 IsShaped-exchange c (Map old) (Map new) (Set d) e h = absurd e
 
-pub IsDatumOf-exchange : (c : Column) (old new d : Datum) → IsExchange old new d → IsOrdered d → IsDatumOf c old → IsDatumOf c new → IsDatumOf c d
-IsDatumOf-exchange c old new d e o p q = record {
+-- a column that isn't single admits any number of elements
+any_count : (c : Column) (x : Datum) → is_single c ≡ false → may_count c (datum_len x) ≡ true
+any_count c x many = rw many refl
+
+IsDatumOf-exchange : (c : Column) (old new d : Datum) → is_single c ≡ false → IsExchange old new d → IsOrdered d → IsDatumOf c old → IsDatumOf c new → IsDatumOf c d
+IsDatumOf-exchange c old new d many e o p q = record {
   shape = IsShaped-exchange c old new d e p.shape;
   order = o;
   kinds = HasKinds-exchange c old new d e p.kinds q.kinds;
+  count = any_count c d many;
 }
 
 -- the difference of two data of a column is one
 pub IsDatumOf-difference_of : (c : Column) (old new : Datum) → IsDatumOf c old → IsDatumOf c new → IsDatumOf c (difference_of c old new)
 IsDatumOf-difference_of c old new p q =
-    elim (is_single c) as (λ b. IsDatumOf c (cond b new (exchange_of old new))) [
-      | true ↦ q
-      | false ↦ IsDatumOf-exchange c old new (exchange_of old new) (IsExchange-exchange_of old new (IsAlike-data c old new p q) p.order q.order) (IsOrdered-exchange_of old new p.order q.order) p q
-    ]
+    elim (is_single c) as (λ b. is_single c ≡ b → IsDatumOf c (cond b new (exchange_of old new))) [
+      | true ↦ λ single. q
+      | false ↦ λ many. IsDatumOf-exchange c old new (exchange_of old new) many (IsExchange-exchange_of old new (IsAlike-data c old new p q) p.order q.order) (IsOrdered-exchange_of old new p.order q.order) p q
+    ] refl
 
 -- and so is what a difference makes of one
 pub IsDatumOf-changed_by : (c : Column) (old diff : Datum) → IsDatumOf c old → IsDatumOf c diff → IsDatumOf c (changed_by c old diff)
 IsDatumOf-changed_by c old diff p q = IsDatumOf-difference_of c old diff p q
 
 -- what a call's result is, of such data
-pub kept_from : {F : Type 0} (c : Column) (old d : Datum) (r : Result Datum F) → IfOk r (IsExchange old d) → IfOk r IsOrdered
+pub kept_from : {F : Type 0} (c : Column) (old d : Datum) (r : Result Datum F) → is_single c ≡ false → IfOk r (IsExchange old d) → IfOk r IsOrdered
     → IsDatumOf c old → IsDatumOf c d → IfOk r (IsDatumOf c)
-kept_from c old d (Err f) e o p q = tt
-kept_from c old d (Ok x) e o p q = IsDatumOf-exchange c old d x e o p q
+kept_from c old d (Err f) many e o p q = tt
+kept_from c old d (Ok x) many e o p q = IsDatumOf-exchange c old d x many e o p q

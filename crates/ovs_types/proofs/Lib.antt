@@ -14,3 +14,4 @@ pub mod FaultOrder
 pub mod ColumnEquality
 pub mod SchemaLaws
 pub mod Finders
+pub mod Defaults

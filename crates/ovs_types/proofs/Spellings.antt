@@ -245,11 +245,13 @@ IsDatumOf-spelled c d (Set xs) (all, shape, elements, set, ascending, count) = r
   shape = shape;
   order = ascending;
   kinds = λ q e. elements_kind c.key d all elements q (sym (set.0 q) ∙ e);
+  count = count;
 }
 IsDatumOf-spelled c d (Map ps) (value, all, shape, (ds, is, each), map, ascending, count) = record {
   shape = rw shape refl;
   order = ascending;
   kinds = λ k v e. let h = pairs_kinds c.key value ds all each k v (sym (map.0 k) ∙ e) in (h.0, ap Some h.1 ∙ sym shape);
+  count = count;
 }
 
 -- ---- for what a call answers

@@ -15,8 +15,7 @@ use Rattle.ovs_types.specs.declared.datum.Datum.{Datum}
 use Rattle.ovs_types.specs.declared.datum.Datum.TheVariants.{Set, Map}
 use Rattle.ovs_types.specs.Atom.{atom_cmp, atom_total, atom_eq, kind_of}
 use Rattle.ovs_types.specs.Ascending.{IsAscending, IsBefore}
-use Rattle.ovs_types.specs.Column.{may_count}
-use Rattle.ovs_types.specs.Datum.{contains, value_at, datum_len, IsDatumOf}
+use Rattle.ovs_types.specs.Datum.{contains, value_at, IsDatumOf}
 use Rattle.ovs_types.specs.Spelling.{SpellsValue, SpellsBoth, SpellsAtom, SpellsPair, SpellsEach, IsWritten, Spells}
 use Rattle.ovs_types.specs.Writing.{atom_json, atoms_json, pairs_json, datum_json}
 use Rattle.ovs_types.proofs.Ascends.{entry_at-before}
@@ -114,20 +113,20 @@ some_kind : (a b : AtomKind) → Some a ≡ Some b → a ≡ b
 some_kind a b e = cc
 
 -- what is written stands for the datum in each of its columns
-pub spelled_as_written : (d : Data) (x : Datum) → IsWritten d x → (c : Column) → IsDatumOf c x → may_count c (datum_len x) ≡ true → Spells c d x
-spelled_as_written d (Set []) written c of count =
-    ([], of.shape, inl (no_items, written, tt), ((λ q. refl), refl), of.order, count)
-spelled_as_written d (Set (x ∷ [])) written c of count =
-    (x ∷ [], of.shape, inr (x, refl, (of.kinds x (rw (atom_eq-self x) refl), written)), ((λ q. refl), refl), of.order, count)
-spelled_as_written d (Set (x ∷ y ∷ ys)) (ds, is, each) c of count =
-    (x ∷ y ∷ ys, of.shape, inl (ds, is, each_of_kind c.key ds (x ∷ y ∷ ys) each of.kinds), ((λ q. refl), refl), of.order, count)
-spelled_as_written d (Map ps) (ds, is, each) c of count =
+pub spelled_as_written : (d : Data) (x : Datum) → IsWritten d x → (c : Column) → IsDatumOf c x → Spells c d x
+spelled_as_written d (Set []) written c of =
+    ([], of.shape, inl (no_items, written, tt), ((λ q. refl), refl), of.order, of.count)
+spelled_as_written d (Set (x ∷ [])) written c of =
+    (x ∷ [], of.shape, inr (x, refl, (of.kinds x (rw (atom_eq-self x) refl), written)), ((λ q. refl), refl), of.order, of.count)
+spelled_as_written d (Set (x ∷ y ∷ ys)) (ds, is, each) c of =
+    (x ∷ y ∷ ys, of.shape, inl (ds, is, each_of_kind c.key ds (x ∷ y ∷ ys) each of.kinds), ((λ q. refl), refl), of.order, of.count)
+spelled_as_written d (Map ps) (ds, is, each) c of =
     let kind = value_kind c.value of.shape in
     let kinds : (k v : Atom) → value_at k ps ≡ Some v → PairKinds c.key kind.0 k v = λ k v e.
     let both = of.kinds k v e in (both.0, some_kind (kind_of v) kind.0 (both.1 ∙ kind.1)) in
-    (kind.0, ps, kind.1, (ds, is, pairs_of_kinds c.key kind.0 ds ps each of.order kinds), ((λ q. refl), refl), of.order, count)
+    (kind.0, ps, kind.1, (ds, is, pairs_of_kinds c.key kind.0 ds ps each of.order kinds), ((λ q. refl), refl), of.order, of.count)
 
 pub spelled_by : {F : Type 0} (x : Datum) (r : Result Value F) → IfOk r (λ v. IsWritten (view v) x)
-    → IfOk r (λ v. (c : Column) → IsDatumOf c x → may_count c (datum_len x) ≡ true → Spells c (view v) x)
+    → IfOk r (λ v. (c : Column) → IsDatumOf c x → Spells c (view v) x)
 spelled_by x (Ok v) written = spelled_as_written (view v) x written
 spelled_by x (Err e) written = tt

@@ -8,6 +8,7 @@ use Rattle.ovs_types.specs.declared.datum.Datum.{Datum}
 use Rattle.ovs_types.specs.declared.datum.Datum.TheVariants.{Set, Map}
 use Rattle.ovs_types.specs.Atom.{atom_cmp, atom_eq, default_atom, kind_of}
 use Rattle.ovs_types.specs.Ascending.{IsAscending}
+use Rattle.ovs_types.specs.Column.{may_count}
 
 -- ---- what a datum holds
 
@@ -81,6 +82,7 @@ pub record IsDatumOf (c : Column) (d : Datum) : Type 0 where
   pub shape : IsShaped c d
   pub order : IsOrdered d
   pub kinds : HasKinds c d
+  pub count : may_count c (datum_len d) ≡ true
 
 -- ---- the datum of a column that was given none
 

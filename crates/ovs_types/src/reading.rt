@@ -1,9 +1,8 @@
 //! Data out of JSON (RFC 7047 section 5.1).
 
-ghost use Rattle.std.specs.Prelude.{◌≡◌, option_map, IfOk, Ok, true};
+ghost use Rattle.std.specs.Prelude.{◌≡◌, option_map, IfOk, Ok};
 ghost use Rattle.serde_json.specs.View.{view, items_view};
-ghost use Rattle.ovs_types.specs.Datum.{IsDatumOf, datum_len};
-ghost use Rattle.ovs_types.specs.Column.{may_count};
+ghost use Rattle.ovs_types.specs.Datum.{IsDatumOf};
 ghost use Rattle.ovs_types.specs.Reading.{Gives, read_atom, read_uuid, read_each, read_elements, read_one, read_set, read_pair, read_pairs, read_map, read_datum};
 ghost use Rattle.ovs_types.specs.Spelling.{Spells, SpellsAtom};
 
@@ -211,7 +210,6 @@ fn read_datum(alloc: Global, value: &Value, column: &Column) -> Result<Datum, Da
 /// Reading what a datum is written as gives the datum.
 pub fn written_and_read(alloc: Global, datum: &Datum, column: &Column) -> Result<Datum, DatumError>
     requires datum { IsDatumOf column.now datum.now }
-    requires count { may_count column.now (datum_len datum.now) ≡ true }
     ensures back { Gives (λ d. d) result (Ok datum.now) }
 {
     Datum::read(alloc, &datum.to_json(alloc)?, column)

@@ -1,13 +1,12 @@
 //! Data as JSON (RFC 7047 section 5.1).
 
-ghost use Rattle.std.specs.Prelude.{◌≡◌, IfOk, true, false};
+ghost use Rattle.std.specs.Prelude.{◌≡◌, IfOk, false};
 ghost use Rattle.serde_json.specs.View.{view, items_view};
 ghost use Rattle.serde_json.specs.Data.{string, array};
 ghost use Rattle.serde_json.specs.Written.{has_float};
 ghost use Rattle.ovs_types.specs.declared.column.Column.{Column};
 ghost use Rattle.ovs_types.specs.Atom.{kind_of};
-ghost use Rattle.ovs_types.specs.Column.{may_count};
-ghost use Rattle.ovs_types.specs.Datum.{IsDatumOf, datum_len};
+ghost use Rattle.ovs_types.specs.Datum.{IsDatumOf};
 ghost use Rattle.ovs_types.specs.Spelling.{Spells, SpellsAtom, SpellsValue, SpellsBoth, SpellsEach, IsWritten};
 ghost use Rattle.ovs_types.specs.Writing.{atom_json, atoms_json, pairs_json, datum_json, two, listed};
 
@@ -36,7 +35,7 @@ impl Datum {
     pub fn to_json(&self, alloc: Global) -> Result<Value, NoMemory>
         ensures value { IfOk result (λ v. view v ≡ datum_json self.now) }
         // It stands for this datum in each column of which it is a datum.
-        ensures spelled { IfOk result (λ v. (c : Column) → IsDatumOf c self.now → may_count c (datum_len self.now) ≡ true → Spells c (view v) self.now) }
+        ensures spelled { IfOk result (λ v. (c : Column) → IsDatumOf c self.now → Spells c (view v) self.now) }
         ensures no_float { IfOk result (λ v. has_float (view v) ≡ false) }
     {
         datum_json(alloc, self)

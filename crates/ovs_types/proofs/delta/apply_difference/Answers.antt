@@ -12,4 +12,4 @@ returns-else-is_single-clause-only c =
 
 pub returns-else-is_single-clause-kept : goal.returns-else-is_single-clause-kept
 returns-else-is_single-clause-kept c =
-    kept_from c.args.column.now c.args.old.now c.args.diff.now c.exchanged.result c.exchanged.ensures.exchange c.exchanged.ensures.ordered
+    kept_from c.args.column.now c.args.old.now c.args.diff.now c.exchanged.result (sym c.if-is_single.ensures.single) c.exchanged.ensures.exchange c.exchanged.ensures.ordered
