@@ -103,7 +103,7 @@ impl Link {
         Ok(Link {
             prev: self.prev,
             id: self.id,
-            change: self.change.share()?,
+            change: self.change.clone()?,
         })
     }
 }

@@ -10,9 +10,9 @@ use Rattle.ovs_types.specs.Members.{Lead}
 use Rattle.ovs_rows.specs.declared.change.Action.{Action}
 use Rattle.ovs_rows.specs.declared.place.Place.{Place}
 use Rattle.ovs_rows.specs.declared.reading.NamedRows.{NamedRows}
-use Rattle.ovs_rows.specs.Change.{Actions}
+use Rattle.ovs_rows.specs.Change.{Actions, is_idle}
 use Rattle.ovs_rows.specs.ChangeMeaning.{SaysOfRow, SaysOfPlace, Says, Means, OneValueForAllSpellings}
-use Rattle.ovs_rows.specs.ChangeReading.{is_idle, no_rows_named}
+use Rattle.ovs_rows.specs.ChangeReading.{no_rows_named}
 use Rattle.ovs_rows.specs.ChangeSpelling.{SpellsAction, IsRow, IsTable, Spells}
 use Rattle.ovs_rows.specs.Faults.{Read}
 use Rattle.ovs_rows.specs.Place.{place_cmp, place_total, place_exact}

@@ -1,15 +1,16 @@
 -- What rows need to know of data and their differences.
-use Rattle.std.proofs.Common.{◌≡◌, true, false, cond, true≢false, refl, sym, ap, subst, ◌∙◌}
-use Rattle.std.specs.Prelude.{MatchBool, ◌↔◌, Option, Some, None}
+use Rattle.std.proofs.Common.{◌≡◌, Bool, true, false, cond, ◌||◌, true≢false, refl, sym, ap, subst, ◌∙◌}
+use Rattle.std.specs.Prelude.{MatchBool, ◌↔◌, not, Option, Some, None, IfSome}
 use Rattle.std.specs.Option.{option_eq}
 use Rattle.ovs_types.specs.declared.column.Column.{Column}
 use Rattle.ovs_types.specs.declared.datum.Datum.{Datum}
 use Rattle.ovs_types.specs.Column.{is_single}
-use Rattle.ovs_types.specs.Datum.{IsDatumOf, IsAlike}
+use Rattle.ovs_types.specs.Datum.{IsDatumOf, IsAlike, is_empty}
 use Rattle.ovs_types.specs.Difference.{IsExchange, IsDifference, exchange_of, difference_of, changed_by}
 use Rattle.ovs_types.proofs.Differences as differences
 use Rattle.ovs_types.specs.Equality.{datum_eq}
 use Rattle.ovs_types.proofs.Equalities.{datum_decides}
+use Rattle.ovs_rows.specs.Change.{IsEditOf}
 
 module _ (c : Column) (x y : Datum) (p : IsDatumOf c x) (q : IsDatumOf c y) where
   -- two data of one column are both sets or both maps
@@ -52,7 +53,25 @@ same_datum x y e = (datum_decides x y).0 e
 pub same_itself : (x : Datum) → datum_eq x x ≡ true
 same_itself x = (datum_decides x x).1 refl
 
--- and so does the test for equal edits
+-- ---- edits
+
+-- an edit is a datum of its column
+pub datum_of_edit : (c : Column) (e : Option Datum) → IfSome e (IsEditOf c) → IfSome e (IsDatumOf c)
+datum_of_edit c None h = tt
+datum_of_edit c (Some d) h = h.0
+
+-- the difference of two data that differ is an edit
+pub difference_of_differing : (c : Column) (x y : Datum) → IsDatumOf c x → IsDatumOf c y → datum_eq x y ≡ false → IsEditOf c (difference_of c x y)
+difference_of_differing c x y p q differ = (difference_of_kept c x y p q, telling (is_single c) (is_empty (difference_of c x y)) refl refl)
+  where
+    telling : (single none : Bool) → is_single c ≡ single → is_empty (difference_of c x y) ≡ none → (single || not none) ≡ true
+    telling true none s n = refl
+    telling false false s n = refl
+    telling false true s n =
+        let same : x ≡ y = (differences.is_empty-difference_of c x y s (data_alike c x y p q) p.order q.order).0 n in
+        absurd (true≢false (sym ((datum_decides x y).1 same) ∙ differ))
+
+-- the test for equal edits decides equality
 pub edit_decides : (d e : Option Datum) → (option_eq datum_eq d e ≡ true) ↔ (d ≡ e)
 edit_decides None None = (λ _. refl, λ _. refl)
 edit_decides None (Some e) = (λ h. absurd (true≢false (sym h)), λ h. absurd cc)

@@ -1,6 +1,6 @@
 -- Laws of changes and databases, for the crates above.
-use Rattle.std.proofs.Common.{◌≡◌, ℕ, ◌<◌, List, length, Bool, true, false, cond, Option, Some, None, refl, sym, ap, subst, ◌∙◌}
-use Rattle.std.specs.Prelude.{IfSome}
+use Rattle.std.proofs.Common.{◌≡◌, ℕ, ◌<◌, List, length, Bool, true, false, cond, Option, Some, None, Result, Ok, Err, refl, sym, ap, subst, ◌∙◌}
+use Rattle.std.specs.Prelude.{IfOk, IfSome}
 use Rattle.std.specs.List.{list_any}
 use Rattle.std.specs.FinMap.{get, entries, same_map, get-empty}
 use Rattle.ovs_types.specs.declared.schema.Table.{Table}
@@ -114,6 +114,11 @@ difference_after ts a b id h k commit = same_map place_total place_exact (after 
     get-after ts a (database_difference ts a b) id p
     ∙ ap (λ x. row_after (columns_at ts p.table) id x (get a p)) (get-database_difference ts a b p)
     ∙ row_after_between (columns_at ts p.table) id (get a p) (get b p) (data_at ts a h p) (data_at ts b k p) (commit.versions p))
+
+-- what holds of it holds of what a call gives as it
+pub of_difference : {F : Type 0} (P : Actions → Type 0) (d : Actions) (r : Result Actions F) → IfOk r (λ c. c ≡ d) → P d → IfOk r P
+of_difference P d (Ok c) e h = subst P (sym e) h
+of_difference P d (Err f) e h = tt
 
 -- ---- no rows
 

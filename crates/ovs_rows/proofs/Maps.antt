@@ -33,7 +33,7 @@ pub right : (a b : Bool) → (a && b) ≡ true → b ≡ true
 right true b e = e
 right false b e = absurd (true≢false (sym e))
 
-alike : {A : Type 0} (b : Bool) (x : A) → cond b x x ≡ x
+pub alike : {A : Type 0} (b : Bool) (x : A) → cond b x x ≡ x
 alike true x = refl
 alike false x = refl
 

@@ -7,11 +7,11 @@ use Rattle.std.specs.FinMap.{get, insert, get-insert, contains_key}
 use Rattle.ovs_rows.specs.declared.change.Action.{Action}
 use Rattle.ovs_rows.specs.declared.place.Place.{Place}
 use Rattle.ovs_rows.specs.declared.reading.NamedRows.{NamedRows}
-use Rattle.ovs_rows.specs.Change.{Actions}
-use Rattle.ovs_rows.specs.ChangeReading.{is_idle, is_named, with_row}
+use Rattle.ovs_rows.specs.Change.{Actions, is_idle}
+use Rattle.ovs_rows.specs.ChangeReading.{is_named, with_row}
 use Rattle.ovs_rows.specs.Place.{place_cmp, place_total, place_exact}
 
-same_place : (p q : Place) → eq_by_cmp place_cmp p q ≡ true → p ≡ q
+pub same_place : (p q : Place) → eq_by_cmp place_cmp p q ≡ true → p ≡ q
 same_place p q e = place_exact p q ((Equal-is (place_cmp p q)).0 e)
 
 itself : (p : Place) → eq_by_cmp place_cmp p p ≡ true

@@ -1,7 +1,7 @@
 -- One row: what an action makes of it, and the action between two.
 use Rattle.std.proofs.Common.{◌≡◌, ℕ, List, [], ◌∷◌, Bool, true, false, cond, ◌||◌, true≢false, Option, Some, None, refl, sym, ap, subst, ◌∙◌}
-use Rattle.std.specs.Prelude.{IfSome, is_some, ◌≢◌}
-use Rattle.std.specs.List.{list_any}
+use Rattle.std.specs.Prelude.{IfSome, is_none, is_some, not, ◌≢◌}
+use Rattle.std.specs.List.{list_all, list_any}
 use Rattle.ovs_types.specs.declared.column.Column.{Column}
 use Rattle.ovs_types.specs.declared.datum.Datum.{Datum}
 use Rattle.ovs_types.specs.declared.schema.NamedColumn.{NamedColumn}
@@ -11,17 +11,17 @@ use Rattle.ovs_rows.specs.declared.row.Row.{Row}
 use Rattle.ovs_rows.specs.declared.change.Action.{Action}
 use Rattle.ovs_rows.specs.declared.change.Action.TheVariants.{Insert, Delete, Modify}
 use Rattle.ovs_rows.specs.Row.{AreDataOf}
-use Rattle.ovs_rows.specs.Change.{AreEditsOf, IsActionOf}
+use Rattle.ovs_rows.specs.Change.{IsEditOf, AreEditsOf, IsActionOf}
 use Rattle.ovs_rows.specs.After.{action_fits, edited_datum, edited, row_after, IsAfterEdit, AreAfter, IsAfterAt}
 use Rattle.ovs_types.specs.Equality.{datum_eq}
 use Rattle.ovs_rows.specs.DatabaseDifference.{edits_between, action_between, IsVersioned}
-use Rattle.ovs_rows.proofs.Data.{changed_by_kept, difference_of_kept, changed_by_difference, changed_by_differs, changed_by_only, same_datum, same_itself}
+use Rattle.ovs_rows.proofs.Data.{changed_by_kept, difference_of_differing, changed_by_difference, changed_by_differs, changed_by_only, same_datum, same_itself}
 
 -- ---- the data of a modified row
 
-edited_datum_kept : (c : Column) (e : Option Datum) (x : Datum) → IfSome e (IsDatumOf c) → IsDatumOf c x → IsDatumOf c (edited_datum c e x)
+edited_datum_kept : (c : Column) (e : Option Datum) (x : Datum) → IfSome e (IsEditOf c) → IsDatumOf c x → IsDatumOf c (edited_datum c e x)
 edited_datum_kept c None x h k = k
-edited_datum_kept c (Some d) x h k = changed_by_kept c x d k h
+edited_datum_kept c (Some d) x h k = changed_by_kept c x d k h.0
 
 pub edited_kept : (cs : List NamedColumn) (es : List (Option Datum)) (xs : List Datum) → AreEditsOf cs es → AreDataOf cs xs → AreDataOf cs (edited cs es xs)
 edited_kept [] [] [] h k = tt
@@ -31,9 +31,9 @@ edited_kept (c ∷ cs) [] xs h k = absurd h
 edited_kept (c ∷ cs) (e ∷ es) [] h k = absurd k
 edited_kept (c ∷ cs) (e ∷ es) (x ∷ xs) h k = (edited_datum_kept c.column e x h.0 k.0, edited_kept cs es xs h.1 k.1)
 
-after_edit : (c : Column) (e : Option Datum) (x : Datum) → IfSome e (IsDatumOf c) → IsDatumOf c x → IsAfterEdit c e x (edited_datum c e x)
+after_edit : (c : Column) (e : Option Datum) (x : Datum) → IfSome e (IsEditOf c) → IsDatumOf c x → IsAfterEdit c e x (edited_datum c e x)
 after_edit c None x h k = refl
-after_edit c (Some d) x h k = changed_by_differs c x d k h
+after_edit c (Some d) x h k = changed_by_differs c x d k h.0
 
 are_after : (cs : List NamedColumn) (es : List (Option Datum)) (xs : List Datum) → AreEditsOf cs es → AreDataOf cs xs → AreAfter cs es xs (edited cs es xs)
 are_after [] [] [] h k = tt
@@ -43,9 +43,9 @@ are_after (c ∷ cs) [] xs h k = absurd h
 are_after (c ∷ cs) (e ∷ es) [] h k = absurd k
 are_after (c ∷ cs) (e ∷ es) (x ∷ xs) h k = (after_edit c.column e x h.0 k.0, are_after cs es xs h.1 k.1)
 
-only_edit : (c : Column) (e : Option Datum) (x y : Datum) → IfSome e (IsDatumOf c) → IsDatumOf c x → IsDatumOf c y → IsAfterEdit c e x y → y ≡ edited_datum c e x
+only_edit : (c : Column) (e : Option Datum) (x y : Datum) → IfSome e (IsEditOf c) → IsDatumOf c x → IsDatumOf c y → IsAfterEdit c e x y → y ≡ edited_datum c e x
 only_edit c None x y h k l a = a
-only_edit c (Some d) x y h k l a = changed_by_only c x d y k h l a
+only_edit c (Some d) x y h k l a = changed_by_only c x d y k h.0 l a
 
 only_after : (cs : List NamedColumn) (es : List (Option Datum)) (xs ys : List Datum) → AreEditsOf cs es → AreDataOf cs xs → AreDataOf cs ys → AreAfter cs es xs ys → ys ≡ edited cs es xs
 only_after [] [] [] [] h k l a = refl
@@ -70,7 +70,7 @@ row_after_kept cs v None (Some row) r h k e = subst (λ o. IfSome o (λ row. Are
 row_after_kept cs v (Some (Insert made)) before r h k e = subst (AreDataOf cs) (some_columns v made r e) h
 row_after_kept cs v (Some Delete) before r h k e = absurd cc
 row_after_kept cs v (Some (Modify es)) None r h k e = absurd cc
-row_after_kept cs v (Some (Modify es)) (Some row) r h k e = subst (AreDataOf cs) (some_columns v (edited cs es row.columns) r e) (edited_kept cs es row.columns h k)
+row_after_kept cs v (Some (Modify es)) (Some row) r h k e = subst (AreDataOf cs) (some_columns v (edited cs es row.columns) r e) (edited_kept cs es row.columns h.0 k)
 
 pub row_is_after : (cs : List NamedColumn) (v : ℕ) (a : Option Action) (before : Option Row)
     → IfSome a (IsActionOf cs) → IfSome before (λ row. AreDataOf cs row.columns) → IfSome a (λ action. action_fits action before ≡ true)
@@ -79,7 +79,7 @@ row_is_after cs v None before h k f = refl
 row_is_after cs v (Some (Insert made)) before h k f = refl
 row_is_after cs v (Some Delete) before h k f = refl
 row_is_after cs v (Some (Modify es)) None h k f = absurd (true≢false (sym f))
-row_is_after cs v (Some (Modify es)) (Some row) h k f = (refl, are_after cs es row.columns h k)
+row_is_after cs v (Some (Modify es)) (Some row) h k f = (refl, are_after cs es row.columns h.0 k)
 
 pub only_row_after : (cs : List NamedColumn) (v : ℕ) (a : Option Action) (before new : Option Row)
     → IfSome a (IsActionOf cs) → IfSome before (λ row. AreDataOf cs row.columns) → IfSome new (λ row. AreDataOf cs row.columns)
@@ -90,14 +90,14 @@ only_row_after cs v (Some Delete) before new h k l e = e
 only_row_after cs v (Some (Modify es)) None new h k l e = absurd e
 only_row_after cs v (Some (Modify es)) (Some old) None h k l e = absurd e
 only_row_after cs v (Some (Modify es)) (Some old) (Some new) h k l e =
-    let made : new.columns ≡ edited cs es old.columns = only_after cs es old.columns new.columns h k l e.1 in
+    let made : new.columns ≡ edited cs es old.columns = only_after cs es old.columns new.columns h.0 k l e.1 in
     λ i. Some (record { version = e.0 i; columns = made i })
 
 -- ---- the edits between two rows
 
-edit_between_kept : (c : Column) (x y : Datum) → IsDatumOf c x → IsDatumOf c y → (b : Bool) → IfSome (cond b None (Some (difference_of c x y))) (IsDatumOf c)
-edit_between_kept c x y h k true = tt
-edit_between_kept c x y h k false = difference_of_kept c x y h k
+edit_between_kept : (c : Column) (x y : Datum) → IsDatumOf c x → IsDatumOf c y → (b : Bool) → datum_eq x y ≡ b → IfSome (cond b None (Some (difference_of c x y))) (IsEditOf c)
+edit_between_kept c x y h k true e = tt
+edit_between_kept c x y h k false e = difference_of_differing c x y h k e
 
 edits_between_kept : (cs : List NamedColumn) (xs ys : List Datum) → AreDataOf cs xs → AreDataOf cs ys → AreEditsOf cs (edits_between cs xs ys)
 edits_between_kept [] [] [] h k = tt
@@ -105,7 +105,7 @@ edits_between_kept [] (x ∷ xs) ys h k = absurd h
 edits_between_kept [] [] (y ∷ ys) h k = absurd k
 edits_between_kept (c ∷ cs) [] ys h k = absurd h
 edits_between_kept (c ∷ cs) (x ∷ xs) [] h k = absurd k
-edits_between_kept (c ∷ cs) (x ∷ xs) (y ∷ ys) h k = (edit_between_kept c.column x y h.0 k.0 (datum_eq x y), edits_between_kept cs xs ys h.1 k.1)
+edits_between_kept (c ∷ cs) (x ∷ xs) (y ∷ ys) h k = (edit_between_kept c.column x y h.0 k.0 (datum_eq x y) refl, edits_between_kept cs xs ys h.1 k.1)
 
 edited_back : (c : Column) (x y : Datum) → IsDatumOf c x → IsDatumOf c y → (b : Bool) → datum_eq x y ≡ b → edited_datum c (cond b None (Some (difference_of c x y))) x ≡ y
 edited_back c x y h k true e = same_datum x y e
@@ -147,16 +147,21 @@ edits_differ cs xs ys e same = true≢false (sym e ∙ ap (λ zs. list_any is_so
 
 -- ---- the action between two rows
 
-modified_kept : (cs : List NamedColumn) (es : List (Option Datum)) → AreEditsOf cs es → (b : Bool) → IfSome (cond b (Some (Modify es)) None) (IsActionOf cs)
-modified_kept cs es h true = h
-modified_kept cs es h false = tt
+idle_without_edits : (es : List (Option Datum)) → list_all is_none es ≡ not (list_any is_some es)
+idle_without_edits [] = refl
+idle_without_edits (None ∷ es) = idle_without_edits es
+idle_without_edits (Some d ∷ es) = refl
+
+modified_kept : (cs : List NamedColumn) (es : List (Option Datum)) → AreEditsOf cs es → (b : Bool) → list_any is_some es ≡ b → IfSome (cond b (Some (Modify es)) None) (IsActionOf cs)
+modified_kept cs es h true e = (h, idle_without_edits es ∙ ap not e)
+modified_kept cs es h false e = tt
 
 pub action_between_kept : (cs : List NamedColumn) (old new : Option Row) → IfSome old (λ row. AreDataOf cs row.columns) → IfSome new (λ row. AreDataOf cs row.columns)
     → IfSome (action_between cs old new) (IsActionOf cs)
 action_between_kept cs None None h k = tt
 action_between_kept cs None (Some new) h k = k
 action_between_kept cs (Some old) None h k = tt
-action_between_kept cs (Some old) (Some new) h k = modified_kept cs (edits_between cs old.columns new.columns) (edits_between_kept cs old.columns new.columns h k) (list_any is_some (edits_between cs old.columns new.columns))
+action_between_kept cs (Some old) (Some new) h k = modified_kept cs (edits_between cs old.columns new.columns) (edits_between_kept cs old.columns new.columns h k) (list_any is_some (edits_between cs old.columns new.columns)) refl
 
 modified_fits : (es : List (Option Datum)) (old : Row) (b : Bool) → IfSome (cond b (Some (Modify es)) None) (λ action. action_fits action (Some old) ≡ true)
 modified_fits es old true = refl

@@ -88,7 +88,7 @@ module _ (number : ℕ) where
   between : (q : Place) → range_contains place_cmp (Included first) (Excluded next) q ≡ (q.table == number)
   between q = in_table q.table q.id (nat_cmp number q.table) (ranked number q.table (nat_cmp number q.table) refl)
 
-  pub entries_between_table : (es : List (Place × Row)) → entries_between place_cmp (Included first) (Excluded next) es ≡ filter (λ e. e.0.table == number) es
+  pub entries_between_table : {X : Type 0} (es : List (Place × X)) → entries_between place_cmp (Included first) (Excluded next) es ≡ filter (λ e. e.0.table == number) es
   entries_between_table [] = refl
   entries_between_table (e ∷ es) =
       ap (λ b. cond b (e ∷ entries_between place_cmp (Included first) (Excluded next) es) (entries_between place_cmp (Included first) (Excluded next) es)) (between e.0)
@@ -98,7 +98,7 @@ kept : {X : Type 0} (P : X → Type 0) (x : X) (xs : List X) (b : Bool) → (b �
 kept P x xs true h rest = (h refl, rest)
 kept P x xs false h rest = rest
 
-filter_kept : {X : Type 0} (P : X → Type 0) (q : X → Bool) (xs : List X) → AllByRecursion (λ x. q x ≡ true → P x) xs → AllByRecursion P (filter q xs)
+pub filter_kept : {X : Type 0} (P : X → Type 0) (q : X → Bool) (xs : List X) → AllByRecursion (λ x. q x ≡ true → P x) xs → AllByRecursion P (filter q xs)
 filter_kept P q [] h = tt
 filter_kept P q (x ∷ xs) h = kept P x (filter q xs) (q x) h.0 (filter_kept P q xs h.1)
 
@@ -143,7 +143,7 @@ tail_none : (a b : Bool) → (a || b) ≡ false → b ≡ false
 tail_none true b e = absurd (true≢false e)
 tail_none false b e = e
 
-none : (a b : Bool) → a ≡ false → b ≡ false → (a || b) ≡ false
+pub none : (a b : Bool) → a ≡ false → b ≡ false → (a || b) ≡ false
 none true b e f = e
 none false b e f = f
 
@@ -153,12 +153,12 @@ put_first k l d e ms rest h n r Less = none (has_float d) (members_have_float (m
 put_first k l d e ms rest h n r Equal = none (has_float d) (members_have_float ms) h (tail_none (has_float e) (members_have_float ms) n)
 put_first k l d e ms rest h n r Greater = none (has_float e) (members_have_float rest) (head_none (has_float e) (members_have_float ms) n) r
 
-put_no_float : (k : List ℕ) (d : Data) (ms : Members) → has_float d ≡ false → members_have_float ms ≡ false → members_have_float (put k d ms) ≡ false
+pub put_no_float : (k : List ℕ) (d : Data) (ms : Members) → has_float d ≡ false → members_have_float ms ≡ false → members_have_float (put k d ms) ≡ false
 put_no_float k d no_members h n = ap (λ b. b || false) h
 put_no_float k d (member l e ms) h n =
     put_first k l d e ms (put k d ms) h n (put_no_float k d ms h (tail_none (has_float e) (members_have_float ms) n)) (slice_cmp nat_cmp k l)
 
-fold_no_float : {X : Type 0} (f : X → List ℕ × Data) → ((x : X) → has_float (f x).1 ≡ false) → (xs : List X) (ms : Members) → members_have_float ms ≡ false → members_have_float (fold with_member ms (map f xs)) ≡ false
+pub fold_no_float : {X : Type 0} (f : X → List ℕ × Data) → ((x : X) → has_float (f x).1 ≡ false) → (xs : List X) (ms : Members) → members_have_float ms ≡ false → members_have_float (fold with_member ms (map f xs)) ≡ false
 fold_no_float f each [] ms n = n
 fold_no_float f each (x ∷ xs) ms n = fold_no_float f each xs (put (f x).0 (f x).1 ms) (put_no_float (f x).0 (f x).1 ms (each x) n)
 

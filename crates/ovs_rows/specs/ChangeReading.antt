@@ -1,7 +1,6 @@
 -- The changes that JSON values stand for, with the first fault of those that stand for none.
-use Rattle.std.specs.Prelude.{ℕ, List, Bool, false, ◌||◌, Option, Some, None, Ok, Err, if◌then◌else◌, codes, is_none}
+use Rattle.std.specs.Prelude.{ℕ, List, Bool, ◌||◌, Option, Some, None, Ok, Err, if◌then◌else◌, codes}
 use Rattle.std.specs.FinMap.{empty, contains_key, insert}
-use Rattle.std.specs.List.{list_all}
 use Rattle.std.specs.Option.{ok_or}
 use Rattle.serde_json.specs.Data.{Data, Members}
 use Rattle.serde_json.specs.Find as json
@@ -18,7 +17,7 @@ use Rattle.ovs_rows.specs.declared.error.ChangeError.TheVariants as faults
 use Rattle.ovs_rows.specs.declared.place.Place.{Place}
 use Rattle.ovs_rows.specs.declared.reading.NamedRows.{NamedRows}
 use Rattle.ovs_rows.specs.Cells.{read_cells, data_of}
-use Rattle.ovs_rows.specs.Change.{Actions}
+use Rattle.ovs_rows.specs.Change.{Actions, is_idle}
 use Rattle.ovs_rows.specs.Faults.{Read}
 
 -- ---- one row
@@ -49,12 +48,6 @@ read_action columns d =
     read_one_of columns (json.get (codes "initial") d) (json.get (codes "insert") d) (json.get (codes "delete") d) (json.get (codes "modify") d)
 
 -- ---- the rows that are named
-
--- a modification of no column
-abbrev pub is_idle : Action → Bool
-is_idle (Insert columns) = false
-is_idle Delete = false
-is_idle (Modify edits) = list_all is_none edits
 
 abbrev pub no_rows_named : NamedRows
 no_rows_named = record { actions = empty; untouched = empty }

@@ -4,6 +4,7 @@ pub mod Row
 pub mod Change
 pub mod After
 pub mod DatabaseDifference
+pub mod Differing
 pub mod Applied
 pub mod Placing
 pub mod Database
@@ -13,3 +14,4 @@ pub mod Cells
 pub mod ChangeReading
 pub mod ChangeSpelling
 pub mod ChangeMeaning
+pub mod ChangeWriting

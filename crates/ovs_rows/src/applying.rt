@@ -22,8 +22,8 @@ use std::alloc::Global;
 use std::collections::BTreeMap;
 use std::sync::Arc;
 
-// The columns of the table of this number, and none past the last.
-fn columns_at(tables: &[Table], number: usize) -> &[NamedColumn]
+/// The columns of the table of this number, and none past the last.
+pub(crate) fn columns_at(tables: &[Table], number: usize) -> &[NamedColumn]
     ensures value { result.now ≡ columns_at tables.now number }
 {
     match tables.get(number) {

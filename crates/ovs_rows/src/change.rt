@@ -5,7 +5,7 @@ ghost use Rattle.std.specs.Option.{option_copied};
 use crate::place::Place;
 use crate::row::Columns;
 use ovs_types::{Datum, NoMemory};
-use std::alloc::Global;
+use std::alloc::{AllocError, Global};
 use std::collections::BTreeMap;
 use std::marker::Model;
 use std::sync::Arc;
@@ -188,11 +188,13 @@ impl Change {
     {
         same_actions(self.as_map(), other.as_map())
     }
+}
+
+impl Clone for Change {
+    ghost is_clone = { λ c d. d ≡ c };
 
     /// The same change once more. No action is copied.
-    pub fn share(&self) -> Result<Change, NoMemory>
-        ensures value { IfOk result (λ c. c ≡ self.now) }
-    {
+    fn clone(&self) -> Result<Change, AllocError> {
         Ok(Change {
             actions: self.actions.clone()?,
         })

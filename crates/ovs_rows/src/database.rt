@@ -65,6 +65,7 @@ impl Database {
     /// The rows by place.
     pub(crate) fn rows(&self) -> &RowMap
         ensures value { result.now ≡ self.now.rows }
+        ensures of_tables { AreRowsOf self.now.schema.description.tables self.now.rows }
     {
         &self.rows
     }

@@ -5,7 +5,9 @@ mod applied;
 mod applying;
 mod cells;
 mod change;
+mod change_writing;
 mod database;
+mod differing;
 mod error;
 mod place;
 mod placing;
@@ -24,5 +26,9 @@ pub use reading::one_change_for_all_spellings;
 pub use row::{Columns, Row};
 pub use theorems::{change_has_one_outcome, database_difference_laws};
 
+#[cfg(test)]
+mod change_writing_tests;
+#[cfg(test)]
+mod differing_tests;
 #[cfg(test)]
 mod reading_tests;

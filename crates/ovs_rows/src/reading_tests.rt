@@ -6,7 +6,7 @@ use ovs_types::{DatumError, Schema, TxnId};
 use serde_json::Value;
 use std::test::Fail;
 
-const NET: &str =
+pub(crate) const NET: &str =
     r#"{"name":"net","version":"1.0.0","tables":{"Port":{"columns":{"name":{"type":"string"},"tags":{"type":{"key":"integer","min":0,"max":"unlimited"}},"opts":{"type":{"key":"string","value":"string","min":0,"max":"unlimited"}},"up":{"type":{"key":"boolean","min":0}}}}}}"#;
 
 fn read(rt: HostRuntime, text: &str) -> Result<Result<Change, ChangeError>, Fail> {

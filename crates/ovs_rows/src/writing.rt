@@ -20,8 +20,8 @@ use ovs_types::{Atom, NamedColumn, NoMemory, RowId, Table, TxnId};
 use serde_json::{Map, Value};
 use std::alloc::Global;
 
-// Puts a member into an object.
-fn put(
+/// Puts a member into an object.
+pub(crate) fn put(
     alloc: Global,
     members: &mut Map<String, Value>,
     name: &str,

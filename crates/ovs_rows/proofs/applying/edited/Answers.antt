@@ -5,7 +5,7 @@ pub bounds-edits-number : goal.bounds-edits-number
 bounds-edits-number c = edit_within c.args.columns.now c.args.edits.now c.args.old.now c.requires.edits c.requires.old c.loop-number.number c.loop-number-test.true
 
 pub bounds-old-number : goal.bounds-old-number
-bounds-old-number c = datum_within c.args.columns.now c.args.edits.now c.args.old.now c.requires.edits c.requires.old c.loop-number.number c.loop-number-test.true
+bounds-old-number c = datum_within c.args.columns.now c.args.old.now c.requires.old c.loop-number.number c.loop-number-test.true
 
 pub edited_datum-requires-clause-edit : goal.edited_datum-requires-clause-edit
 edited_datum-requires-clause-edit c =
@@ -13,7 +13,7 @@ edited_datum-requires-clause-edit c =
 
 pub edited_datum-requires-clause-old : goal.edited_datum-requires-clause-old
 edited_datum-requires-clause-old c =
-    datum_at c.args.columns.now c.args.edits.now c.args.old.now c.requires.edits c.requires.old c.loop-number.number c.loop-number-test.true c.index-columns-number.result c.index-old-number.result c.index-old-number.is
+    datum_at c.args.columns.now c.args.old.now c.requires.old c.loop-number.number c.loop-number-test.true c.index-columns-number.result c.index-old-number.result c.index-old-number.is
 
 pub loop-number-preserved : goal.loop-number-preserved
 loop-number-preserved c =
