@@ -39,7 +39,7 @@ pub kept_rows : (chain parked : List Link) (f : FoldedValue) → IsKept chain pa
     → f.database.rows ≡ rows_of (stored_of chain parked f)
 kept_rows chain parked f k = ap (λ (x : FoldedValue). x.database.rows) k.folded
 
-kept_moved : (a b : List Link) (l : Link) (c : List Link) (f : FoldedValue) → IsKept a (b ++ l ∷ c) f
+pub kept_moved : (a b : List Link) (l : Link) (c : List Link) (f : FoldedValue) → IsKept a (b ++ l ∷ c) f
     → l.prev ≡ head_after 0 a → fits f.database.rows l.change ≡ true
     → IsKept (a ++ l ∷ []) (b ++ c) (folded_with f l)
 kept_moved a b l c f k e fit =
@@ -142,10 +142,10 @@ stuck_settles chain parked f l k e unfit =
 
 -- ---- what is so of every store
 
-in_held : (ls : List Link) (l : Link) → In ls l → Holds (from_links ls) l
+pub in_held : (ls : List Link) (l : Link) → In ls l → Holds (from_links ls) l
 in_held ls l a = get-from_links ls l.prev ∙ a
 
-held_in : (ls : List Link) (l : Link) → Holds (from_links ls) l → In ls l
+pub held_in : (ls : List Link) (l : Link) → Holds (from_links ls) l → In ls l
 held_in ls l a = sym (get-from_links ls l.prev) ∙ a
 
 pub kept_chain : (chain parked : List Link) (f : FoldedValue) → IsKept chain parked f
@@ -166,7 +166,7 @@ kept_held chain parked f k =
       by_id = λ l m a b e. c.by_id l m (held_in ls l a) (held_in ls m b) e;
     }
 
-AllOf-found : (S : Link → Type 0) (p : ℕ) (ls : List Link) (l : Link) → AllOf S ls → find_prev p ls ≡ Some l → S l
+pub AllOf-found : (S : Link → Type 0) (p : ℕ) (ls : List Link) (l : Link) → AllOf S ls → find_prev p ls ≡ Some l → S l
 AllOf-found S p ls l a e =
     let t = place_of p ls l l e in
     subst S t.2 (AllOf-at S ls l t.0 t.1 a)

@@ -6,3 +6,6 @@ pub mod KeptLemmas
 pub mod TakeLemmas
 pub mod PositionLemmas
 pub mod RunLemmas
+pub mod JoinLemmas
+pub mod AppendLemmas
+pub mod MergeLemmas

@@ -55,12 +55,12 @@ among_push [] l x (inr a) = absurd a
 among_push (m ∷ ms) l x (inl e) = inl (inl e)
 among_push (m ∷ ms) l x (inr a) = ⊎_elim (λ (k : Among ms x). inl (inr k)) (λ (k : x ≡ l). inr k) (among_push ms l x a)
 
-among_before : (ls : List Link) (l x : Link) → Among ls x → Among (ls ++ l ∷ []) x
+pub among_before : (ls : List Link) (l x : Link) → Among ls x → Among (ls ++ l ∷ []) x
 among_before [] l x a = absurd a
 among_before (m ∷ ms) l x (inl e) = inl e
 among_before (m ∷ ms) l x (inr a) = inr (among_before ms l x a)
 
-among_last : (ls : List Link) (l x : Link) → x ≡ l → Among (ls ++ l ∷ []) x
+pub among_last : (ls : List Link) (l x : Link) → x ≡ l → Among (ls ++ l ∷ []) x
 among_last [] l x e = inl e
 among_last (m ∷ ms) l x e = inr (among_last ms l x e)
 

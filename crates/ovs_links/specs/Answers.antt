@@ -1,5 +1,5 @@
 -- What the calls of a store answer, and what they leave.
-use Rattle.std.specs.Prelude.{◌≡◌, ◌≢◌, ◌<◌, false, List, take, length, Result, Ok, Err}
+use Rattle.std.specs.Prelude.{◌≡◌, ◌≢◌, ◌<◌, ◌++◌, false, List, [], ◌∷◌, take, length, Result, Ok, Err}
 use Rattle.std.specs.Ordering.{nat_cmp}
 use Rattle.std.specs.FinMap.{FinMap, len, insert}
 use Rattle.ovs_types.specs.declared.schema.Table.{Table}
@@ -49,7 +49,21 @@ TakesTo s l (Ok New) t = t ≡ record { schema = s.schema; links = insert s.link
 TakesTo s l (Ok Held) t = t ≡ s
 TakesTo s l (Err e) t = t ≡ s
 
-abbrev pub IsFork : Result Took TakeError → Type 0
+-- what appending a link answers, where no held link has its prev: held links can contradict it by id alone
+abbrev pub AppendsAs : FinMap nat_cmp Link → Link → Result (Unit {0}) TakeError → Type 0
+AppendsAs m l (Ok u) = TakesAs m l (Ok New)
+AppendsAs m l (Err (Fork link Prev p i)) = ⊥
+AppendsAs m l (Err (Fork link Id p i)) = TakesAs m l (Err (Fork link Id p i))
+AppendsAs m l (Err (Full link)) = TakesAs m l (Err (Full link))
+AppendsAs m l (Err (NoMemory link)) = TakesAs m l (Err (NoMemory link))
+
+-- what appending a link leaves: the link is held, and is the last that is folded
+abbrev pub AppendsTo : Stored → Link → Result (Unit {0}) TakeError → Stored → Type 0
+AppendsTo s l (Ok u) t =
+    t ≡ record { schema = s.schema; links = insert s.links l.prev l; folded = s.folded ++ l ∷ [] }
+AppendsTo s l (Err e) t = t ≡ s
+
+abbrev pub IsFork : {T : Type 0} → Result T TakeError → Type 0
 IsFork (Ok t) = ⊥
 IsFork (Err (Fork l b p i)) = Unit {0}
 IsFork (Err (Full l)) = ⊥

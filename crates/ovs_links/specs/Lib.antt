@@ -7,4 +7,7 @@ pub mod Store
 pub mod Kept
 pub mod Beside
 pub mod Answers
+pub mod Join
+pub mod MergeLists
+pub mod Merging
 pub mod Runs

@@ -42,6 +42,24 @@ pub enum TakeError {
     },
 }
 
+/// Why a store wasn't merged into another.
+#[derive(Debug, Drop, Error)]
+pub enum MergeError {
+    /// The held link with these ids is another link with the same prev as one of the other store, or else with the
+    /// same id.
+    #[error("a link of the other store contradicts one that is held")]
+    Fork {
+        by: By,
+        held_prev: TxnId,
+        held_id: TxnId,
+    },
+    /// The union has more than 1,000,000 links.
+    #[error("the store has no room for the links of the other")]
+    Full,
+    #[error("out of memory")]
+    NoMemory,
+}
+
 /// How settling ended.
 #[derive(Clone, Copy, Debug, PartialEq, Eq)]
 pub enum Settled {

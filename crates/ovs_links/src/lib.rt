@@ -3,16 +3,19 @@
 
 mod answer;
 mod folded;
+mod joins;
 mod laws;
 mod link;
+mod merging;
 mod run;
 mod scan;
 mod settling;
 mod step;
 mod store;
 
-pub use answer::{By, FoldError, Settled, TakeError, Took};
+pub use answer::{By, FoldError, MergeError, Settled, TakeError, Took};
 pub use folded::Folded;
+pub use joins::{join_associates, join_commutes, join_is_idempotent, join_is_union};
 pub use laws::{chain_depends_on_the_set_alone, history_is_a_chain, history_is_consistent};
 pub use link::{BadId, Link};
 pub use run::{fold_all, take_all};

@@ -63,6 +63,7 @@ fn beside_by_prev(links: &[Link], link: &Link) -> Beside
 
 fn beside_by_id(links: &[Link], link: &Link) -> Beside
     ensures found { HasById links.now link.now result }
+    ensures ends { AreEnds link.now.prev link.now.id }
 {
     match place_of_id(links, link.id()) {
         None => Beside::Nothing,
@@ -73,6 +74,17 @@ fn beside_by_id(links: &[Link], link: &Link) -> Beside
                 id: held.id(),
             }
         }
+    }
+}
+
+/// What two lists have beside a link by id alone.
+pub(crate) fn beside_id(chain: &[Link], parked: &[Link], link: &Link) -> Beside
+    ensures found { HasById (chain.now ++ parked.now) link.now result }
+    ensures ends { AreEnds link.now.prev link.now.id }
+{
+    match beside_by_id(chain, link) {
+        Beside::Nothing => beside_by_id(parked, link),
+        found => found,
     }
 }
 
@@ -89,8 +101,5 @@ pub(crate) fn beside_link(chain: &[Link], parked: &[Link], link: &Link) -> Besid
         Beside::Nothing => {}
         found => return found,
     }
-    match beside_by_id(chain, link) {
-        Beside::Nothing => beside_by_id(parked, link),
-        found => found,
-    }
+    beside_id(chain, parked, link)
 }

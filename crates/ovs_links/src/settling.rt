@@ -1,6 +1,6 @@
-//! Folding parked links.
+//! Folding links: parked ones, and one that was never parked.
 
-ghost use Rattle.std.specs.Prelude.{◌≡◌, ◌<◌, ◌++◌, ◌∷◌, [], IfOk, OnOk, OnErr, remove, slice_index_or, true, vec_len};
+ghost use Rattle.std.specs.Prelude.{◌≡◌, ◌<◌, ◌++◌, ◌∷◌, [], IfOk, OnOk, OnErr, remove, slice_index_or, true, vec_len, IfErr};
 ghost use Rattle.ovs_rows.specs.After.{fits};
 ghost use Rattle.ovs_links.specs.Sets.{IsOfTables};
 ghost use Rattle.ovs_links.specs.Chains.{IsPrefixOf, head_after};
@@ -45,6 +45,38 @@ fn fold_one(
     folded.fold(alloc, &parked[k])?;
     let link = parked.remove(k);
     match chain.push(link) {
+        Ok(()) => Ok(()),
+        Err(_) => unreachable!(),
+    }
+}
+
+/// Puts a link at the end of the chain, and folds it. Where memory is refused, hands it back, and changes nothing.
+pub(crate) fn fold_next(
+    alloc: Global,
+    chain: &mut Vec<Link>,
+    folded: &mut Folded,
+    head: &mut TxnId,
+    next: Link,
+) -> Result<(), Link>
+    requires fits { fits folded.old.database.rows next.change ≡ true }
+    requires of_tables { IsOfTables folded.old.database.schema.description.tables next }
+    ensures chain { OnOk result (chain.new.items ≡ chain.old.items ++ next ∷ []) }
+    ensures folded { OnOk result (folded.new ≡ folded_with folded.old next) }
+    ensures head { OnOk result (head.new ≡ next.id) }
+    ensures returned { IfErr result (λ l. l ≡ next) }
+    ensures chain_kept { OnErr result (chain.new.items ≡ chain.old.items) }
+    ensures folded_kept { OnErr result (folded.new ≡ folded.old) }
+    ensures head_kept { OnErr result (head.new ≡ head.old) }
+{
+    if chain.reserve(1).is_err() {
+        return Err(next);
+    }
+    match folded.fold(alloc, &next) {
+        Ok(()) => {}
+        Err(NoMemory) => return Err(next),
+    }
+    *head = next.id();
+    match chain.push(next) {
         Ok(()) => Ok(()),
         Err(_) => unreachable!(),
     }

@@ -1,20 +1,23 @@
 //! A store of links with their longest chain.
 
-ghost use Rattle.std.specs.Prelude.{◌≡◌, ◌≤◌, ◌+◌, ◌↔◌, [], List, IsTrue, IfOk, IfSome, OnOk, OnErr, Some, length, take};
+ghost use Rattle.std.specs.Prelude.{◌≡◌, ◌≤◌, ◌+◌, ◌↔◌, [], List, IsTrue, IfOk, IfSome, OnOk, OnErr, Some, length, take, true};
 ghost use Rattle.std.specs.FinMap as map;
 ghost use Rattle.std.specs.Option.{option_copied};
+ghost use Rattle.ovs_rows.specs.After.{fits};
 ghost use Rattle.ovs_links.specs.Sets.{Holds, IsOfTables};
 ghost use Rattle.ovs_links.specs.Chains.{IsPrefixOf, head_after};
 ghost use Rattle.ovs_links.specs.Steps.{folded_of};
 ghost use Rattle.ovs_links.specs.Store.{Stored, IsStore, IsChainOf, tables_of, head_of, rows_of, link_at, max_links};
-ghost use Rattle.ovs_links.specs.Answers.{SettlesAs, TakesAs, TakesTo, IsSourceChain, IsOfSource, IsFork};
+ghost use Rattle.ovs_links.specs.Answers.{SettlesAs, TakesAs, TakesTo, AppendsAs, AppendsTo, IsSourceChain, IsOfSource, IsFork};
+ghost use Rattle.ovs_links.specs.Merging.{MergesAs, MergesTo, AreOfOneSource, IsMergeFork};
 ghost use Rattle.ovs_links.specs.declared.link.Link.{Link};
 
-use crate::answer::{By, Settled, TakeError, Took};
+use crate::answer::{By, MergeError, Settled, TakeError, Took};
 use crate::folded::Folded;
 use crate::link::Link;
-use crate::scan::{Beside, beside_link, place_of_id};
-use crate::settling::settle_lists;
+use crate::merging::{add_new, count_new, least_contradiction};
+use crate::scan::{Beside, beside_id, beside_link, place_of_id};
+use crate::settling::{fold_next, settle_lists};
 use ovs_rows::Database;
 use ovs_types::{NoMemory, Schema, TxnId};
 use std::alloc::Global;
@@ -113,6 +116,88 @@ impl LinkStore {
             return Err(TakeError::NoMemory { link: failed.value });
         }
         Ok(Took::New)
+    }
+
+    /// Adds a link that follows the head and fits the database, and folds it. No other link may follow the head, as
+    /// after `Done`. In this order of refusals: `Fork` where another held link has its id; `Full` where the store has
+    /// `MAX_LINKS` links; `NoMemory`. A refused link is handed back, and the store is as it was, its database too.
+    pub fn append(&mut self, alloc: Global, link: Link) -> Result<(), TakeError>
+        requires of_tables { IsOfTables (tables_of self.old) link }
+        requires done { SettlesAs self.old Settled.Done }
+        requires next { link.prev ≡ head_of self.old }
+        requires fits { fits (rows_of self.old) link.change ≡ true }
+        ensures answer { AppendsAs self.old.links link result }
+        ensures after { AppendsTo self.old link result self.new }
+
+        // Links of one history are never refused as contradictions.
+        ensures source { IsOfSource (tables_of self.old) (Holds self.old.links) link → ¬ (IsFork result) }
+
+        // The folded links are still the longest chain, where none that was parked follows this one.
+        ensures longest { OnOk result (SettlesAs self.new Settled.Done → IsChainOf self.new self.new.folded) }
+    {
+        if let Beside::Id { prev, id } = beside_id(&self.chain, &self.parked, &link) {
+            return Err(TakeError::Fork {
+                link,
+                by: By::Id,
+                held_prev: prev,
+                held_id: id,
+            });
+        }
+        if self.len() >= MAX_LINKS {
+            return Err(TakeError::Full { link });
+        }
+        if let Err(link) = fold_next(
+            alloc,
+            &mut self.chain,
+            &mut self.folded,
+            &mut self.head,
+            link,
+        ) {
+            return Err(TakeError::NoMemory { link });
+        }
+        Ok(())
+    }
+
+    /// The union: adds all links of another store over the same schema, and folds nothing. In this order of
+    /// refusals: `Fork` where a link of the other contradicts a held one; of those links that with the least id
+    /// decides, and the held link is named, by prev before id; `Full` where the union has more than `MAX_LINKS`
+    /// links; `NoMemory`. After each refusal the store is as it was.
+    pub fn merge(&mut self, other: &LinkStore) -> Result<(), MergeError>
+        requires same_schema { tables_of self.old ≡ tables_of other.now }
+        ensures answer { MergesAs self.old.links other.now.links result }
+        ensures after { MergesTo self.old other.now result self.new }
+
+        // Links of one history never refuse as contradictions.
+        ensures source { AreOfOneSource (tables_of self.old) (Holds self.old.links) (Holds other.now.links)
+            → ¬ (IsMergeFork result) }
+    {
+        if let Some(found) = least_contradiction(
+            &self.chain,
+            &self.parked,
+            &other.chain,
+            &other.parked,
+        ) {
+            return Err(MergeError::Fork {
+                by: found.by,
+                held_prev: found.held_prev,
+                held_id: found.held_id,
+            });
+        }
+        let more = count_new(&self.chain, &self.parked, &other.chain, &other.parked);
+        if self.chain.len() + self.parked.len() + more > MAX_LINKS {
+            return Err(MergeError::Full);
+        }
+        let added = add_new(
+            &self.chain,
+            &mut self.parked,
+            &other.chain,
+            &other.parked,
+            more,
+        );
+        if let Err(NoMemory) = added {
+            return Err(MergeError::NoMemory);
+        }
+        Ok(())
     }
 
     /// Folds the longest chain. `Done` where no held link follows it, and `Stuck` where one does that doesn't fit.
