@@ -22,10 +22,10 @@ use Rattle.ovs_relay.specs.Intake.{IsRefusalOf, with_link, outcome_of_link, outc
 use Rattle.ovs_relay.proofs.Same.{same_itself, not_same}
 use Rattle.ovs_relay.proofs.Values.{none_passes, one_passes}
 
-abbrev IsKeyed : FinMap nat_cmp Link → Type 0
+abbrev pub IsKeyed : FinMap nat_cmp Link → Type 0
 IsKeyed m = (prev : ℕ) (l : Link) → get m prev ≡ Some l → l.prev ≡ prev
 
-holds : (m : FinMap nat_cmp Link) → IsKeyed m → (q : ℕ) (h : Link) → get m q ≡ Some h → Holds m h
+pub holds : (m : FinMap nat_cmp Link) → IsKeyed m → (q : ℕ) (h : Link) → get m q ≡ Some h → Holds m h
 holds m keyed q h e = subst (λ k. get m k ≡ Some h) (sym (keyed q h e)) e
 
 no_prev : (m : FinMap nat_cmp Link) (l : Link) → IsKeyed m → NonePrev m l → get m l.prev ≡ None

@@ -1,6 +1,7 @@
 pub mod Breaks
 pub mod Taking
 pub mod Sent
+pub mod Texts
 pub mod Way
 pub mod Spent
 pub mod JsonLines
@@ -8,3 +9,6 @@ pub mod Same
 pub mod Values
 pub mod Intakes
 pub mod Closings
+pub mod Merges
+pub mod BothTexts
+pub mod CommandLines

@@ -4,8 +4,9 @@ use Rattle.std.proofs.lemmas.Grind.{common_steps}
 use Rattle.std.specs.Io.KnownBytes.{Appends, prepend_known}
 use Rattle.std.proofs.KnownBytes.{Appends-nil, Appends-trans}
 use Rattle.ovs_relay.specs.Sending.{AppendsAllBut, AppendsBeginning}
+use Rattle.ovs_relay.proofs.Sent.{sent_then}
 use Rattle.ovs_relay.specs.Lines.{lines_of, kept, TakesLine}
-use Rattle.ovs_relay.specs.Rules.{Rules, AreFirstLines, answers_from, answers_to, state_from, state_after, script_output}
+use Rattle.ovs_relay.specs.Rules.{Rules, AreFirstLines, answers_from, answers_to, state_from, state_after}
 
 -- ---- the lines of two parts
 
@@ -311,50 +312,43 @@ pub answered_so_far : {S : Type 0} (rules : Rules S) (first : S) (start before n
 answered_so_far rules first start before now waited waiting s n left so_far =
     answers_only rules first start before now waited waiting s (heard rules first start before now waited waiting s n left so_far)
 
--- ---- the last words
+-- ---- a text behind the answers
 
--- a beginning of the answers begins the output too
-pub closing_begun : {S : Type 0} (rules : Rules S) (first : S) (start before now : Option (List ℕ)) (waited waiting : List ℕ)
+-- a beginning of the answers begins them with a text behind them too
+pub begun_before : {S : Type 0} (rules : Rules S) (first : S) (start before now : Option (List ℕ)) (waited waiting : List ℕ) (behind : List ℕ → List ℕ)
     → Begun rules first start before now waited waiting
-    → IfSome start (λ text. (others : List ℕ) × AppendsAllBut before now (waited ++ script_output rules first text) (waiting ++ others))
-closing_begun rules first None before now waited waiting so_far = tt
-closing_begun rules first (Some text) before now waited waiting so_far =
-    let closing = rules.closing (state_after rules first text) in
+    → IfSome start (λ text. (others : List ℕ) × AppendsAllBut before now (waited ++ (answers_to rules first text ++ behind text)) (waiting ++ others))
+begun_before rules first None before now waited waiting behind so_far = tt
+begun_before rules first (Some text) before now waited waiting behind so_far =
     let others = so_far.0 in
     let sent = so_far.1 in (
-      others ++ closing,
+      others ++ behind text,
       (
         sent.0,
         sent.1,
-        sym (append_assoc waited (answers_to rules first text) closing) ∙ ap (λ l. l ++ closing) sent.2
-            ∙ append_assoc sent.0 (waiting ++ others) closing ∙ ap (λ l. sent.0 ++ l) (append_assoc waiting others closing),
+        sym (append_assoc waited (answers_to rules first text) (behind text)) ∙ ap (λ l. l ++ behind text) sent.2
+            ∙ append_assoc sent.0 (waiting ++ others) (behind text) ∙ ap (λ l. sent.0 ++ l) (append_assoc waiting others (behind text)),
       ),
     )
 
--- the last words are begun
-pub closing_sent : {S : Type 0} (rules : Rules S) (first : S) (start before now new : Option (List ℕ)) (waited waiting none : List ℕ) (s : S)
-    → IfSome start (λ text. AppendsAllBut before now (waited ++ answers_to rules first text) waiting) → IfSome start (λ text. s ≡ state_after rules first text)
-    → (others : List ℕ) × AppendsAllBut now new (waiting ++ rules.closing s) (none ++ others)
-    → IfSome start (λ text. (others : List ℕ) × AppendsAllBut before new (waited ++ script_output rules first text) (none ++ others))
-closing_sent rules first None before now new waited waiting none s sent state more = tt
-closing_sent rules first (Some text) before now new waited waiting none s sent state more =
-    let part = more.1 in (
-      more.0,
-      (
-        sent.0 ++ part.0,
-        Appends-trans before now new sent.0 part.0 sent.1 part.1,
-        sym (append_assoc waited (answers_to rules first text) _) ∙ ap (λ l. l ++ rules.closing (state_after rules first text)) sent.2
-            ∙ ap (λ z. (sent.0 ++ waiting) ++ rules.closing z) (sym state) ∙ append_assoc sent.0 waiting (rules.closing s)
-            ∙ ap (λ l. sent.0 ++ l) part.2 ∙ sym (append_assoc sent.0 part.0 (none ++ more.0)),
-      ),
-    )
+-- a beginning of the text behind them is sent
+pub begun_behind : {S : Type 0} (rules : Rules S) (first : S) (start before now new : Option (List ℕ)) (waited waiting none said : List ℕ) (behind : List ℕ → List ℕ)
+    → IfSome start (λ text. AppendsAllBut before now (waited ++ answers_to rules first text) waiting) → IfSome start (λ text. said ≡ behind text)
+    → (others : List ℕ) × AppendsAllBut now new (waiting ++ said) (none ++ others)
+    → IfSome start (λ text. (others : List ℕ) × AppendsAllBut before new (waited ++ (answers_to rules first text ++ behind text)) (none ++ others))
+begun_behind rules first None before now new waited waiting none said behind sent is more = tt
+begun_behind rules first (Some text) before now new waited waiting none said behind sent is more = (
+  more.0,
+  sent_then before now new waited (answers_to rules first text) (behind text) waiting (none ++ more.0) sent
+      (subst (λ (l : List ℕ). AppendsAllBut now new (waiting ++ l) (none ++ more.0)) is more.1),
+)
 
 -- what waited at a fault is written, or a beginning of it
-pub gave_up : {S : Type 0} (rules : Rules S) (first : S) (start before now new : Option (List ℕ)) (waiting : List ℕ)
-    → IfSome start (λ text. (others : List ℕ) × AppendsAllBut before now ([] ++ script_output rules first text) (waiting ++ others))
-    → AppendsBeginning now new waiting → IfSome start (λ text. AppendsBeginning before new (script_output rules first text))
-gave_up rules first None before now new waiting so_far sent = tt
-gave_up rules first (Some text) before now new waiting so_far sent =
+pub gave_up : (start before now new : Option (List ℕ)) (waiting : List ℕ) (output : List ℕ → List ℕ)
+    → IfSome start (λ text. (others : List ℕ) × AppendsAllBut before now ([] ++ output text) (waiting ++ others))
+    → AppendsBeginning now new waiting → IfSome start (λ text. AppendsBeginning before new (output text))
+gave_up None before now new waiting output so_far sent = tt
+gave_up (Some text) before now new waiting output so_far sent =
     let lost = sent.0 in
     let part = sent.1 in
     let others = so_far.0 in

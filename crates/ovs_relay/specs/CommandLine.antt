@@ -1,10 +1,33 @@
--- Which words the program takes.
-use Rattle.std.specs.Prelude.{codes, true}
-use Rattle.clap.specs.Words.{App, new_app, with_subcommand}
+-- Which words the program takes, and what they ask for.
+use Rattle.std.specs.Prelude.{◌≡◌, List, Option, Some, codes, true, option_map, option_and_then, string_bytes}
+use Rattle.clap.specs.Words.{App, Row, Rule, Text, new_app, new_rule, first_of, subcommand_of, with_rule, with_subcommand}
+use Rattle.clap.specs.declared.builder.action.ArgAction.TheVariants.{Set}
+use Rattle.ovs_relay.specs.declared.command.Task.{Task}
+use Rattle.ovs_relay.specs.declared.command.Task.TheVariants.{Fold, Help}
+
+-- the option `--merge`, which has one word after it
+abbrev pub merge_rule : Rule
+merge_rule = record (new_rule (codes "merge")) { long = Some (codes "merge"); action = Some Set; value_names = 1 }
+
+abbrev pub fold_app : App
+fold_app = with_rule (new_app (codes "fold")) merge_rule
 
 abbrev pub with_fold : App
-with_fold = with_subcommand (new_app (codes "ovs_relay")) (new_app (codes "fold")).top
+with_fold = with_subcommand (new_app (codes "ovs_relay")) fold_app.top
 
 -- the program as `clap` sees it: one command, fold, which has to be named
 abbrev pub program : App
 program = record with_fold { top = record with_fold.top { subcommand_required = true; disable_help_subcommand = true } }
+
+-- the word after `--merge` that a subcommand has, if it has one
+abbrev pub merge_of : Option (Text × List Row) → Option Text
+merge_of found = option_and_then (λ p. first_of (codes "merge") p.1) found
+
+-- the word after `--merge`, if these words have one
+abbrev pub merge_word : List Text → Option Text
+merge_word words = merge_of (subcommand_of program words)
+
+-- it is asked to fold, with this word after `--merge`
+abbrev pub AsksToFold : Option Text → Task → Type 0
+AsksToFold word (Fold merge) = option_map string_bytes merge ≡ word
+AsksToFold word (Help text) = ⊥

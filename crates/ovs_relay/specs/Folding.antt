@@ -10,7 +10,7 @@ use Rattle.ovs_relay.specs.declared.words.Outcome.TheVariants.{Took, Held, Refus
 use Rattle.ovs_relay.specs.declared.fold.Stage.{Stage}
 use Rattle.ovs_relay.specs.declared.fold.Stage.TheVariants.{Schema, Links, Over}
 use Rattle.ovs_relay.specs.declared.fold.Fold.{Fold}
-use Rattle.ovs_relay.specs.Rules.{Rules, script_output, is_content_with}
+use Rattle.ovs_relay.specs.Rules.{Rules}
 use Rattle.ovs_relay.specs.Reading.{schema_of_line, link_of_line}
 use Rattle.ovs_relay.specs.Intake.{outcome_of_line, store_after_line}
 use Rattle.ovs_relay.specs.Closing.{end_text, is_whole_chain}
@@ -78,11 +78,3 @@ fold_rules = record {
 
 abbrev pub beginning : Fold
 beginning = record { stage = Schema; refused = false }
-
--- what `fold` writes for an input
-abbrev pub fold_output : List ℕ → List ℕ
-fold_output input = script_output fold_rules beginning input
-
--- whether nothing of the input was refused, and the chain isn't stuck
-abbrev pub is_clean : List ℕ → Bool
-is_clean input = is_content_with fold_rules beginning input

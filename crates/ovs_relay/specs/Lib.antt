@@ -10,4 +10,8 @@ pub mod Same
 pub mod Intake
 pub mod Closing
 pub mod Folding
+pub mod Stores
+pub mod Merge
+pub mod Merging
+pub mod TwoTexts
 pub mod CommandLine

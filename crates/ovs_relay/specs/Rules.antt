@@ -35,6 +35,10 @@ answers_to rules s text = answers_from rules s 0 (lines_of text)
 abbrev pub AreFirstLines : List (List ℕ) → List ℕ → Type 0
 AreFirstLines first text = (others : List (List ℕ)) × (lines_of text ≡ first ++ others)
 
+-- what is said to some first lines of a text
+abbrev pub AreAnswersToFirst : {S : Type 0} → Rules S → S → List ℕ → List ℕ → Type 0
+AreAnswersToFirst rules s text said = (lines : List (List ℕ)) × AreFirstLines lines text × (said ≡ answers_from rules s 0 lines)
+
 -- the state after the lines of a text
 abbrev pub state_after : {S : Type 0} → Rules S → S → List ℕ → S
 state_after rules s text = state_from rules s 0 (lines_of text)

@@ -1,5 +1,5 @@
 -- The words for what becomes of a line.
-use Rattle.std.specs.Prelude.{ℕ, List, ◌++◌, codes}
+use Rattle.std.specs.Prelude.{ℕ, List, ◌++◌, Result, Ok, Err, codes}
 use Rattle.std.specs.Fmt.{decimal}
 use Rattle.ovs_types.specs.Id.{id_text}
 use Rattle.ovs_relay.specs.declared.words.Refusal.{Refusal}
@@ -45,3 +45,8 @@ abbrev pub outcome_line : ℕ → Outcome → List ℕ
 outcome_line n Took = decimal n ++ codes " took\n"
 outcome_line n Held = decimal n ++ codes " held\n"
 outcome_line n (Refused refusal) = decimal n ++ (codes " refused " ++ (link_word refusal ++ codes "\n"))
+
+-- the line that tells how two stores were merged
+abbrev pub merge_line : Result (Unit {0}) Refusal → List ℕ
+merge_line (Ok u) = codes "merge ok\n"
+merge_line (Err refusal) = codes "merge refused " ++ (link_word refusal ++ codes "\n")

@@ -115,6 +115,7 @@ fn settle(alloc: Global, store: &mut LinkStore) -> Result<Option<TxnId>, NoMemor
 pub fn close_store(alloc: Global, store: &mut LinkStore, refused: bool) -> Result<Closing, NoMemory>
     ensures text { IfOk result (λ closing. string_bytes closing.text ≡ end_text store.old) }
     ensures content { IfOk result (λ closing. closing.is_content ≡ (not refused && is_whole_chain store.old)) }
+    ensures schema { store.new.schema ≡ store.old.schema }
 {
     let stuck = settle(alloc, store)?;
     let text = last_lines(alloc, store, stuck)?;

@@ -1,18 +1,18 @@
 //! The command line.
-ghost use Rattle.std.specs.Prelude.{◌≡◌, ◌≢◌, ◌⊎◌, [], true, map, Ok, Err, IfOk};
-ghost use Rattle.clap.specs.Words.{app_of, takes, fault_of, kind_of, FailsBy};
-ghost use Rattle.ovs_relay.specs.CommandLine.{program};
+ghost use Rattle.std.specs.Prelude.{◌≡◌, ℕ, List, Option, [], true, map, Err, IfOk, IfErr, option_map, string_bytes};
+ghost use Rattle.clap.specs.Words.{app_of, takes, fault_of, kind_of, FailsBy, HasMatchesOf, subcommand_rows_of};
+ghost use Rattle.ovs_relay.specs.CommandLine.{program, merge_of, merge_word, AsksToFold};
 
 use clap::error::ErrorKind;
-use clap::{Command, Error};
+use clap::{Arg, ArgAction, ArgMatches, Command, Error};
 use std::alloc::{AllocError, Global};
 use std::convert::AsStr;
 
 /// What a command line asks for.
 #[derive(Debug, Drop)]
 pub enum Task {
-    /// Fold a schema and links from standard input.
-    Fold,
+    /// Fold a schema and links from standard input, and merge the links of this file.
+    Fold { merge: Option<String> },
     /// Print this text and end.
     Help(String),
 }
@@ -41,9 +41,14 @@ impl From<AllocError> for CommandFault {
 fn commands<'a>(alloc: Global) -> Result<Command<'a>, AllocError>
     ensures value { IfOk result (λ c. app_of c ≡ program) }
 {
-    let fold = Command::new(alloc, "fold").about(
-        "Reads a schema and links from standard input and prints the database they make",
-    );
+    let merge = Arg::new(alloc, "merge")
+        .long("merge")
+        .action(ArgAction::Set)
+        .value_name("FILE")
+        .help("A file of links for a second store, which is merged into the first");
+    let fold = Command::new(alloc, "fold")
+        .about("Reads a schema and links from standard input and prints the database they make")
+        .arg(merge)?;
     Command::new(alloc, "ovs_relay")
         .about("A relay tier for OVSDB")
         .subcommand_required(true)
@@ -66,7 +71,7 @@ fn first_line(text: &str) -> &str {
 
 // What becomes of words that clap doesn't take.
 fn refused(alloc: Global, error: &Error) -> Result<Task, CommandFault>
-    ensures no_task { result ≢ Ok Task.Fold }
+    ensures no_task { IfOk result (λ task. (word : Option (List ℕ)) → ¬ (AsksToFold word task)) }
     ensures memory { kind_of error.now ≡ ErrorKind.OutOfMemory → result ≡ Err CommandFault.NoMemory }
 {
     let text = format!(in alloc; "{error}")?;
@@ -77,13 +82,32 @@ fn refused(alloc: Global, error: &Error) -> Result<Task, CommandFault>
     }
 }
 
-/// Reads a command line: the program's name and the words after it.
+// The word after `--merge`, if there is one.
+fn merge_of(alloc: Global, matches: &ArgMatches<'_>) -> Result<Option<String>, AllocError>
+    ensures value { IfOk result (λ word. option_map string_bytes word ≡ merge_of (subcommand_rows_of matches.now)) }
+{
+    let Some((_, fold)) = matches.subcommand() else {
+        return Ok(None);
+    };
+    match fold.get_str("merge") {
+        None => Ok(None),
+        Some(word) => Ok(Some(String::from_str(alloc, word)?)),
+    }
+}
+
+/// Reads a command line: the program's name and the words after it. `Usage` where they are no task, as where `--merge`
+/// has no word after it or stands twice, and `NoMemory`.
 pub fn command<S: AsStr>(alloc: Global, words: &[S]) -> Result<Task, CommandFault>
-    ensures accepted { takes program (map S.text words.now) ≡ true → (result ≡ Ok Task.Fold) ⊎ (result ≡ Err CommandFault.NoMemory) }
-    ensures only { result ≡ Ok Task.Fold → fault_of program (map S.text words.now) ≡ [] }
+    ensures accepted { takes program (map S.text words.now) ≡ true
+        → IfOk result (AsksToFold (merge_word (map S.text words.now))) × IfErr result (λ fault. fault ≡ CommandFault.NoMemory) }
+    ensures only { IfOk result (λ task. (word : Option (List ℕ)) → AsksToFold word task
+        → (fault_of program (map S.text words.now) ≡ []) × (word ≡ merge_word (map S.text words.now))) }
 {
     match commands(alloc)?.try_get_matches_from(words) {
-        Ok(_) => Ok(Task::Fold),
+        Ok(matches) => {
+            let merge = merge_of(alloc, &matches)?;
+            Ok(Task::Fold { merge })
+        }
         Err(error) => refused(alloc, &error),
     }
 }

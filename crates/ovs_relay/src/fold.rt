@@ -1,18 +1,21 @@
 //! The script `fold`: a schema, then links, and at the end the database that the longest chain makes.
 
-ghost use Rattle.std.specs.Prelude.{◌≡◌, ◌≤◌, ◌+◌, ℕ, List, IsTrue, IfSome, if◌then◌else◌};
+ghost use Rattle.std.specs.Prelude.{◌≡◌, ◌≤◌, ◌+◌, ℕ, List, IsTrue, IfOk, IfSome, is_some, if◌then◌else◌};
 ghost use Rattle.std.specs.Io.KnownBytes.{Appends};
-ghost use Rattle.ovs_wire.specs.Counted.{one_more};
 ghost use Rattle.ovs_relay.specs.Sending.{AppendsBeginning};
-ghost use Rattle.ovs_relay.specs.Rules.{AreFirstLines, answers_from};
 ghost use Rattle.ovs_relay.specs.RunEnd.{is_whole, writes_failed_by};
-ghost use Rattle.ovs_relay.specs.Folding.{fold_rules, beginning, fold_output, is_clean};
+ghost use Rattle.ovs_relay.specs.Folding.{fold_rules, beginning};
+ghost use Rattle.ovs_relay.specs.Merging.{merging_of, fold_output, is_clean, AreFirstAnswers};
+ghost use Rattle.ovs_relay.specs.TwoTexts.{WithText, OneGrew, counted_of};
 
 use crate::closing::close_store;
 use crate::intake::answer_line;
+use crate::merging::Merging;
 use crate::reading::{link_of_line, schema_of_line};
 use crate::run::{RunEnd, run_script};
 use crate::script::{Closing, Script};
+use crate::stores::TwoStores;
+use crate::two_texts::fold_both;
 use crate::words::SchemaRefusal;
 use ovs_links::LinkStore;
 use ovs_types::NoMemory;
@@ -46,6 +49,29 @@ impl Fold {
         Fold {
             stage: Stage::Schema,
             refused: false,
+        }
+    }
+}
+
+impl Fold {
+    /// What a second text is for, behind the input that was heard.
+    pub fn into_merging(self, alloc: Global) -> Result<Merging, NoMemory>
+        ensures value { IfOk result (λ merging. merging ≡ merging_of self) }
+    {
+        let Fold { stage, refused } = self;
+        match stage {
+            Stage::Links(first) => Ok(Merging::Both {
+                stores: TwoStores::new(alloc, first)?,
+                refused,
+            }),
+            Stage::Schema => Ok(Merging::Neither(Fold {
+                stage: Stage::Schema,
+                refused,
+            })),
+            Stage::Over => Ok(Merging::Neither(Fold {
+                stage: Stage::Over,
+                refused,
+            })),
         }
     }
 }
@@ -98,39 +124,51 @@ impl Script for Fold {
     }
 }
 
-/// Reads a schema and links, line by line, and writes what became of each and the database that they make.
+/// Reads a schema and links, line by line, and writes what became of each and the database that they make. Where there
+/// is a second reader, its links go into a second store, which is then merged into the first.
 ///
-/// The text is all that the reader has left. The run makes at most 1,000,000 read and write calls. Where it breaks off,
-/// a beginning of the output is written: at `ReadFault` all answers to the lines that were read, at `NoMemory` those to
-/// some first lines.
-pub fn fold_run<R: Read, W: Write>(
+/// The texts are all that the readers have left. The second isn't read where the schema is refused. The run makes at
+/// most 1,000,000 read and write calls. Where it breaks off, a beginning of the output is written: at `ReadFault` all
+/// answers to the lines that were read, at `NoMemory` those to some first lines, of the input before the second text.
+pub fn fold_run<R: Read, M: Read, W: Write>(
     alloc: Global,
     reader: &mut Counted<R>,
+    merge: &mut Option<Counted<M>>,
     writer: &mut Counted<W>,
 ) -> RunEnd
     // All of the output is written, and the end tells whether all was taken.
-    ensures whole { IsTrue (is_whole result) → IfSome (R.remaining reader.old.device) (λ text.
-        Appends (W.contents writer.old.device) (W.contents writer.new.device) (fold_output text)) }
-    ensures status { IsTrue (is_whole result) → IfSome (R.remaining reader.old.device) (λ text.
-        result ≡ (if is_clean text then RunEnd.Clean else RunEnd.Refused)) }
+    ensures whole { IsTrue (is_whole result) → IfSome (R.remaining reader.old.device) (λ input.
+        WithText (λ m. M.remaining m.device) merge.old (λ text.
+        Appends (W.contents writer.old.device) (W.contents writer.new.device) (fold_output input text))) }
+    ensures status { IsTrue (is_whole result) → IfSome (R.remaining reader.old.device) (λ input.
+        WithText (λ m. M.remaining m.device) merge.old (λ text.
+        result ≡ (if is_clean input text then RunEnd.Clean else RunEnd.Refused))) }
 
     // At every end a beginning of the output is written.
-    ensures begun { IfSome (R.remaining reader.old.device) (λ text.
-        AppendsBeginning (W.contents writer.old.device) (W.contents writer.new.device) (fold_output text)) }
-    ensures heard { result ≡ RunEnd.ReadFault → IfSome (R.remaining reader.old.device) (λ text.
-        (lines : List (List ℕ)) × AreFirstLines lines text
-        × Appends (W.contents writer.old.device) (W.contents writer.new.device) (answers_from fold_rules beginning 0 lines)) }
-    ensures answered { result ≡ RunEnd.NoMemory → IfSome (R.remaining reader.old.device) (λ text.
-        (lines : List (List ℕ)) × AreFirstLines lines text
-        × Appends (W.contents writer.old.device) (W.contents writer.new.device) (answers_from fold_rules beginning 0 lines)) }
+    ensures begun { IfSome (R.remaining reader.old.device) (λ input.
+        WithText (λ m. M.remaining m.device) merge.old (λ text.
+        AppendsBeginning (W.contents writer.old.device) (W.contents writer.new.device) (fold_output input text))) }
+    ensures heard { result ≡ RunEnd.ReadFault → IfSome (R.remaining reader.old.device) (λ input.
+        WithText (λ m. M.remaining m.device) merge.old (λ text. (said : List ℕ) × AreFirstAnswers input text said
+        × Appends (W.contents writer.old.device) (W.contents writer.new.device) said)) }
+    ensures answered { result ≡ RunEnd.NoMemory → IfSome (R.remaining reader.old.device) (λ input.
+        WithText (λ m. M.remaining m.device) merge.old (λ text. (said : List ℕ) × AreFirstAnswers input text said
+        × Appends (W.contents writer.old.device) (W.contents writer.new.device) said)) }
 
     // At most 1,000,000 calls are made.
-    ensures calls { reader.new.calls + writer.new.calls ≤ reader.old.calls + writer.old.calls + 1000000 }
+    ensures calls { reader.new.calls + counted_of (λ m. m.calls) merge.new + writer.new.calls
+        ≤ reader.old.calls + counted_of (λ m. m.calls) merge.old + writer.old.calls + 1000000 }
 
     // The faults of the devices are those that were counted.
-    ensures read_fault { result ≡ RunEnd.ReadFault → reader.new.failures ≡ one_more reader.old.failures }
-    ensures no_read_fault { IsTrue (is_whole result) → reader.new.failures ≡ reader.old.failures }
+    ensures read_fault { result ≡ RunEnd.ReadFault → OneGrew reader.old.failures reader.new.failures
+        (counted_of (λ m. m.failures) merge.old) (counted_of (λ m. m.failures) merge.new) }
+    ensures no_read_fault { IsTrue (is_whole result) → (reader.new.failures ≡ reader.old.failures)
+        × (counted_of (λ m. m.failures) merge.new ≡ counted_of (λ m. m.failures) merge.old) }
     ensures write_failures { writer.new.failures ≡ writes_failed_by writer.old.failures result }
+    ensures second { is_some merge.new ≡ is_some merge.old }
 {
-    run_script(alloc, &mut Fold::new(), reader, writer)
+    match merge {
+        None => run_script(alloc, &mut Fold::new(), reader, writer),
+        Some(second) => fold_both(alloc, reader, second, writer),
+    }
 }

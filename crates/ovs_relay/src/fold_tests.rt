@@ -8,7 +8,12 @@ use std::process::Abort;
 fn check(rt: &(impl Abort + AllocGlobal), input: &str, want: &str, end: RunEnd) {
     let mut reader = Counted::new(input.as_bytes());
     let mut writer = Counted::new(Vec::new(rt.alloc()));
-    let got = fold_run(rt.alloc(), &mut reader, &mut writer);
+    let got = fold_run(
+        rt.alloc(),
+        &mut reader,
+        &mut None::<Counted<&[u8]>>,
+        &mut writer,
+    );
     assert_eq!(rt; got, end);
     assert!(rt;
         writer.device().as_slice() == want.as_bytes(),

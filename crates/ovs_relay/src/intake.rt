@@ -46,6 +46,7 @@ fn take_link(store: &mut LinkStore, link: Link) -> Result<Outcome, NoMemory>
     requires tables { IsChangeOf (tables_of store.old) link.change }
     ensures outcome { IfOk result (λ outcome. outcome ≡ outcome_of_link store.old.links link) }
     ensures after { OnOk result (store.new ≡ with_link store.old link (outcome_of_link store.old.links link)) }
+    ensures schema { store.new.schema ≡ store.old.schema }
 {
     let _ = store.head();
     match store.take(link) {
@@ -59,6 +60,7 @@ fn take_link(store: &mut LinkStore, link: Link) -> Result<Outcome, NoMemory>
 fn take_line(alloc: Global, store: &mut LinkStore, line: Option<&[u8]>) -> Result<Outcome, NoMemory>
     ensures outcome { IfOk result (λ outcome. outcome ≡ line_outcome store.old (option_map (λ l. l.now) line.entry)) }
     ensures after { OnOk result (store.new ≡ store_after_line store.old (link_of_line (tables_of store.old) (option_map (λ l. l.now) line.entry))) }
+    ensures schema { store.new.schema ≡ store.old.schema }
 {
     match link_of_line(alloc, line, store.schema())? {
         Ok(link) => take_link(store, link),
@@ -94,6 +96,7 @@ pub fn answer_line(
     ensures text { IfOk result (λ answer. string_bytes answer.text ≡ outcome_line number (line_outcome store.old (option_map (λ l. l.now) line.entry))) }
     ensures refused { IfOk result (λ answer. answer.is_refused ≡ is_refused (line_outcome store.old (option_map (λ l. l.now) line.entry))) }
     ensures after { OnOk result (store.new ≡ store_after_line store.old (link_of_line (tables_of store.old) (option_map (λ l. l.now) line.entry))) }
+    ensures schema { store.new.schema ≡ store.old.schema }
 {
     match take_line(alloc, store, line) {
         Ok(outcome) => answer_of(alloc, number, outcome),

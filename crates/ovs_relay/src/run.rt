@@ -52,7 +52,7 @@ impl From<Fault> for RunEnd {
 }
 
 // Reads the lines of a text, and puts the answers behind what waits already. What waits may be written on the way.
-fn run_lines<S: Script, R: Read, W: Write>(
+pub(crate) fn run_lines<S: Script, R: Read, W: Write>(
     alloc: Global,
     script: &mut S,
     reader: &mut Counted<R>,
@@ -136,7 +136,7 @@ fn finish<S: Script, W: Write>(
 }
 
 // Runs the script over a text to its end. The answer is whether the script is content.
-fn run_to_end<S: Script, R: Read, W: Write>(
+pub(crate) fn run_to_end<S: Script, R: Read, W: Write>(
     alloc: Global,
     script: &mut S,
     reader: &mut Counted<R>,
@@ -174,7 +174,7 @@ fn run_to_end<S: Script, R: Read, W: Write>(
 
 // Ends a run for a fault. After one that is not the writer's own, what waits is written first, and the writer's fault
 // then comes in the place of the other.
-fn give_up<W: Write>(
+pub(crate) fn give_up<W: Write>(
     writer: &mut Counted<W>,
     pending: &mut Pending,
     turns: &mut Turns,

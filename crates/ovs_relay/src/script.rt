@@ -1,5 +1,5 @@
 //! Scripts: what answers to the lines of a text.
-ghost use Rattle.std.specs.Prelude.{◌≡◌, IfOk, OnOk, string_bytes, option_map};
+ghost use Rattle.std.specs.Prelude.{◌≡◌, ◌<◌, ◌+◌, ◌^◌, IfOk, OnOk, string_bytes, option_map};
 
 use ovs_types::NoMemory;
 use std::alloc::Global;
@@ -23,10 +23,11 @@ pub trait Script {
     ghost rules: { Rules Self };
 
     /// Hears a line, with its number from 0 on, and answers it. The line comes without its LF; `None` is a line of
-    /// more than 16,777,216 bytes.
+    /// more than 16,777,216 bytes. The number is small enough to count from 1 too.
     ///
     /// After `NoMemory` the script is not asked again.
     fn take(&mut self, alloc: Global, number: u64, line: Option<&[u8]>) -> Result<String, NoMemory>
+        requires small { number + 1 < 2 ^ 64 }
         ensures text { IfOk result (λ text. string_bytes text ≡ rules.answer self.old number (option_map (λ bytes. bytes.now) line.entry)) }
         ensures after { OnOk result (self.new ≡ rules.after self.old number (option_map (λ bytes. bytes.now) line.entry)) };
 

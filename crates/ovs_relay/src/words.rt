@@ -3,7 +3,7 @@
 ghost use Rattle.std.specs.Prelude.{◌≡◌, ◌++◌, IfOk, codes, string_bytes};
 ghost use Rattle.std.specs.Fmt.{decimal};
 ghost use Rattle.ovs_types.specs.Id.{id_text};
-ghost use Rattle.ovs_relay.specs.Words.{link_word, schema_word, schema_line, outcome_line};
+ghost use Rattle.ovs_relay.specs.Words.{link_word, schema_word, schema_line, outcome_line, merge_line};
 
 use ovs_types::{NoMemory, TxnId};
 use std::alloc::{AllocError, Global};
@@ -158,6 +158,25 @@ impl Outcome {
                 let word = refusal.word(alloc)?;
                 Ok(refused_line(alloc, number, word.as_str())?)
             }
+        }
+    }
+}
+
+fn merge_refused_line(alloc: Global, word: &str) -> Result<String, AllocError>
+    ensures text { IfOk result (λ line. string_bytes line ≡ codes "merge refused " ++ (word.now ++ codes "\n")) }
+{
+    format!(in alloc; "merge refused {word}\n")
+}
+
+/// The line that tells how two stores were merged.
+pub fn merge_line(alloc: Global, merged: Result<(), Refusal>) -> Result<String, NoMemory>
+    ensures text { IfOk result (λ line. string_bytes line ≡ merge_line merged) }
+{
+    match merged {
+        Ok(()) => Ok(String::from_str(alloc, "merge ok\n")?),
+        Err(refusal) => {
+            let word = refusal.word(alloc)?;
+            Ok(merge_refused_line(alloc, word.as_str())?)
         }
     }
 }

@@ -6,8 +6,8 @@ use Rattle.ovs_relay.specs.Rules.{script_output}
 use Rattle.ovs_relay.specs.Folding.{fold_rules}
 use Rattle.ovs_relay.proofs.fold.fold_run.Goals as goal
 
-pub returns-clause-begun : goal.returns-clause-begun
-returns-clause-begun g c =
+pub returns-in-None-clause-begun : goal.returns-in-None-clause-begun
+returns-in-None-clause-begun g c =
     let said : Fold → Type 0 = λ f. IfSome (g.R.Read.remaining c.args.reader.now.device) (λ (text : List ℕ).
     AppendsBeginning (g.W.Write.contents c.args.writer.now.device) (g.W.Write.contents c.run_script.new.writer.device) (script_output fold_rules f text)) in
-    subst said c.new.ensures.value c.run_script.ensures.begun
+    rw c.in-None.is (subst said c.new.ensures.value c.run_script.ensures.begun)

@@ -1,3 +1,4 @@
+use Rattle.ovs_relay.specs.Rules.{script_output}
 use Rattle.ovs_relay.proofs.Way.{gave_up}
 use Rattle.ovs_relay.proofs.run.run_script.Goals as goal
 
@@ -7,4 +8,5 @@ returns-clause-begun g c =
     let before = g.W.Write.contents c.args.writer.now.device in
     let now = g.W.Write.contents c.run_to_end.new.writer.device in
     let new = g.W.Write.contents c.give_up.new.writer.device in
-    gave_up g.S.Script.rules c.args.script.now start before now new c.run_to_end.new.pending (rw c.new-pending.ensures.empty at c.in-Err.ensures.begun) c.give_up.ensures.begun
+    gave_up start before now new c.run_to_end.new.pending (script_output g.S.Script.rules c.args.script.now)
+    (rw c.new-pending.ensures.empty at c.in-Err.ensures.begun) c.give_up.ensures.begun

@@ -1,0 +1,135 @@
+//! Two stores, of which the second is merged into the first at the end.
+
+ghost use Rattle.std.specs.Prelude.{◌≡◌, ◌<◌, ◌+◌, ◌++◌, ◌^◌, ◌&&◌, not, IfOk, OnOk, codes, option_map, string_bytes};
+ghost use Rattle.ovs_links.specs.Store.{tables_of};
+ghost use Rattle.ovs_relay.specs.Folding.{line_outcome, is_refused};
+ghost use Rattle.ovs_relay.specs.Merge.{IsMergeRefusalOf, merge_outcome, merged};
+ghost use Rattle.ovs_relay.specs.Merging.{emptied, second_answer, stores_after_line, stores_closing, is_merged_whole};
+
+use crate::closing::close_store;
+use crate::intake::{Answer, answer_line};
+use crate::script::Closing;
+use crate::words::{Refusal, merge_line};
+use ovs_links::{LinkStore, MergeError};
+use ovs_types::NoMemory;
+use std::alloc::{AllocError, Global};
+use std::marker::Model;
+
+/// The store of the input, and one of the same schema for a second text.
+#[derive(Drop)]
+pub struct TwoStores {
+    first: LinkStore,
+    second: LinkStore,
+}
+
+impl Model for TwoStores {
+    ghost use Rattle.std.specs.Prelude.{◌≡◌, refl};
+    ghost use Rattle.std.specs.Coded.{code_by, coded×};
+    ghost use Rattle.ovs_links.specs.contracts.store.LinkStore as store_row;
+    ghost use Rattle.ovs_links.specs.Store.{Stored, tables_of};
+    ghost use Rattle.ovs_relay.specs.Stores.{Stores};
+
+    ghost Value = { Stores };
+
+    ghost coded = { code_by (Stored × Stored) (coded× store_row.the_row.coded store_row.the_row.coded)
+        (λ s. (s.first, s.second))
+        (λ p. record { first = p.0; second = p.1 }) (λ _. refl) };
+
+    ghost view = { λ s. record { first = s.first; second = s.second } };
+
+    ghost invariant = { λ s. tables_of s.first ≡ tables_of s.second };
+}
+
+// Why a store wasn't merged.
+fn merge_refusal_of(error: &MergeError) -> Result<Refusal, NoMemory>
+    ensures refusal { IfOk result (IsMergeRefusalOf error.now) }
+{
+    match error {
+        MergeError::Fork {
+            held_prev,
+            held_id,
+            ..
+        } => Ok(Refusal::Fork {
+            prev: *held_prev,
+            id: *held_id,
+        }),
+        MergeError::Full => Ok(Refusal::Full),
+        MergeError::NoMemory => Err(NoMemory),
+    }
+}
+
+// Merges the second store into the first. The inner answer is why that is refused.
+fn merge_stores(first: &mut LinkStore, second: &LinkStore) -> Result<Result<(), Refusal>, NoMemory>
+    requires same_schema { tables_of first.old ≡ tables_of second.now }
+    ensures outcome { IfOk result (λ outcome. outcome ≡ merge_outcome first.old second.now) }
+    ensures after { OnOk result (first.new ≡ merged first.old second.now) }
+    ensures schema { first.new.schema ≡ first.old.schema }
+{
+    let _ = first.head();
+    let _ = second.head();
+    match first.merge(second) {
+        Ok(()) => Ok(Ok(())),
+        Err(error) => Ok(Err(merge_refusal_of(&error)?)),
+    }
+}
+
+fn with_m(alloc: Global, line: &str) -> Result<String, AllocError>
+    ensures text { IfOk result (λ text. string_bytes text ≡ codes "m" ++ line.now) }
+{
+    format!(in alloc; "m{line}")
+}
+
+fn joined(alloc: Global, line: &str, end: &str) -> Result<String, AllocError>
+    ensures text { IfOk result (λ text. string_bytes text ≡ line.now ++ end.now) }
+{
+    format!(in alloc; "{line}{end}")
+}
+
+impl TwoStores {
+    /// A store, and beside it one of the same schema with no link.
+    pub fn new(alloc: Global, first: LinkStore) -> Result<TwoStores, NoMemory>
+        ensures value { IfOk result (λ stores. stores ≡ record { first = first; second = emptied first }) }
+    {
+        let second = LinkStore::new(alloc, first.schema())?;
+        Ok(TwoStores { first, second })
+    }
+
+    /// Takes the link of a line of the second text, with its number from 0, into the second store, and tells what
+    /// became of it.
+    pub fn answer_line(
+        &mut self,
+        alloc: Global,
+        number: u64,
+        line: Option<&[u8]>,
+    ) -> Result<Answer, NoMemory>
+        requires small { number + 1 < 2 ^ 64 }
+        ensures text { IfOk result (λ answer. string_bytes answer.text ≡ second_answer self.old number (option_map (λ l. l.now) line.entry)) }
+        ensures refused { IfOk result (λ answer. answer.is_refused ≡ is_refused (line_outcome self.old.second (option_map (λ l. l.now) line.entry))) }
+        ensures after { OnOk result (self.new ≡ stores_after_line self.old (option_map (λ l. l.now) line.entry)) }
+    {
+        let answer = answer_line(alloc, &mut self.second, number + 1, line)?;
+        Ok(Answer {
+            text: with_m(alloc, answer.text.as_str())?,
+            is_refused: answer.is_refused,
+        })
+    }
+
+    /// Merges the second store into the first, folds the longest chain of what that is then, and tells of both. It is
+    /// content where no line was refused, the stores were merged and the chain isn't stuck.
+    pub fn close(&mut self, alloc: Global, refused: bool) -> Result<Closing, NoMemory>
+        ensures text { IfOk result (λ closing. string_bytes closing.text ≡ stores_closing self.old) }
+        ensures content { IfOk result (λ closing. closing.is_content ≡ (not refused && is_merged_whole self.old)) }
+    {
+        let merged = match merge_stores(&mut self.first, &self.second) {
+            Ok(merged) => merged,
+            Err(error) => return Err(error),
+        };
+        let is_merged = merged.is_ok();
+        let line = merge_line(alloc, merged)?;
+        let end = close_store(alloc, &mut self.first, false)?;
+        Ok(Closing {
+            text: joined(alloc, line.as_str(), end.text.as_str())?,
+            is_content: !refused && (is_merged && end.is_content),
+        })
+    }
+}
