@@ -128,8 +128,8 @@ impl Script for Fold {
 /// is a second reader, its links go into a second store, which is then merged into the first.
 ///
 /// The texts are all that the readers have left. The second isn't read where the schema is refused. The run makes at
-/// most 1,000,000 read and write calls. Where it breaks off, a beginning of the output is written: at `ReadFault` all
-/// answers to the lines that were read, at `NoMemory` those to some first lines, of the input before the second text.
+/// most 1,000,000 read and write calls. Where it breaks off, a beginning of the output is written: at `ReadFault` and at
+/// `NoMemory` the answers to some first lines, of the input before the second text.
 pub fn fold_run<R: Read, M: Read, W: Write>(
     alloc: Global,
     reader: &mut Counted<R>,
