@@ -6,8 +6,8 @@
 Each script has a schema with all four kinds of column (a string, a set of integers, a map of strings, an
 optional boolean) and N links: one in three inserts a row, the others modify one. The loop parses the same
 lines with `json.loads` and applies them to a dict, with no check of its input. Both run as processes of
-their own, three times each; the least time counts. Printed are seconds, the peak of memory in MiB, and the
-ratio of the program to the loop.
+their own, three times each; the least time counts. Printed are seconds, the peak of memory in MiB of one run
+more, and the ratios of the program to the loop.
 """
 import argparse
 import json
@@ -102,19 +102,52 @@ def plain_loop(path):
     print(len(database))
 
 
-def measured(command, source):
-    """Least seconds of three runs, and the peak of memory in MiB."""
-    seconds, peak = [], 0
+def started(command, source):
+    return subprocess.Popen(command, stdin=source, stdout=subprocess.DEVNULL)
+
+
+def checked(command, process):
+    if process.wait() != 0:
+        sys.exit(f"{command}: status {process.returncode}")
+
+
+def least_seconds(command, path):
+    """Least seconds of three runs."""
+    seconds = []
     for _ in range(3):
-        with open(source, "rb") as stdin:
+        with open(path, "rb") as source:
             start = time.monotonic()
-            process = subprocess.Popen(command, stdin=stdin, stdout=subprocess.DEVNULL)
-            _pid, status, usage = os.wait4(process.pid, 0)
+            checked(command, started(command, source))
             seconds.append(time.monotonic() - start)
-        if status != 0:
-            sys.exit(f"{command}: status {status}")
-        peak = max(peak, usage.ru_maxrss / 1024)
-    return min(seconds), peak
+    return min(seconds)
+
+
+def high_water(number):
+    """The most memory that a process has had so far in KiB, or 0 where it has ended."""
+    try:
+        with open(f"/proc/{number}/status", encoding="ascii") as status:
+            return next((int(line.split()[1]) for line in status if line.startswith("VmHWM:")), 0)
+    except FileNotFoundError:
+        return 0
+
+
+def peak_memory(command, path):
+    """The peak of memory in MiB, looked at each millisecond of a run of its own.
+
+    What the kernel tells of an ended child counts the memory that this process had when it started it.
+    """
+    peak = 0
+    with open(path, "rb") as source:
+        process = started(command, source)
+        while process.poll() is None:
+            peak = max(peak, high_water(process.pid))
+            time.sleep(0.001)
+    checked(command, process)
+    return peak / 1024
+
+
+def measured(command, path):
+    return least_seconds(command, path), peak_memory(command, path)
 
 
 def main():
