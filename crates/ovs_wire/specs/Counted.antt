@@ -1,5 +1,5 @@
 -- A device with the numbers of calls on it and of their failures.
-use Rattle.std.specs.Prelude.{ℕ, ◌+◌, ◌-◌, ◌^◌, ◌==◌, ◌&&◌, not, Result, Ok, Err, Bool, true, false, min}
+use Rattle.std.specs.Prelude.{ℕ, ◌+◌, ◌-◌, ◌^◌, ◌==◌, not, Result, Ok, Err, Bool, true, false, min}
 use Rattle.std.specs.declared.io.ErrorKind.{ErrorKind}
 use Rattle.std.specs.declared.io.ErrorKind.TheVariants.{Interrupted, WouldBlock, TimedOut}
 use Rattle.std.specs.declared.io.Error.{Error}
@@ -27,7 +27,7 @@ abbrev pub is_failed_read : Result ℕ Error → Bool
 is_failed_read (Ok n) = false
 is_failed_read (Err e) = not (is_passing (error_kind e))
 
--- the device failed at a write of so many bytes with this answer: it took none of some bytes, or answered an error
-abbrev pub is_failed_write : ℕ → Result ℕ Error → Bool
-is_failed_write len (Ok n) = (n == 0) && not (len == 0)
-is_failed_write len (Err e) = not (is_passing (error_kind e))
+-- the device failed at a write with this answer: it took no byte, or answered an error
+abbrev pub is_failed_write : Result ℕ Error → Bool
+is_failed_write (Ok n) = n == 0
+is_failed_write (Err e) = not (is_passing (error_kind e))

@@ -1,5 +1,5 @@
 //! A device whose calls and failures are counted.
-ghost use Rattle.std.specs.Prelude.{◌≡◌, length, if◌then◌else◌};
+ghost use Rattle.std.specs.Prelude.{◌≡◌, if◌then◌else◌};
 ghost use Rattle.std.specs.IoError.{error_kind};
 ghost use Rattle.std.specs.Io.{ReadsAtMost, WritesAtMost};
 ghost use Rattle.std.specs.Io.KnownBytes.{Keeps, ReadConsumes, WriteAppends};
@@ -12,7 +12,7 @@ use std::marker::Model;
 ///
 /// A call is one `read` or one `write`; a `flush` is not counted. A call fails where the device answers an error
 /// other than `Interrupted`, `WouldBlock` or `TimedOut`, which say only that nothing passed this time, or where a
-/// write takes none of some bytes. Both counts start at 0 and stay at `u64::MAX` once there.
+/// write passes 0 bytes, also one of an empty buffer. Both counts start at 0 and stay at `u64::MAX` once there.
 #[derive(Debug, Drop)]
 pub struct Counted<D> {
     device: D,
@@ -102,11 +102,11 @@ fn is_failed_read(answer: &io::Result<usize>) -> bool
     }
 }
 
-fn is_failed_write(len: usize, answer: &io::Result<usize>) -> bool
-    ensures value { result ≡ is_failed_write len answer.now }
+fn is_failed_write(answer: &io::Result<usize>) -> bool
+    ensures value { result ≡ is_failed_write answer.now }
 {
     match answer {
-        Ok(taken) => *taken == 0 && len != 0,
+        Ok(len) => *len == 0,
         Err(error) => !is_passing(error),
     }
 }
@@ -135,10 +135,10 @@ impl<D: Write> Write for Counted<D> {
         ensures bytes { WriteAppends (D.contents self.old.device) (D.contents self.new.device) result buf.now }
         ensures calls { self.new.calls ≡ one_more self.old.calls }
         ensures failures { self.new.failures
-            ≡ (if is_failed_write (length buf.now) result then one_more self.old.failures else self.old.failures) }
+            ≡ (if is_failed_write result then one_more self.old.failures else self.old.failures) }
     {
         let answer = self.device.write(buf);
-        self.count(is_failed_write(buf.len(), &answer));
+        self.count(is_failed_write(&answer));
         answer
     }
 

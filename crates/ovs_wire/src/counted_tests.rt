@@ -87,9 +87,15 @@ fn passes_bytes_on(rt: HostRuntime) {
 #[test]
 fn counts_a_write_of_nothing_as_a_failure(rt: HostRuntime) {
     let mut writer = Counted::new(Full);
-    assert!(&rt; writer.write(b"").is_ok());
-    assert_eq!(&rt; writer.failures(), 0);
     assert!(&rt; writer.write(b"a").is_ok());
+    assert_eq!(&rt; writer.failures(), 1);
+    assert!(&rt; writer.write(b"").is_ok());
+    assert_eq!(&rt; writer.failures(), 2);
+    assert_eq!(&rt; writer.calls(), 2);
+    let mut writer = Counted::new(Vec::new(rt.alloc()));
+    assert!(&rt; writer.write(b"a").is_ok());
+    assert_eq!(&rt; writer.failures(), 0);
+    assert!(&rt; writer.write(b"").is_ok());
     assert_eq!(&rt; writer.failures(), 1);
     assert_eq!(&rt; writer.calls(), 2);
 }
