@@ -6,7 +6,7 @@ use Rattle.std.proofs.Math.Seq.{take-nil}
 use Rattle.std.proofs.lemmas.List.Elements.{All-append, All-nil, All-cons, All-head, All-tail}
 use Rattle.ovs_wire.specs.declared.error.FrameError.{FrameError}
 use Rattle.ovs_wire.specs.Frames.{Part, Space, Object, IsPart, IsSpace, IsObject, bytes_of, joined, objects, Ending, Rest, Fault, AreFrames, IsUnfinished, HasFault}
-use Rattle.ovs_wire.specs.Framing.{Framing, FeedsAfter, Feeds, Follows}
+use Rattle.ovs_wire.specs.Framing.{Framing, IsNew, FeedsAfter, Feeds, Takes, Follows}
 
 pub joined-append : (ps qs : List Part) → joined (ps ++ qs) ≡ joined ps ++ joined qs
 joined-append [] qs = refl
@@ -126,6 +126,20 @@ pub follows : (stream piece : List ℕ) (taken : List (List ℕ)) (old new : Fra
     → Feeds old piece new → Follows (stream ++ piece) taken new
 follows stream piece taken old new before feeds =
     follows_after stream piece taken old.ending old new before refl feeds
+
+-- nothing has come
+pub follows_none : (new : Framing) → IsNew new → Follows [] [] new
+follows_none new is =
+    subst (λ (l : List (List ℕ)). AreFrames [] l new.ending) (sym is.0)
+    (subst (λ (e : Ending). AreFrames [] [] e) (sym is.1) (only_rest [] nothing))
+
+-- the first message that waits is taken
+pub follows_taken : (stream message : List ℕ) (taken : List (List ℕ)) (old new : Framing) → Follows stream taken old
+    → Takes old message new → Follows stream (taken ++ message ∷ []) new
+follows_taken stream message taken old new before takes =
+    subst (λ (e : Ending). AreFrames stream ((taken ++ message ∷ []) ++ new.waiting) e) (sym takes.1)
+    (subst (λ (l : List (List ℕ)). AreFrames stream l old.ending)
+    (ap (λ l. taken ++ l) takes.0 ∙ sym (append_assoc taken (message ∷ []) new.waiting)) before)
 
 -- objects one after another
 pub only_objects : (found : List (List ℕ)) → All IsObject found → AreFrames (concat found) found (Rest [])

@@ -1,5 +1,5 @@
 -- What a framer holds, and what feeding it does.
-use Rattle.std.specs.Prelude.{◌≡◌, ℕ, Option, Some, None, Result, Ok, Err, List, ◌++◌}
+use Rattle.std.specs.Prelude.{◌≡◌, ℕ, Option, Some, None, Result, Ok, Err, List, [], ◌∷◌, ◌++◌}
 use Rattle.ovs_wire.specs.declared.error.FrameError.{FrameError}
 use Rattle.ovs_wire.specs.Frames.{Ending, Rest, Fault, AreFrames}
 
@@ -15,6 +15,10 @@ abbrev pub ending_of : Option FrameError → List ℕ → Ending
 ending_of None rest = Rest rest
 ending_of (Some fault) rest = Fault fault
 
+-- nothing has come yet
+abbrev pub IsNew : Framing → Type 0
+IsNew now = (now.waiting ≡ []) × (now.ending ≡ Rest [])
+
 -- the frames of what was left with the piece are added
 pub record Adds (old : Framing) (left : List ℕ) (piece : List ℕ) (new : Framing) : Type 0 where
   pub found : List (List ℕ)
@@ -28,6 +32,10 @@ FeedsAfter (Fault fault) old piece new = new ≡ old
 -- feeding the piece: after a fault nothing changes
 abbrev pub Feeds : Framing → List ℕ → Framing → Type 0
 Feeds old piece new = FeedsAfter old.ending old piece new
+
+-- taking the first message that waits: the others wait on
+abbrev pub Takes : Framing → List ℕ → Framing → Type 0
+Takes old message new = (old.waiting ≡ message ∷ new.waiting) × (new.ending ≡ old.ending)
 
 -- a feed answers the fault, where there is one
 abbrev pub Answers : {X : Type 0} → Ending → Result X FrameError → Type 0

@@ -1,6 +1,6 @@
 ghost use Rattle.std.specs.Prelude.{◌≡◌, ◌++◌, [], OnOk, OnErr, option_to_list};
-ghost use Rattle.ovs_wire.specs.Frames.{Rest, Fault};
-ghost use Rattle.ovs_wire.specs.Framing.{Feeds, Answers};
+ghost use Rattle.ovs_wire.specs.Frames.{Fault};
+ghost use Rattle.ovs_wire.specs.Framing.{IsNew, Feeds, Answers};
 
 use crate::error::{FrameError, NoMemory};
 use crate::frame::Frame;
@@ -59,8 +59,7 @@ impl Model for Framer {
 impl Framer {
     /// The framer of a stream of which nothing has come yet.
     pub fn new(alloc: Global) -> Framer
-        ensures waiting { result.waiting ≡ [] }
-        ensures ending { result.ending ≡ Rest [] }
+        ensures is_new { IsNew result }
     {
         Framer {
             waiting: VecDeque::new(alloc),

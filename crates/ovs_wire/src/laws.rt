@@ -1,10 +1,10 @@
-ghost use Rattle.std.specs.Prelude.{◌≡◌, ◌≤◌, ◌++◌, ℕ, List, [], IfOk, IfErr, All};
+ghost use Rattle.std.specs.Prelude.{◌≡◌, ◌≤◌, ◌++◌, ◌∷◌, ℕ, List, [], IfOk, IfErr, All};
 ghost use Rattle.std.specs.List.{concat};
 ghost use Rattle.serde_json.specs.Data.{depth};
 ghost use Rattle.serde_json.specs.Read.{max_depth};
 ghost use Rattle.ovs_wire.specs.declared.error.FrameError.{FrameError};
 ghost use Rattle.ovs_wire.specs.Frames.{Ending, Rest, Fault, IsObject, AreFrames};
-ghost use Rattle.ovs_wire.specs.Framing.{Framing, Feeds, Follows};
+ghost use Rattle.ovs_wire.specs.Framing.{Framing, IsNew, Feeds, Takes, Follows};
 ghost use Rattle.ovs_wire.specs.declared.message.Message.{Message};
 ghost use Rattle.ovs_wire.specs.Message.{Says, json};
 
@@ -37,10 +37,22 @@ pub fn a_fault_ends_the_stream()
         → AreFrames x found (Fault fault) → AreFrames (x ++ y) found (Fault fault) }
 {}
 
-/// However a stream is cut into pieces, a framer that is fed them gives the messages of the whole stream.
+/// A new framer follows the empty stream, with no message taken.
+pub fn a_new_framer_follows_the_empty_stream()
+    ensures law { (new : Framing) → IsNew new → Follows [] [] new }
+{}
+
+/// However a stream is cut into pieces, a framer that is fed them follows the whole stream: what was taken out, what
+/// waits and how it ends are the frames of all that came.
 pub fn feeds_follow_the_stream()
     ensures law { (stream piece : List ℕ) (taken : List (List ℕ)) (old new : Framing)
         → Follows stream taken old → Feeds old piece new → Follows (stream ++ piece) taken new }
+{}
+
+/// A framer of which the first message that waits is taken still follows the stream.
+pub fn taking_follows_the_stream()
+    ensures law { (stream message : List ℕ) (taken : List (List ℕ)) (old new : Framing)
+        → Follows stream taken old → Takes old message new → Follows stream (taken ++ message ∷ []) new }
 {}
 
 /// Objects one after another are their own frames.

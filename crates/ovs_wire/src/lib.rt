@@ -30,8 +30,9 @@ pub use framer::Framer;
 pub use id::Id;
 pub use json_value::Json;
 pub use laws::{
-    a_fault_ends_the_stream, a_text_says_one_message, feeds_follow_the_stream, frames_are_unique,
-    frames_exist, frames_of_a_cut_stream, read_back,
+    a_fault_ends_the_stream, a_new_framer_follows_the_empty_stream, a_text_says_one_message,
+    feeds_follow_the_stream, frames_are_unique, frames_exist, frames_of_a_cut_stream,
+    objects_are_their_own_frames, read_back, taking_follows_the_stream,
 };
 pub use limits::{MAX_MESSAGE_BYTES, MAX_NESTING};
 pub use message::Message;
