@@ -4,9 +4,9 @@ use crate::error::NoMemory;
 use std::alloc::Global;
 use std::marker::Model;
 
-/// The bytes of one whole message: an object, balanced and within the limits.
-#[derive(Debug, Drop)]
-pub struct Frame {
+/// The bytes of one whole message, which contracts see as their list.
+#[derive(Drop)]
+pub(crate) struct Frame {
     bytes: Vec<u8>,
 }
 
@@ -19,18 +19,12 @@ impl Model for Frame {
 }
 
 impl Frame {
-    pub(crate) fn copied(alloc: Global, bytes: &[u8]) -> Result<Frame, NoMemory>
+    /// A frame of a copy of the bytes.
+    pub fn copied(alloc: Global, bytes: &[u8]) -> Result<Frame, NoMemory>
         ensures value { IfOk result (λ f. f ≡ bytes.now) }
     {
         let bytes = Vec::from_slice(alloc, bytes)?;
         Ok(Frame { bytes })
-    }
-
-    /// Lends the bytes.
-    pub fn as_bytes(&self) -> &[u8]
-        ensures value { result.now ≡ self.now }
-    {
-        self.bytes.as_slice()
     }
 
     /// Hands the bytes over.

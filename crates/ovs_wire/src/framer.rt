@@ -1,6 +1,6 @@
-ghost use Rattle.std.specs.Prelude.{◌≡◌, ◌++◌, [], OnOk, OnErr, option_to_list};
+ghost use Rattle.std.specs.Prelude.{◌≡◌, ◌++◌, [], IfSome, OnOk, OnErr};
 ghost use Rattle.ovs_wire.specs.Frames.{Fault};
-ghost use Rattle.ovs_wire.specs.Framing.{IsNew, Feeds, Answers};
+ghost use Rattle.ovs_wire.specs.Framing.{IsNew, Feeds, Takes, Answers};
 
 use crate::error::{FrameError, NoMemory};
 use crate::frame::Frame;
@@ -125,12 +125,11 @@ impl Framer {
         }
     }
 
-    /// Takes out the first message that waits, if one does. It takes no memory.
-    pub fn next(&mut self) -> Option<Frame>
-        ensures waiting { self.old.waiting ≡ option_to_list result ++ self.new.waiting }
-        ensures none { result ≡ None → self.old.waiting ≡ [] }
-        ensures ending { self.new.ending ≡ self.old.ending }
+    /// Takes out the first message that waits, if one does: a `Vec` of its own. It takes no memory.
+    pub fn next(&mut self) -> Option<Vec<u8>>
+        ensures some { IfSome result (λ message. Takes self.old message.items self.new) }
+        ensures none { result ≡ None → (self.old.waiting ≡ []) × (self.new ≡ self.old) }
     {
-        self.waiting.pop_front()
+        self.waiting.pop_front().map(Frame::into_bytes)
     }
 }

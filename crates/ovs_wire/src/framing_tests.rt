@@ -10,8 +10,8 @@ const UPDATE: &str =
 fn gives(framer: &mut Framer, messages: &[&str]) -> bool {
     for message in messages {
         match framer.next() {
-            Some(frame) => {
-                if frame.as_bytes() != message.as_bytes() {
+            Some(bytes) => {
+                if bytes.as_slice() != message.as_bytes() {
                     return false;
                 }
             }
@@ -117,7 +117,7 @@ fn any_byte_anywhere(rt: HostRuntime) {
                 assert_eq!(rt; after, at, "{byte} at {place}");
             }
             let message = framer.next().expect(&rt, "the first message");
-            assert!(rt; message.as_bytes() == first.as_slice(), "{byte} at {place}");
+            assert!(rt; message.as_slice() == first.as_slice(), "{byte} at {place}");
             if at.is_err() {
                 assert!(rt; framer.next().is_none(), "{byte} at {place}");
             }
@@ -141,7 +141,7 @@ fn nesting_at_the_limit(rt: HostRuntime) {
         if arrays == 99 {
             assert_eq!(rt; answer, Ok(()));
             let message = framer.next().expect(&rt, "a message");
-            assert_eq!(rt; message.as_bytes().len(), 204);
+            assert_eq!(rt; message.len(), 204);
         } else {
             assert_eq!(rt; answer, Err(FrameError::TooDeep));
             assert!(rt; framer.next().is_none());
@@ -164,7 +164,7 @@ fn length_at_the_limit(rt: HostRuntime) {
         if extra == 0 {
             assert_eq!(rt; answer, Ok(()));
             let message = framer.next().expect(&rt, "a message");
-            assert_eq!(rt; message.into_bytes().len(), 16_777_216);
+            assert_eq!(rt; message.len(), 16_777_216);
         } else {
             assert_eq!(rt; answer, Err(FrameError::TooLong));
             assert!(rt; framer.next().is_none());

@@ -25,7 +25,6 @@ mod scan;
 
 pub use counted::{Counted, is_passing};
 pub use error::{FrameError, MessageError, NoMemory};
-pub use frame::Frame;
 pub use framer::Framer;
 pub use id::Id;
 pub use json_value::Json;
