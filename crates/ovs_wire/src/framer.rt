@@ -33,7 +33,8 @@ fn queue(waiting: &mut VecDeque<Frame>, mut found: VecDeque<Frame>) -> Result<()
 /// The stream comes in pieces, cut anywhere. A contract sees the messages that are whole and wait, and then the
 /// rest, of which more bytes may make a message, or the stream's first fault.
 ///
-/// Each byte is looked at once, and the memory that is held is at most in proportion to the bytes that wait.
+/// Each byte is looked at once. A message that waits has a buffer of its own length, and the rest one whose room is
+/// given back when a message is whole. The room of the queue of messages stays until a feed finds none waiting.
 #[derive(Drop)]
 pub struct Framer {
     waiting: VecDeque<Frame>,
