@@ -5,7 +5,8 @@ use Rattle.std.specs.declared.cmp.Ordering.TheVariants.{Less, Equal, Greater}
 use Rattle.std.specs.Ordering.{match_ordering, ordering_reverse}
 use Rattle.std.specs.Cmp.{IsTotalOrder}
 use Rattle.std.proofs.lemmas.Cmp.{tied_itself, tied_back, alike_right}
-use Rattle.ovs_types.specs.Ascending.{entry_at, IsBefore, IsAscending, exchanged_at}
+use Rattle.ovs_types.specs.Ascending.{IsBefore, IsAscending}
+use Rattle.ovs_types.proofs.Entries.{entry_at, exchanged_at}
 use Rattle.ovs_types.specs.Exchange.{exchange, exchange_from}
 
 some_is : {E : Type 0} (x y : E) → Some x ≡ Some y → x ≡ y

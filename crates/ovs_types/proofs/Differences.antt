@@ -11,7 +11,8 @@ use Rattle.ovs_types.specs.declared.datum.Datum.{Datum}
 use Rattle.ovs_types.specs.declared.datum.Datum.TheVariants.{Set, Map}
 use Rattle.ovs_types.specs.Atom.{atom_cmp, kind_of}
 use Rattle.ovs_types.specs.Pairs.{key_cmp, same_value}
-use Rattle.ovs_types.specs.Ascending.{entry_at, IsAscending, exchanged_at}
+use Rattle.ovs_types.specs.Ascending.{IsAscending}
+use Rattle.ovs_types.proofs.Entries.{entry_at, exchanged_at}
 use Rattle.ovs_types.specs.Exchange.{exchange}
 use Rattle.ovs_types.specs.Atom.{atom_eq}
 use Rattle.ovs_types.specs.Datum.{contains, value_at, datum_len, is_empty, IsAlike, IsOrdered, IsDatumOf, IsShaped, HasKinds}

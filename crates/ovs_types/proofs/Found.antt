@@ -5,7 +5,9 @@ use Rattle.std.specs.Cmp.Lexicographic.{bytes_decides}
 use Rattle.serde_json.specs.Data.{Num, Data, null, boolean, number, string, array, object, Items, no_items, item}
 use Rattle.serde_json.specs.Find.{as_str, as_array, as_number, as_bool}
 use Rattle.ovs_types.specs.declared.error.DatumError.{DatumError}
-use Rattle.ovs_types.specs.Reading.{◌>>=◌, ok_or, is_text, is_word, two_of, two_items, under, list_under}
+use Rattle.std.specs.Option.{ok_or}
+use Rattle.ovs_types.specs.Results.{◌>>=◌}
+use Rattle.ovs_types.specs.Reading.{is_text, is_word, two_of, two_items, under, list_under}
 use Rattle.ovs_types.specs.Writing.{two, listed}
 
 abbrev pub fine : {A : Type 0} → A → Result A DatumError

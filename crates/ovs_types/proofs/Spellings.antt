@@ -21,7 +21,9 @@ use Rattle.ovs_types.specs.Ascending.{distinct, in_order}
 use Rattle.ovs_types.specs.Datum.{contains, value_at, IsOrdered, IsDatumOf}
 use Rattle.ovs_types.specs.Id.{read_id}
 use Rattle.ovs_types.specs.Writing.{two}
-use Rattle.ovs_types.specs.Reading.{◌>>=◌, Gives, ok_or, begins_with, two_items, under, list_under, read_each, read_integer, read_uuid, read_atom, read_one, read_elements, counted, read_set, are_pairs, map_items, read_pair, read_pairs, read_map, read_shaped, read_datum}
+use Rattle.std.specs.Option.{ok_or}
+use Rattle.ovs_types.specs.Results.{◌>>=◌}
+use Rattle.ovs_types.specs.Reading.{Gives, begins_with, two_items, under, list_under, read_each, read_integer, read_uuid, read_atom, read_one, read_elements, counted, read_set, are_pairs, map_items, read_pair, read_pairs, read_map, read_shaped, read_datum}
 use Rattle.ovs_types.specs.Spelling.{SpellsValue, SpellsAtom, SpellsPair, SpellsEach, SpellsElements, SpellsPairs, IsSetOf, IsMapOf, Spells}
 use Rattle.ovs_types.proofs.Found.{fine, ok_is, some_is, some_of, bind_found, then_found, map_found, tested, number_of, boolean_of, string_of, two_items-is, under-is, list_under-is}
 use Rattle.ovs_types.proofs.InOrder.{at-in_order, Ascends-in_order}

@@ -5,11 +5,6 @@ use Rattle.std.specs.declared.cmp.Ordering.TheVariants.{Less}
 use Rattle.std.specs.Ordering.{match_ordering, is_lt}
 
 module _ {K E : Type 0} (order : K → K → Ordering) (key : E → K) where
-  -- what the list has at a key
-  abbrev pub entry_at : K → List E → Option E
-  entry_at q [] = None
-  entry_at q (x ∷ xs) = match_ordering (order q (key x)) (entry_at q xs) (Some x) (entry_at q xs)
-
   -- the key comes before each entry of the list
   abbrev pub IsBefore : K → List E → Type 0
   IsBefore q [] = Unit {0}
@@ -18,12 +13,6 @@ module _ {K E : Type 0} (order : K → K → Ordering) (key : E → K) where
   abbrev pub IsAscending : List E → Type 0
   IsAscending [] = Unit {0}
   IsAscending (x ∷ xs) = IsBefore (key x) xs × IsAscending xs
-
--- what stands at a key: what only one of the two has, and the second of two that differ
-abbrev pub exchanged_at : {E : Type 0} → (E → E → Bool) → Option E → Option E → Option E
-exchanged_at is_same None y = y
-exchanged_at is_same (Some x) None = Some x
-exchanged_at is_same (Some x) (Some y) = if is_same x y then None else Some y
 
 module _ {E : Type 0} (order : E → E → Ordering) where
   -- whether each entry is before the next

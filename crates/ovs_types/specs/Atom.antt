@@ -1,4 +1,4 @@
--- Atoms: their kinds, their defaults and their order (RFC 7047 section 3.1).
+-- Atoms: their kinds, their defaults and their order (RFC 7047 section 5.1).
 use Rattle.std.specs.Prelude.{ℕ, ℤ, pos, Bool, true, false, List, []}
 use Rattle.std.specs.declared.cmp.Ordering.{Ordering}
 use Rattle.std.specs.Ordering.{nat_cmp, int_cmp, on, then_cmp, is_eq}

@@ -1,4 +1,4 @@
--- Ids: numbers of 128 bits, written as the text of a UUID (RFC 7047 section 3.1).
+-- Ids: numbers of 128 bits, written as the text of a UUID (RFC 7047 section 5.1).
 use Rattle.std.specs.Prelude.{ℕ, List, Option, option_map}
 use Rattle.std.specs.Int.{w128, from_be_bytes, to_be_bytes}
 use Rattle.uuid.specs.Text.{parsed_hyphenated, hyphenated_text, lower}

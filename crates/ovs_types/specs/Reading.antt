@@ -1,6 +1,7 @@
 -- The data that JSON values stand for, with the first fault of those that stand for none.
 use Rattle.std.specs.Prelude.{◌≡◌, ℕ, List, [], ◌∷◌, Bool, true, false, Option, Some, None, Result, Ok, Err, option_map, option_and_then, is_some, nat_eq, if◌then◌else◌, codes, length, ◌&&◌}
 use Rattle.std.specs.Cmp.Lexicographic.{pointwise}
+use Rattle.std.specs.Option.{ok_or}
 use Rattle.serde_json.specs.Data.{Num, Data, Items, no_items, item}
 use Rattle.serde_json.specs.Find.{as_i64, as_str, as_array, as_number, as_bool}
 use Rattle.ovs_types.specs.declared.atom.Atom.{Atom}
@@ -17,6 +18,7 @@ use Rattle.ovs_types.specs.Atom.{atom_cmp}
 use Rattle.ovs_types.specs.Column.{may_count}
 use Rattle.ovs_types.specs.Id.{read_id}
 use Rattle.ovs_types.specs.Pairs.{key_cmp}
+use Rattle.ovs_types.specs.Results.{◌>>=◌}
 use Rattle.ovs_types.specs.Ascending.{distinct}
 
 -- ---- what a call returned, and what reading gives
@@ -33,15 +35,6 @@ Fails NoMemory read = Unit {0}
 abbrev pub Gives : {X Y : Type 0} → (X → Y) → Result X DatumError → Result Y DatumError → Type 0
 Gives view (Ok x) read = read ≡ Ok (view x)
 Gives view (Err e) read = Fails e read
-
-infixl 10 ◌>>=◌
-abbrev pub ◌>>=◌ : {A B : Type 0} → Result A DatumError → (A → Result B DatumError) → Result B DatumError
-(Ok x) >>= f = f x
-(Err e) >>= f = Err e
-
-abbrev pub ok_or : {X : Type 0} → Option X → DatumError → Result X DatumError
-ok_or None e = Err e
-ok_or (Some x) e = Ok x
 
 -- ---- parts of JSON values
 

@@ -1,4 +1,4 @@
-//! Atoms, the values that data are made of (RFC 7047 section 3.1).
+//! Atoms, the values that data are made of (RFC 7047 section 5.1).
 
 ghost use Rattle.std.specs.Prelude.{◌≡◌, IfOk};
 ghost use Rattle.std.specs.Cmp.{partial_order_from_own_ties, partial_equiv_from_equiv, eq_by_cmp_equiv};

@@ -70,6 +70,7 @@ impl Datum {
     /// Lends the elements of a set, ascending, and of a map none.
     pub fn atoms(&self) -> &[Atom]
         ensures value { result.now ≡ elements_of self.now }
+        ensures ascending { IsAscending atom_cmp (λ x. x) result.now }
     {
         match self {
             Datum::Set(atoms) => atoms.as_slice(),
@@ -80,6 +81,7 @@ impl Datum {
     /// Lends the pairs of a map, in ascending order of their keys, and of a set none.
     pub fn pairs(&self) -> &[Pair]
         ensures value { result.now ≡ pairs_of self.now }
+        ensures ascending { IsAscending atom_cmp (λ p. p.key) result.now }
     {
         match self {
             Datum::Set(_) => &[],

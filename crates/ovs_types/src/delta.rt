@@ -64,6 +64,8 @@ pub fn there_and_back(old: &Datum, new: &Datum, column: &Column) -> Result<Datum
     requires alike { IsAlike old.now new.now }
     ensures back { IfOk result (λ d. d ≡ new.now) }
 {
+    // The copy's clause `ordered` says that `new` ascends: only of data that do is one the only datum
+    // with a difference.
     let given = new.copy()?;
     apply_difference(old, &difference(old, &given, column)?, column)
 }

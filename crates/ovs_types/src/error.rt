@@ -20,7 +20,7 @@ impl<T: Drop> From<AllocFailed<T>> for NoMemory {
     }
 }
 
-/// A text that is no id: not 36 characters in the form of RFC 7047 section 3.1, as
+/// A text that is no id: not 36 characters in the form of RFC 7047 section 5.1, as
 /// `550e8400-e29b-41d4-a716-446655440000`.
 #[derive(Clone, Copy, Debug, PartialEq, Eq, Error)]
 #[error("not a UUID of 36 characters")]

@@ -26,7 +26,8 @@ pub fn is_id(text: &str) -> bool
     }
 }
 
-/// Whether a text may name a table or a column: an `<id>` that doesn't begin with `_`, since such ids are reserved (RFC 7047 section 3.2).
+/// Whether a text may name a table or a column: an `<id>` that doesn't begin with `_`, since such ids
+/// are reserved (RFC 7047 section 3.1).
 pub fn is_name(text: &str) -> bool
     ensures name { result ≡ is_name text.now }
 {

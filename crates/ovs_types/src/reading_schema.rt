@@ -1,6 +1,8 @@
 //! Schemas out of JSON (RFC 7047 section 3.2).
 //!
-//! All parts of a value are looked at, so that the first of its faults, in the order of `SchemaError`, is found wherever it stands. So what a part is read as is a value, `Ok` or a fault, and the functions that make texts and lists fail by memory alone.
+//! All parts of a value are looked at, so that the first of its faults, in the order of `SchemaError`,
+//! is found wherever it stands. So what a part is read as is a value, `Ok` or a fault, and the
+//! functions that make texts and lists fail by memory alone.
 
 ghost use Rattle.std.specs.Prelude.{◌≡◌, IfOk, Ok};
 ghost use Rattle.serde_json.specs.View.{view, members_view};
@@ -160,7 +162,9 @@ fn schema_of(alloc: Global, value: &Value) -> Result<Schema, SchemaError>
 }
 
 impl Schema {
-    /// The schema that a JSON value stands for (RFC 7047 section 3.2): a `<database-schema>`, with "integer", "boolean", "string" and "uuid" as atomic types and with "min", "max", "key" and "value" in its types. Members that aren't named here are kept and not looked at.
+    /// The schema that a JSON value stands for (RFC 7047 section 3.2): a `<database-schema>`, with
+    /// "integer", "boolean", "string" and "uuid" as atomic types and with "min", "max", "key" and
+    /// "value" in its types. Members that aren't named here are kept and not looked at.
     ///
     /// # Errors
     /// The first fault of the whole value in the order of `SchemaError`, or `NoMemory`.

@@ -45,7 +45,7 @@ impl RowId {
         self.value
     }
 
-    /// Reads 36 characters with hexadecimal digits in either case (RFC 7047 section 3.1). `BadId`
+    /// Reads 36 characters with hexadecimal digits in either case (RFC 7047 section 5.1). `BadId`
     /// for every other text.
     pub fn read(text: &str) -> Result<RowId, BadId>
         ensures value { result_ok result ≡ read_id text.now }

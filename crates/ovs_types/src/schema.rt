@@ -154,7 +154,8 @@ impl Schema {
         table_named(self.tables(), name)
     }
 
-    /// The columns of a table, ascending by name, if there is such a table. The implicit columns `_uuid` and `_version` (RFC 7047 section 3.2) aren't among them.
+    /// The columns of a table, ascending by name, if there is such a table. The implicit columns
+    /// `_uuid` and `_version` (RFC 7047 section 3.2) aren't among them.
     pub fn columns(&self, table: &str) -> Option<&[NamedColumn]>
         ensures all { option_map (λ c. c.now) result ≡ columns_of self.now.description table.now }
         ensures ascending { IfSome result (λ c. IsAscendingBy (λ x. x.name) c.now) }
@@ -164,7 +165,8 @@ impl Schema {
         Some(found.columns.as_slice())
     }
 
-    /// What a column of a table holds, if there are such a table and such a column. The implicit columns `_uuid` and `_version` are none.
+    /// What a column of a table holds, if there are such a table and such a column. The implicit
+    /// columns `_uuid` and `_version` are none.
     pub fn column(&self, table: &str, name: &str) -> Option<Column>
         ensures found { result ≡ column_of self.now.description table.now name.now }
         // No column has a reserved name, as `_uuid` and `_version` are.

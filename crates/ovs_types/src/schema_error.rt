@@ -8,7 +8,8 @@ use crate::error::NoMemory;
 use std::alloc::AllocError;
 use thiserror::Error;
 
-/// Why a JSON value is no schema (RFC 7047 section 3.2). Where it has several faults, wherever they stand in the value, the answer is the one that is first in this order.
+/// Why a JSON value is no schema (RFC 7047 section 3.2). Where it has several faults, wherever they
+/// stand in the value, the answer is the one that is first in this order.
 #[derive(Clone, Copy, Debug, PartialEq, Eq, Error)]
 pub enum SchemaError {
     /// A part that has to be there is absent, or a part is not of the JSON type or not the word that it has to be.
@@ -20,7 +21,8 @@ pub enum SchemaError {
     /// A column holds the atomic type "real".
     #[error("a column of reals")]
     Real,
-    /// A "min" other than 0 and 1, or a "max" other than "unlimited" and the integers from 1 on.
+    /// A "min" other than 0 and 1, or a "max" other than "unlimited" and the integers from 1 to
+    /// 2^64 - 1.
     #[error("bounds that are not offered")]
     BadBounds,
     /// Memory ran out; nothing is said of the value.

@@ -70,6 +70,15 @@ fn fault(alloc: Global, column: &Column, text: &str) -> Result<Option<DatumError
     Ok(Datum::read(alloc, &value, column).err())
 }
 
+#[test]
+fn a_written_datum_reads_back(rt: HostRuntime) -> Result<(), Fail> {
+    let alloc = rt.alloc();
+    let value = Value::from_str(alloc, "[\"map\",[[\"b\",\"1\"],[\"a\",\"2\"]]]")?;
+    let options = Datum::read(alloc, &value, &OPTIONS)?;
+    assert!(rt; written_and_read(alloc, &options, &OPTIONS)?.same(&options));
+    Ok(())
+}
+
 // The difference between two data, and what applying it gives, as texts.
 fn between(
     alloc: Global,
