@@ -33,6 +33,10 @@ pub right : (a b : Bool) → (a && b) ≡ true → b ≡ true
 right true b e = e
 right false b e = absurd (true≢false (sym e))
 
+pub of_T : (b : Bool) → T b → b ≡ true
+of_T true h = refl
+of_T false h = absurd h
+
 pub alike : {A : Type 0} (b : Bool) (x : A) → cond b x x ≡ x
 alike true x = refl
 alike false x = refl
@@ -69,6 +73,24 @@ module _ {K : Type 0} {R : K → K → Ordering} (o : IsTotalOrder R) (exact : I
   sorted_test [] h = refl
   sorted_test (e ∷ es) h = both (below_all R e.0 es) (is_sorted R es) (below_each e.0 es h.0) (sorted_test es h.1)
 
+  lower : (r : Ordering) → is_lt r ≡ true → r ≡ Less
+  lower Less h = refl
+  lower Equal h = absurd (true≢false (sym h))
+  lower Greater h = absurd (true≢false (sym h))
+
+  each_below : {X : Type 0} (k : K) (es : List (K × X)) → below_all R k es ≡ true → AllByRecursion (λ y. R k y ≡ Less) (keys_of es)
+  each_below k [] h = tt
+  each_below k (e ∷ es) h = (lower (R k e.0) (left (is_lt (R k e.0)) (below_all R k es) h), each_below k es (right (is_lt (R k e.0)) (below_all R k es) h))
+
+  keys_ascend : {X : Type 0} (es : List (K × X)) → is_sorted R es ≡ true → IsStrictlySortedBy R (keys_of es)
+  unfolding IsStrictlySortedBy
+  keys_ascend [] h = tt
+  keys_ascend (e ∷ es) h = (each_below e.0 es (left (below_all R e.0 es) (is_sorted R es) h), keys_ascend es (right (below_all R e.0 es) (is_sorted R es) h))
+
+  -- the keys of a map's entries ascend
+  pub entries_ascend : {X : Type 0} (m : FinMap R X) → IsStrictlySortedBy R (keys_of (entries m))
+  entries_ascend m = keys_ascend (entries m) (of_T (is_sorted R (entries m)) (entries_sorted m))
+
   -- the entries of the map of an ordered list are that list
   pub entries-from_ordered : {X : Type 0} (es : List (K × X)) → IsStrictlySortedBy R (keys_of es) → entries (from_entries {R = R} es) ≡ es
   entries-from_ordered es h =
@@ -82,17 +104,8 @@ module _ {K : Type 0} {R : K → K → Ordering} (o : IsTotalOrder R) (exact : I
       let less : R q e.0 ≡ R k e.0 = o.congr q k e.0 (tied (R q k) at) in
       ap (λ r. cond (is_eq r) (Some e.1) (find R q es)) (less ∙ lower (R k e.0) (left (is_lt (R k e.0)) (below_all R k es) below))
       ∙ not_among k q es (right (is_lt (R k e.0)) (below_all R k es) below) at
-    where
-      lower : (r : Ordering) → is_lt r ≡ true → r ≡ Less
-      lower Less h = refl
-      lower Equal h = absurd (true≢false (sym h))
-      lower Greater h = absurd (true≢false (sym h))
 
 -- ---- what holds of each entry
-
-pub of_T : (b : Bool) → T b → b ≡ true
-of_T true h = refl
-of_T false h = absurd h
 
 module _ {K X : Type 0} {R : K → K → Ordering} (o : IsTotalOrder R) (exact : IsAntisymmetric R) where
   -- an entry past the first is still found where the first is looked at too

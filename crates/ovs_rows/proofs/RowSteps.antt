@@ -14,8 +14,9 @@ use Rattle.ovs_rows.specs.Row.{AreDataOf}
 use Rattle.ovs_rows.specs.Change.{IsEditOf, AreEditsOf, IsActionOf}
 use Rattle.ovs_rows.specs.After.{action_fits, edited_datum, edited, row_after, IsAfterEdit, AreAfter, IsAfterAt}
 use Rattle.ovs_types.specs.Equality.{datum_eq}
-use Rattle.ovs_rows.specs.DatabaseDifference.{edits_between, action_between, IsVersioned}
-use Rattle.ovs_rows.proofs.Data.{changed_by_kept, difference_of_differing, changed_by_difference, changed_by_differs, changed_by_only, same_datum, same_itself}
+use Rattle.ovs_rows.specs.DatabaseDifference.{edits_between, action_between, IsEdit, AreEdits, IsActionBetween, IsVersioned}
+use Rattle.ovs_types.proofs.Equalities.{datum_decides}
+use Rattle.ovs_rows.proofs.Data.{changed_by_kept, difference_of_differing, difference_of_differs, changed_by_difference, changed_by_differs, changed_by_only, same_datum, same_itself}
 
 -- ---- the data of a modified row
 
@@ -107,6 +108,19 @@ edits_between_kept (c ∷ cs) [] ys h k = absurd h
 edits_between_kept (c ∷ cs) (x ∷ xs) [] h k = absurd k
 edits_between_kept (c ∷ cs) (x ∷ xs) (y ∷ ys) h k = (edit_between_kept c.column x y h.0 k.0 (datum_eq x y) refl, edits_between_kept cs xs ys h.1 k.1)
 
+-- each is the difference of two data that differ, or none of two that are equal
+edit_between_is : (c : Column) (x y : Datum) → IsDatumOf c x → IsDatumOf c y → (b : Bool) → datum_eq x y ≡ b → IsEdit c x y (cond b None (Some (difference_of c x y)))
+edit_between_is c x y h k true e = sym (same_datum x y e)
+edit_between_is c x y h k false e = (λ same. true≢false (sym ((datum_decides x y).1 (sym same)) ∙ e), difference_of_differs c x y h k)
+
+edits_between_are : (cs : List NamedColumn) (xs ys : List Datum) → AreDataOf cs xs → AreDataOf cs ys → AreEdits cs xs ys (edits_between cs xs ys)
+edits_between_are [] [] [] h k = tt
+edits_between_are [] (x ∷ xs) ys h k = absurd h
+edits_between_are [] [] (y ∷ ys) h k = absurd k
+edits_between_are (c ∷ cs) [] ys h k = absurd h
+edits_between_are (c ∷ cs) (x ∷ xs) [] h k = absurd k
+edits_between_are (c ∷ cs) (x ∷ xs) (y ∷ ys) h k = (edit_between_is c.column x y h.0 k.0 (datum_eq x y) refl, edits_between_are cs xs ys h.1 k.1)
+
 edited_back : (c : Column) (x y : Datum) → IsDatumOf c x → IsDatumOf c y → (b : Bool) → datum_eq x y ≡ b → edited_datum c (cond b None (Some (difference_of c x y))) x ≡ y
 edited_back c x y h k true e = same_datum x y e
 edited_back c x y h k false e = changed_by_difference c x y h k
@@ -162,6 +176,19 @@ action_between_kept cs None None h k = tt
 action_between_kept cs None (Some new) h k = k
 action_between_kept cs (Some old) None h k = tt
 action_between_kept cs (Some old) (Some new) h k = modified_kept cs (edits_between cs old.columns new.columns) (edits_between_kept cs old.columns new.columns h k) (list_any is_some (edits_between cs old.columns new.columns)) refl
+
+modified_is : (cs : List NamedColumn) (old new : Row) → AreDataOf cs old.columns → AreDataOf cs new.columns
+    → (b : Bool) → list_any is_some (edits_between cs old.columns new.columns) ≡ b → IsActionBetween cs (Some old) (Some new) (cond b (Some (Modify (edits_between cs old.columns new.columns))) None)
+modified_is cs old new h k true e = (edits_differ cs old.columns new.columns e, edits_between_are cs old.columns new.columns h k)
+modified_is cs old new h k false e = sym (no_edits cs old.columns new.columns h k e)
+
+-- the relation holds of it
+pub action_between_is : (cs : List NamedColumn) (old new : Option Row) → IfSome old (λ row. AreDataOf cs row.columns) → IfSome new (λ row. AreDataOf cs row.columns)
+    → IsActionBetween cs old new (action_between cs old new)
+action_between_is cs None None h k = refl
+action_between_is cs None (Some new) h k = refl
+action_between_is cs (Some old) None h k = refl
+action_between_is cs (Some old) (Some new) h k = modified_is cs old new h k (list_any is_some (edits_between cs old.columns new.columns)) refl
 
 modified_fits : (es : List (Option Datum)) (old : Row) (b : Bool) → IfSome (cond b (Some (Modify es)) None) (λ action. action_fits action (Some old) ≡ true)
 modified_fits es old true = refl

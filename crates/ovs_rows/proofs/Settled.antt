@@ -2,6 +2,8 @@
 use Rattle.std.proofs.Common.{◌≡◌, ℕ, List, [], ◌∷◌, ◌++◌, map, Bool, true, false, cond, ◌||◌, ◌&&◌, true≢false, Option, Some, None, refl, sym, ap, subst, ◌∙◌}
 use Rattle.std.specs.Prelude.{IsSome, is_some, unwrap_or, option_map, T}
 use Rattle.std.specs.Ordering.{is_lt}
+use Rattle.std.specs.List.Sorted.{IsStrictlySortedBy}
+use Rattle.std.specs.Map.{keys_of}
 use Rattle.std.specs.FinMap.{get, entries, find, is_sorted, same_map, get-entries, entries_sorted}
 use Rattle.std.specs.FinMap.Entries.{below_all}
 use Rattle.ovs_types.specs.declared.schema.Table.{Table}
@@ -12,8 +14,9 @@ use Rattle.ovs_rows.specs.Place.{place_cmp, place_total, place_exact}
 use Rattle.ovs_rows.specs.Row.{Rows, columns_at}
 use Rattle.ovs_rows.specs.Change.{Actions}
 use Rattle.ovs_rows.specs.After.{TouchedRow, touched_row, applied_of, after_action, row_after, after}
+use Rattle.ovs_rows.specs.Applied.{AscendByPlace}
 use Rattle.ovs_rows.specs.Placing.{placed, AreThere, opening, openings, outcomes, AreAbsent, IsAbsent}
-use Rattle.ovs_rows.proofs.Maps.{tied, same_itself}
+use Rattle.ovs_rows.proofs.Maps.{tied, same_itself, entries_ascend}
 use Rattle.ovs_rows.proofs.PlacingSteps.{at, has, get-same, all_opened, get-placed}
 use Rattle.ovs_rows.proofs.Laws.{get-after}
 
@@ -123,6 +126,14 @@ module _ (ts : List Table) (old : Rows) (v : ℕ) where
   in_the_end blank q es None none =
       get-same (Some blank) (openings blank (touched es)) (all_opened blank (touched es)) old q ∙ ap (λ b. cond b (Some blank) (get old q)) (not_opened blank q es none)
   in_the_end blank q es (Some a) some = refl
+
+  places_of : (es : List (Place × Action)) → map (λ (t : TouchedRow). t.place) (touched es) ≡ keys_of es
+  places_of [] = refl
+  places_of (e ∷ es) = ap (λ ps. e.0 ∷ ps) (places_of es)
+
+  -- the rows that a change names ascend by place
+  pub touched_ascend : (c : Actions) → AscendByPlace (applied_of ts old c v)
+  touched_ascend c = subst (IsStrictlySortedBy place_cmp) (sym (places_of (entries c))) (entries_ascend place_total place_exact c)
 
   pub outcomes_ascend : (c : Actions) → is_sorted place_cmp (outcomes (applied_of ts old c v)) ≡ true
   outcomes_ascend c = is_sorted-outcomes (entries c) ∙ of_T (is_sorted place_cmp (entries c)) (entries_sorted c)

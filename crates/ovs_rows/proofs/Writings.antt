@@ -25,7 +25,7 @@ use Rattle.ovs_types.proofs.Writings.{has_float-datum}
 use Rattle.ovs_rows.specs.declared.place.Place.{Place}
 use Rattle.ovs_rows.specs.declared.row.Row.{Row}
 use Rattle.ovs_rows.specs.Place.{place_cmp, place_total, place_exact}
-use Rattle.ovs_rows.specs.Row.{Rows, AreDataOf, HaveDataOf, columns_in, columns_at}
+use Rattle.ovs_rows.specs.Row.{Rows, AreDataOf, columns_in, columns_at}
 use Rattle.ovs_rows.specs.Writing.{with_member, column_member, row_json, row_member, rows_in, table_json, table_member, tables_json}
 use Rattle.ovs_rows.proofs.Maps.{of_T, All-entries}
 use Rattle.ovs_rows.proofs.PlacingSteps.{drop-at}
@@ -101,6 +101,10 @@ kept P x xs false h rest = rest
 pub filter_kept : {X : Type 0} (P : X → Type 0) (q : X → Bool) (xs : List X) → AllByRecursion (λ x. q x ≡ true → P x) xs → AllByRecursion P (filter q xs)
 filter_kept P q [] h = tt
 filter_kept P q (x ∷ xs) h = kept P x (filter q xs) (q x) h.0 (filter_kept P q xs h.1)
+
+-- one datum of each column in each row of a list
+abbrev pub HaveDataOf : List NamedColumn → List (Place × Row) → Type 0
+HaveDataOf columns = AllByRecursion (λ e. AreDataOf columns e.1.columns)
 
 -- the rows of a table have data of its columns
 pub rows_in_table : (rows : Rows) (number : ℕ) (columns : List NamedColumn) → ((p : Place) (r : Row) → get rows p ≡ Some r → p.table ≡ number → AreDataOf columns r.columns)

@@ -1,5 +1,7 @@
+//! What a change did: the rows that it named, before and after it.
+
 ghost use Rattle.std.specs.Prelude.{◌≡◌, IfOk, map, option_map};
-ghost use Rattle.ovs_rows.specs.Applied.{seen};
+ghost use Rattle.ovs_rows.specs.Applied.{seen, AscendByPlace};
 
 use crate::place::Place;
 use crate::row::Row;
@@ -47,15 +49,19 @@ pub struct Applied {
 impl Model for Applied {
     ghost use Rattle.std.specs.Prelude.{List, map};
     ghost use Rattle.ovs_rows.specs.After.{TouchedRow};
-    ghost use Rattle.ovs_rows.specs.Applied.{seen};
+    ghost use Rattle.ovs_rows.specs.Applied.{seen, AscendByPlace};
 
     ghost Value = { List TouchedRow };
 
     ghost view = { λ a. map seen a.rows.items };
+
+    ghost invariant = { λ a. AscendByPlace (map seen a.rows.items) };
 }
 
 impl Applied {
+    /// The list of rows that ascend by place.
     pub(crate) fn new(rows: Vec<Touched>) -> Applied
+        requires ascending { AscendByPlace (map seen rows.items) }
         ensures value { result ≡ map seen rows.items }
     {
         Applied { rows }
@@ -64,6 +70,7 @@ impl Applied {
     /// The rows, ascending by place.
     pub fn rows(&self) -> &[Touched]
         ensures value { map seen result.now ≡ self.now }
+        ensures ascending { AscendByPlace self.now }
     {
         &self.rows
     }

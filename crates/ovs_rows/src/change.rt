@@ -1,3 +1,5 @@
+//! Changes: what becomes of rows, each named at most once.
+
 ghost use Rattle.std.specs.Prelude.{◌≡◌, ◌↔◌, IfOk, IsTrue};
 ghost use Rattle.std.specs.FinMap.{empty, insert, get, entries};
 ghost use Rattle.std.specs.Option.{option_copied};
@@ -54,6 +56,7 @@ impl Edits {
 pub enum Action {
     /// The row is new and has these data.
     Insert(Columns),
+    /// The row goes.
     Delete,
     /// Some columns of the row change.
     Modify(Edits),

@@ -8,7 +8,7 @@ ghost use Rattle.ovs_types.specs.Datum.{IsDatumOf};
 ghost use Rattle.ovs_rows.specs.Row.{AreDataOf, AreRowsOf, columns_at};
 ghost use Rattle.ovs_rows.specs.Change.{IsChangeOf};
 ghost use Rattle.ovs_rows.specs.After.{fits, after};
-ghost use Rattle.ovs_rows.specs.DatabaseDifference.{edit_between, edits_between, modified, action_between, database_difference, IsCommit};
+ghost use Rattle.ovs_rows.specs.DatabaseDifference.{edit_between, edits_between, modified, action_between, database_difference, IsDatabaseDifference, IsCommit};
 ghost use Rattle.ovs_rows.specs.Differing.{fate, arrival, with_action};
 
 use crate::applying::columns_at;
@@ -165,6 +165,7 @@ impl Database {
     pub fn diff(alloc: Global, old: &Database, new: &Database) -> Result<Change, NoMemory>
         requires same_tables { old.now.schema.description.tables ≡ new.now.schema.description.tables }
         ensures value { IfOk result (λ c. c ≡ database_difference old.now.schema.description.tables old.now.rows new.now.rows) }
+        ensures difference { IfOk result (IsDatabaseDifference old.now.schema.description.tables old.now.rows new.now.rows) }
         ensures tables { IfOk result (IsChangeOf old.now.schema.description.tables) }
         ensures fits { IfOk result (λ c. fits old.now.rows c ≡ true) }
         // Carried out by a commit's id it leads to the second, where the second's versions are those of the commit.

@@ -7,16 +7,23 @@ use thiserror::Error;
 /// Why a value is no change. The first fault that is met decides.
 #[derive(Clone, Copy, Debug, PartialEq, Eq, Error)]
 pub enum ChangeError {
+    /// A table that the schema doesn't have.
     #[error("no such table")]
     NoTable,
+    /// A column that the table doesn't have.
     #[error("no such column")]
     NoColumn,
+    /// The name of a row update that is no id of 36 characters, or is the id of a row that was named before.
     #[error("a row's name is no id, or names a row again")]
     BadRowId,
+    /// The whole, a table or a row that is no object, or a row update with none or several of "initial", "insert",
+    /// "delete" and "modify".
     #[error("not an object, or not exactly one kind of row update")]
     BadKind,
+    /// A value that is no datum of its column, or no difference of such data.
     #[error("not a value of its column: {0}")]
     Datum(DatumError),
+    /// Memory ran out; nothing is said of the value.
     #[error("out of memory")]
     NoMemory,
 }
@@ -63,6 +70,7 @@ pub enum ApplyError {
     /// A row that the change deletes or modifies is absent.
     #[error("a deleted or modified row is absent")]
     NoRow,
+    /// Memory ran out.
     #[error("out of memory")]
     NoMemory,
 }

@@ -1,3 +1,5 @@
+//! Where rows stand.
+
 use ovs_types::RowId;
 
 /// Where a row stands: the table, by its number in the order of the tables' names, and the row's id.

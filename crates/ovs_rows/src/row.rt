@@ -1,3 +1,5 @@
+//! Rows, and the data of their columns.
+
 ghost use Rattle.std.specs.Prelude.{◌≡◌, ◌↔◌, IfOk, IsTrue, List, slice_get};
 ghost use Rattle.std.specs.Option.{option_copied};
 

@@ -5,7 +5,7 @@ ghost use Rattle.ovs_types.specs.declared.schema.Table.{Table};
 ghost use Rattle.ovs_rows.specs.Row.{Rows, AreRowsOf};
 ghost use Rattle.ovs_rows.specs.Change.{Actions, IsChangeOf};
 ghost use Rattle.ovs_rows.specs.After.{fits, after, IsAfter};
-ghost use Rattle.ovs_rows.specs.DatabaseDifference.{database_difference, IsCommit};
+ghost use Rattle.ovs_rows.specs.DatabaseDifference.{database_difference, IsDatabaseDifference, IsCommit};
 
 /// There is exactly one database after a change that fits, and it has rows of the same tables.
 pub fn change_has_one_outcome()
@@ -17,6 +17,7 @@ pub fn change_has_one_outcome()
 /// The difference of two databases is a change that fits the first, and the database after it is the second, where the
 /// second's versions are those that a commit gives.
 pub fn database_difference_laws()
+    ensures difference { (ts : List Table) (a b : Rows) → AreRowsOf ts a → AreRowsOf ts b → IsDatabaseDifference ts a b (database_difference ts a b) }
     ensures tables { (ts : List Table) (a b : Rows) → AreRowsOf ts a → AreRowsOf ts b → IsChangeOf ts (database_difference ts a b) }
     ensures fits { (ts : List Table) (a b : Rows) → AreRowsOf ts a → AreRowsOf ts b → fits a (database_difference ts a b) ≡ true }
     ensures after { (ts : List Table) (a b : Rows) (id : ℕ) → IsCommit ts a b id → after ts a (database_difference ts a b) id ≡ b }

@@ -1,10 +1,10 @@
-use Rattle.std.proofs.Common.{◌≡◌, [], map, ap, ◌∙◌}
+use Rattle.std.proofs.Common.{◌≡◌, [], map, sym, ap, subst, ◌∙◌}
 use Rattle.std.specs.FinMap.{entries}
 use Rattle.ovs_rows.specs.declared.row.Row.{Row}
-use Rattle.ovs_rows.specs.Applied.{seen}
+use Rattle.ovs_rows.specs.Applied.{seen, AscendByPlace}
 use Rattle.ovs_rows.specs.Placing.{entries_of, outcomes, placed, openings}
 use Rattle.ovs_rows.specs.After.{touched_row, applied_of}
-use Rattle.ovs_rows.proofs.Settled.{touched_absent, all_there, outcomes_ascend, settled}
+use Rattle.ovs_rows.proofs.Settled.{touched_absent, touched_ascend, all_there, outcomes_ascend, settled}
 use Rattle.ovs_rows.proofs.Laws.{are_actions}
 use Rattle.ovs_rows.proofs.applying.carry_out.Goals as goal
 
@@ -45,3 +45,9 @@ returns-clause-value c =
     = c.in_ok-open_places.ensures.value ∙ ap (λ ts. placed (openings blank ts) c.args.rows.now) touched in
     c.place_all.ensures.value ∙ ap (placed (entries_of c.in_ok-outcomes.outcomes.items)) opened ∙ ap (λ es. placed es (placed (openings blank (applied_of c.args.tables.now c.args.rows.now c.args.change.now c.args.version)) c.args.rows.now)) made
     ∙ settled c.args.tables.now c.args.rows.now c.args.version blank c.args.change.now
+
+pub new-requires : goal.new-requires
+new-requires c =
+    let touched : map seen c.in_ok-touched.touched.items ≡ applied_of c.args.tables.now c.args.rows.now c.args.change.now c.args.version
+    = c.in_ok-touched.ensures.value ∙ ap (map (touched_row c.args.tables.now c.args.rows.now c.args.version)) c.as_map.ensures.value in
+    record { ascending = subst AscendByPlace (sym touched) (touched_ascend c.args.tables.now c.args.rows.now c.args.version c.args.change.now) }

@@ -8,9 +8,8 @@ use Rattle.serde_json.specs.View.{view, members_view}
 use Rattle.serde_json.proofs.Views.{view-Object}
 use Rattle.ovs_types.specs.Id.{id_text}
 use Rattle.ovs_rows.specs.Place.{place_cmp}
-use Rattle.ovs_rows.specs.Row.{HaveDataOf}
 use Rattle.ovs_rows.specs.Writing.{with_member, row_json, row_member, rows_in}
-use Rattle.ovs_rows.proofs.Writings.{entries_between_table, rows_in_table, rows_next, rows_end}
+use Rattle.ovs_rows.proofs.Writings.{HaveDataOf, entries_between_table, rows_in_table, rows_next, rows_end}
 use Rattle.ovs_rows.proofs.writing.table_json.Goals as goal
 
 pub loop-place-init : goal.loop-place-init

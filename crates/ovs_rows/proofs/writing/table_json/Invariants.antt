@@ -2,8 +2,8 @@ use Rattle.std.proofs.Common.{◌≡◌, map}
 use Rattle.std.specs.Prelude.{fold}
 use Rattle.serde_json.specs.Data.{no_members}
 use Rattle.serde_json.specs.View.{members_view}
-use Rattle.ovs_rows.specs.Row.{HaveDataOf}
 use Rattle.ovs_rows.specs.Writing.{with_member, row_member, rows_in}
+use Rattle.ovs_rows.proofs.Writings.{HaveDataOf}
 use Rattle.ovs_rows.proofs.writing.table_json.Given as goal
 
 abbrev pub invariant-loop-place : goal.invariant-loop-place
