@@ -16,7 +16,9 @@ pub enum Took {
 /// What a link shares with one that contradicts it.
 #[derive(Clone, Copy, Debug, PartialEq, Eq)]
 pub enum By {
+    /// The id of the commit before: the two are links from one commit.
     Prev,
+    /// The id: the two are links to one commit.
     Id,
 }
 
@@ -36,6 +38,7 @@ pub enum TakeError {
     Full {
         link: Link,
     },
+    /// Memory ran out.
     #[error("out of memory")]
     NoMemory {
         link: Link,
@@ -56,6 +59,7 @@ pub enum MergeError {
     /// The union has more than 1,000,000 links.
     #[error("the store has no room for the links of the other")]
     Full,
+    /// Memory ran out.
     #[error("out of memory")]
     NoMemory,
 }
@@ -75,6 +79,7 @@ pub enum FoldError {
     /// A link of the list was refused.
     #[error("a link was refused")]
     Refused(TakeError),
+    /// Memory ran out.
     #[error("out of memory")]
     NoMemory,
 }

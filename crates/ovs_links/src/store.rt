@@ -78,9 +78,10 @@ impl LinkStore {
         })
     }
 
-    /// Adds a link, and folds nothing. In this order of refusals: `Fork` where it contradicts a held link, which is
-    /// named, by prev before id; `Full` where the store has `MAX_LINKS` links; `NoMemory`. A refused link is handed
-    /// back, and the store is as it was.
+    /// Adds a link, and folds nothing. `Held` where this very link is held, and nothing is added; `New` where it
+    /// wasn't, and is now. In this order of refusals: `Fork` where it contradicts a held link, which is named, by prev
+    /// before id; `Full` where the store has `MAX_LINKS` links; `NoMemory`. A refused link is handed back, and the
+    /// store is as it was.
     pub fn take(&mut self, link: Link) -> Result<Took, TakeError>
         requires of_tables { IsOfTables (tables_of self.old) link }
         ensures answer { TakesAs self.old.links link result }
@@ -265,10 +266,7 @@ impl LinkStore {
     pub fn holds(&self, link: &Link) -> bool
         ensures value { IsTrue result ↔ Holds self.now.links link.now }
     {
-        match beside_link(&self.chain, &self.parked, link) {
-            Beside::Same => true,
-            _ => false,
-        }
+        matches!(beside_link(&self.chain, &self.parked, link), Beside::Same)
     }
 
     /// How many links are folded up to this id: 0 for the id 0, k for the id of the k-th folded link, else none.

@@ -177,6 +177,19 @@ fn parked_until_the_gap_is_filled(rt: HostRuntime) -> Result<(), Fail> {
 }
 
 #[test]
+fn copied_steps_have_the_same_ids(rt: HostRuntime) -> Result<(), Fail> {
+    let alloc = rt.alloc();
+    let schema = schema(alloc)?;
+    let store = folded(alloc, &schema, &[(0, A, INSERT), (A, B, MODIFY)])?;
+    for step in store.folded().steps() {
+        let copy = step.copy()?;
+        assert_eq!(rt; (copy.prev, copy.id), (step.prev, step.id));
+        assert_eq!(rt; copy.applied.rows().len(), 1);
+    }
+    Ok(())
+}
+
+#[test]
 fn a_ring_is_parked(rt: HostRuntime) -> Result<(), Fail> {
     let alloc = rt.alloc();
     let mut store = store(alloc)?;
