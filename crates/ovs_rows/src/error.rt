@@ -20,7 +20,7 @@ pub enum ChangeError {
     /// "delete" and "modify".
     #[error("not an object, or not exactly one kind of row update")]
     BadKind,
-    /// A value that is no datum of its column, or no difference of such data.
+    /// A value, or a difference, that is no datum of its column.
     #[error("not a value of its column: {0}")]
     Datum(DatumError),
     /// Memory ran out; nothing is said of the value.

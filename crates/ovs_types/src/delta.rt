@@ -64,8 +64,8 @@ pub fn there_and_back(old: &Datum, new: &Datum, column: &Column) -> Result<Datum
     requires alike { IsAlike old.now new.now }
     ensures back { IfOk result (λ d. d ≡ new.now) }
 {
-    // The copy's clause `ordered` says that `new` ascends: only of data that do is one the only datum
-    // with a difference.
+    // The clause `ordered` of the copy says that `new` ascends, and of data that ascend it is the only one
+    // with its difference from `old`.
     let given = new.copy()?;
     apply_difference(old, &difference(old, &given, column)?, column)
 }
