@@ -1,6 +1,6 @@
 //! The script `fold`: a schema, then links, and at the end the database that the longest chain makes.
 
-ghost use Rattle.std.specs.Prelude.{◌≡◌, ◌≤◌, ◌+◌, ℕ, List, IsTrue, IfOk, IfSome, is_some, if◌then◌else◌};
+ghost use Rattle.std.specs.Prelude.{◌≡◌, ◌≤◌, ◌+◌, ◌-◌, ◌^◌, ℕ, List, IsTrue, IfOk, IfSome, is_some, min, if◌then◌else◌};
 ghost use Rattle.std.specs.Io.KnownBytes.{Appends};
 ghost use Rattle.ovs_relay.specs.Sending.{AppendsBeginning};
 ghost use Rattle.ovs_relay.specs.RunEnd.{is_whole, writes_failed_by};
@@ -128,8 +128,9 @@ impl Script for Fold {
 /// is a second reader, its links go into a second store, which is then merged into the first.
 ///
 /// The texts are all that the readers have left. The second isn't read where the schema is refused. The run makes at
-/// most 1,000,000 read and write calls. Where it breaks off, a beginning of the output is written: at `ReadFault` and at
-/// `NoMemory` the answers to some first lines, of the input before the second text.
+/// most 1,000,000 read and write calls, and at `TurnsSpent` all of them are made, as far as 64-bit counts can tell. Where
+/// it breaks off, a beginning of the output is written: at `ReadFault` and at `NoMemory` the answers to some first
+/// lines, of the input before the second text.
 pub fn fold_run<R: Read, M: Read, W: Write>(
     alloc: Global,
     reader: &mut Counted<R>,
@@ -155,9 +156,12 @@ pub fn fold_run<R: Read, M: Read, W: Write>(
         WithText (λ m. M.remaining m.device) merge.old (λ text. (said : List ℕ) × AreFirstAnswers input text said
         × Appends (W.contents writer.old.device) (W.contents writer.new.device) said)) }
 
-    // At most 1,000,000 calls are made.
+    // At most 1,000,000 calls are made, and all of them where the turns are spent, as far as 64 bits can tell.
     ensures calls { reader.new.calls + counted_of (λ m. m.calls) merge.new + writer.new.calls
         ≤ reader.old.calls + counted_of (λ m. m.calls) merge.old + writer.old.calls + 1000000 }
+    ensures spent { result ≡ RunEnd.TurnsSpent
+        → min (reader.new.calls + counted_of (λ m. m.calls) merge.new + writer.new.calls) (2 ^ 64 - 1)
+        ≡ min (reader.old.calls + counted_of (λ m. m.calls) merge.old + writer.old.calls + 1000000) (2 ^ 64 - 1) }
 
     // The faults of the devices are those that were counted.
     ensures read_fault { result ≡ RunEnd.ReadFault → OneGrew reader.old.failures reader.new.failures

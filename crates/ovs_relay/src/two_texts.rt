@@ -1,6 +1,6 @@
 //! The script `fold` over an input and a second text.
 
-ghost use Rattle.std.specs.Prelude.{◌≡◌, ◌≤◌, ◌+◌, ◌++◌, ℕ, List, Err, IsTrue, IfOk, IfSome, OnOk, OnErr, Some, if◌then◌else◌};
+ghost use Rattle.std.specs.Prelude.{◌≡◌, ◌≤◌, ◌+◌, ◌-◌, ◌^◌, ◌++◌, ℕ, List, Err, IsTrue, IfOk, IfSome, OnOk, OnErr, Some, min, if◌then◌else◌};
 ghost use Rattle.std.specs.Io.KnownBytes.{Appends};
 ghost use Rattle.ovs_relay.specs.Turns.{IsSpentByCalls};
 ghost use Rattle.ovs_relay.specs.Fault.{failed_writes};
@@ -88,6 +88,9 @@ pub fn fold_both<R: Read, M: Read, W: Write>(
 
     ensures calls { reader.new.calls + second.new.calls + writer.new.calls
         ≤ reader.old.calls + second.old.calls + writer.old.calls + 1000000 }
+    ensures spent { result ≡ RunEnd.TurnsSpent
+        → min (reader.new.calls + second.new.calls + writer.new.calls) (2 ^ 64 - 1)
+        ≡ min (reader.old.calls + second.old.calls + writer.old.calls + 1000000) (2 ^ 64 - 1) }
 
     ensures read_fault { result ≡ RunEnd.ReadFault
         → OneGrew reader.old.failures reader.new.failures second.old.failures second.new.failures }
