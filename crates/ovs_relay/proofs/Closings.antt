@@ -3,14 +3,15 @@ use Rattle.std.proofs.Common.{◌≡◌, ℕ, zero, suc, ◌≤◌, Bool, true, 
 use Rattle.std.specs.Ordering.{nat_cmp}
 use Rattle.std.specs.Prelude.{unwrap_or, ◌+◌}
 use Rattle.std.specs.FinMap.{FinMap, get, len}
+use Rattle.ovs_types.specs.declared.schema.Schema.{Schema}
 use Rattle.ovs_types.specs.declared.schema.Table.{Table}
 use Rattle.ovs_rows.specs.Row.{Rows, no_rows}
 use Rattle.ovs_rows.specs.After.{fits, after}
 use Rattle.ovs_links.specs.declared.link.Link.{Link}
 use Rattle.ovs_links.specs.Sets.{Holds, AllOf}
-use Rattle.ovs_links.specs.Chains.{JoinUp, head_after, rows_after}
-use Rattle.ovs_links.specs.Store.{Stored, IsStore, tables_of, head_of, rows_of}
-use Rattle.ovs_links.specs.Answers.{SettlesAs}
+use Rattle.ovs_links.specs.Chains.{JoinUp, IsLongestChain, head_after, rows_after}
+use Rattle.ovs_links.specs.Store.{Stored, IsStore, IsChainOf, tables_of, head_of, rows_of}
+use Rattle.ovs_links.specs.Answers.{SettlesAs, IsSourceChain}
 use Rattle.ovs_links.specs.declared.answer.Settled.{Settled}
 use Rattle.ovs_links.specs.declared.answer.Settled.TheVariants.{Done, Stuck}
 use Rattle.ovs_relay.specs.Closing.{chain_from, chain_of, followed}
@@ -57,3 +58,22 @@ pub settled_chain : (s t : Stored) (r : Settled) (parked : ℕ) → t.schema ≡
 settled_chain s t r parked schema links store settles count =
     sym (chain_is (tables_of t) t.links (len t.links) 0 no_rows t.folded store.chain.joined store.chain.members (omega arith) (no_more_fits t r store settles))
     ∙ (λ i. chain_from ((schema i).description.tables) (links i) (len (links i)) 0 no_rows)
+
+-- what is so of a store's tables, links and folded links is so of those that it came from and of the chain that is followed
+told_before : (P : List Table → FinMap nat_cmp Link → List Link → Type 0) (s t : Stored) → t.schema ≡ s.schema → t.links ≡ s.links → t.folded ≡ chain_of s
+    → P (tables_of t) t.links t.folded → P (tables_of s) s.links (chain_of s)
+told_before P s t schema links folded so =
+    subst (λ (ls : List Link). P (tables_of s) s.links ls) folded
+    (subst (λ (m : FinMap nat_cmp Link). P (tables_of s) m t.folded) links
+    (subst (λ (z : Schema). P (z.description.tables) t.links t.folded) schema so))
+
+pub longest_before : (s t : Stored) → t.schema ≡ s.schema → t.links ≡ s.links → t.folded ≡ chain_of s → IsChainOf t t.folded → IsChainOf s (chain_of s)
+longest_before s t = told_before (λ tables m ls. IsLongestChain tables 0 no_rows (Holds m) ls) s t
+
+pub only_before : (s t : Stored) → t.schema ≡ s.schema → t.links ≡ s.links → t.folded ≡ chain_of s
+    → ((ls : List Link) → IsChainOf t ls → t.folded ≡ ls) → (ls : List Link) → IsChainOf s ls → chain_of s ≡ ls
+only_before s t = told_before (λ tables m ls. (ks : List Link) → IsLongestChain tables 0 no_rows (Holds m) ks → ls ≡ ks) s t
+
+pub source_before : (s t : Stored) → t.schema ≡ s.schema → t.links ≡ s.links → t.folded ≡ chain_of s
+    → IsSourceChain (tables_of t) (Holds t.links) t.folded → IsSourceChain (tables_of s) (Holds s.links) (chain_of s)
+source_before s t = told_before (λ tables m ls. IsSourceChain tables (Holds m) ls) s t

@@ -18,7 +18,7 @@ use Rattle.ovs_relay.specs.declared.words.Refusal.TheVariants.{Fork, Full}
 use Rattle.ovs_relay.specs.declared.words.Outcome.TheVariants.{Took, Held, Refused}
 use Rattle.ovs_relay.specs.declared.words.Refusal.{Refusal}
 use Rattle.ovs_relay.specs.declared.words.Outcome.{Outcome}
-use Rattle.ovs_relay.specs.Intake.{IsRefusalOf, with_link, outcome_of_link, outcome_by_prev, outcome_by_id, same_link}
+use Rattle.ovs_relay.specs.Intake.{IsRefusalOf, TellsAnswer, with_link, outcome_of_link, outcome_by_prev, outcome_by_id, same_link}
 use Rattle.ovs_relay.proofs.Same.{same_itself, not_same}
 use Rattle.ovs_relay.proofs.Values.{none_passes, one_passes}
 
@@ -83,3 +83,13 @@ new_is s l store (none_prev, none_id, room) = took_is s.links l store.keyed none
 -- what the store is after it, by what became of the link
 pub after_is : (s t : Stored) (l : Link) (o : Outcome) → t ≡ with_link s l o → o ≡ outcome_of_link s.links l → t ≡ with_link s l (outcome_of_link s.links l)
 after_is s t l o is same = is ∙ ap (with_link s l) same
+
+-- a refusal tells the store's answer
+pub refusal_tells : (m : FinMap nat_cmp Link) (l : Link) (e : TakeError) (r : Refusal) → TakesAs m l (Err e) → IsRefusalOf e r → TellsAnswer m l (Refused r)
+refusal_tells m l (errors.Fork k Prev p i) r takes refusal =
+    subst (λ (z : Refusal). TellsAnswer m l (Refused z)) (sym refusal) (Prev, (refl, takes.1))
+refusal_tells m l (errors.Fork k Id p i) r takes refusal =
+    subst (λ (z : Refusal). TellsAnswer m l (Refused z)) (sym refusal) (Id, (refl, takes.1, takes.2))
+refusal_tells m l (errors.Full k) r takes refusal =
+    subst (λ (z : Refusal). TellsAnswer m l (Refused z)) (sym refusal) (refl, takes.1, takes.2, takes.3)
+refusal_tells m l (errors.NoMemory k) r takes refusal = absurd refusal

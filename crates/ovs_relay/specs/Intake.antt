@@ -4,9 +4,12 @@ use Rattle.std.specs.Ordering.{nat_cmp}
 use Rattle.std.specs.FinMap.{FinMap, get, insert, len, values}
 use Rattle.ovs_links.specs.contracts.link.Link as link_row
 use Rattle.ovs_links.specs.declared.link.Link.{Link}
+use Rattle.ovs_links.specs.declared.answer.By.{By}
+use Rattle.ovs_links.specs.declared.answer.Took.TheVariants as answers
 use Rattle.ovs_links.specs.declared.answer.TakeError.{TakeError}
 use Rattle.ovs_links.specs.declared.answer.TakeError.TheVariants as errors
 use Rattle.ovs_links.specs.Store.{Stored, max_links}
+use Rattle.ovs_links.specs.Answers.{TakesAs}
 use Rattle.ovs_relay.specs.declared.words.Refusal.{Refusal}
 use Rattle.ovs_relay.specs.declared.words.Refusal.TheVariants.{Fork, Full}
 use Rattle.ovs_relay.specs.declared.words.Outcome.{Outcome}
@@ -39,6 +42,14 @@ abbrev pub IsRefusalOf : TakeError → Refusal → Type 0
 IsRefusalOf (errors.Fork l by prev id) refusal = refusal ≡ Fork prev id
 IsRefusalOf (errors.Full l) refusal = refusal ≡ Full
 IsRefusalOf (errors.NoMemory l) refusal = ⊥
+
+-- the outcome tells what taking the link answers
+abbrev pub TellsAnswer : FinMap nat_cmp Link → Link → Outcome → Type 0
+TellsAnswer links l Took = TakesAs links l (Ok answers.New)
+TellsAnswer links l Held = TakesAs links l (Ok answers.Held)
+TellsAnswer links l (Refused (Fork prev id)) = (by : By) × TakesAs links l (Err (errors.Fork l by prev id))
+TellsAnswer links l (Refused Full) = TakesAs links l (Err (errors.Full l))
+TellsAnswer links l (Refused _) = ⊥
 
 abbrev pub outcome_of_line : Stored → Result Link Refusal → Outcome
 outcome_of_line s (Ok l) = outcome_of_link s.links l

@@ -1,8 +1,11 @@
 //! The last lines of the script `fold`.
 
-ghost use Rattle.std.specs.Prelude.{◌≡◌, ◌++◌, ◌≤◌, ◌-◌, [], IfOk, OnOk, Some, codes, not, ◌&&◌, length, string_bytes, option_map};
+ghost use Rattle.std.specs.Prelude.{◌≡◌, ◌++◌, ◌≤◌, ◌-◌, [], List, IfOk, OnOk, Some, codes, not, ◌&&◌, length, string_bytes, option_map};
 ghost use Rattle.std.specs.FinMap.{len};
-ghost use Rattle.ovs_links.specs.Store.{head_of};
+ghost use Rattle.ovs_links.specs.declared.link.Link.{Link};
+ghost use Rattle.ovs_links.specs.Sets.{Holds};
+ghost use Rattle.ovs_links.specs.Store.{IsChainOf, head_of, tables_of};
+ghost use Rattle.ovs_links.specs.Answers.{IsSourceChain};
 ghost use Rattle.ovs_relay.specs.Closing.{stuck_line, stuck_id, head_line, counts_line, database_line, database_after, last_lines, end_text, is_whole_chain, chain_of};
 
 use crate::script::Closing;
@@ -101,6 +104,9 @@ fn settle(alloc: Global, store: &mut LinkStore) -> Result<Option<TxnId>, NoMemor
     ensures links { store.new.links ≡ store.old.links }
     ensures chain { OnOk result (store.new.folded ≡ chain_of store.old) }
     ensures stuck { IfOk result (λ stuck. stuck ≡ stuck_id store.new.links store.new.folded) }
+    ensures longest { OnOk result (IsChainOf store.old (chain_of store.old)) }
+    ensures only { OnOk result ((ls : List Link) → IsChainOf store.old ls → chain_of store.old ≡ ls) }
+    ensures source { OnOk result (IsSourceChain (tables_of store.old) (Holds store.old.links) (chain_of store.old)) }
 {
     let settled = store.settle(alloc)?;
     let _ = store.head();
@@ -112,10 +118,17 @@ fn settle(alloc: Global, store: &mut LinkStore) -> Result<Option<TxnId>, NoMemor
 }
 
 /// Folds the longest chain and tells of it. It is content where no line was refused and the chain isn't stuck.
+///
+/// Where all links come from one history, the chain is the history's as far as the links hold all of it.
 pub fn close_store(alloc: Global, store: &mut LinkStore, refused: bool) -> Result<Closing, NoMemory>
     ensures text { IfOk result (λ closing. string_bytes closing.text ≡ end_text store.old) }
     ensures content { IfOk result (λ closing. closing.is_content ≡ (not refused && is_whole_chain store.old)) }
     ensures schema { store.new.schema ≡ store.old.schema }
+
+    // The chain that is told of is the longest, and no other is as long.
+    ensures longest { OnOk result (IsChainOf store.old (chain_of store.old)) }
+    ensures only { OnOk result ((ls : List Link) → IsChainOf store.old ls → chain_of store.old ≡ ls) }
+    ensures source { OnOk result (IsSourceChain (tables_of store.old) (Holds store.old.links) (chain_of store.old)) }
 {
     let stuck = settle(alloc, store)?;
     let text = last_lines(alloc, store, stuck)?;

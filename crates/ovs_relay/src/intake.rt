@@ -6,7 +6,7 @@ ghost use Rattle.ovs_links.specs.Store.{tables_of};
 ghost use Rattle.ovs_relay.specs.Folding.{line_outcome, is_refused};
 ghost use Rattle.ovs_relay.specs.Reading.{link_of_line};
 ghost use Rattle.ovs_relay.specs.Words.{outcome_line};
-ghost use Rattle.ovs_relay.specs.Intake.{IsRefusalOf, outcome_of_link, with_link, store_after_line};
+ghost use Rattle.ovs_relay.specs.Intake.{IsRefusalOf, TellsAnswer, outcome_of_link, with_link, store_after_line};
 
 use crate::reading::link_of_line;
 use crate::words::{Outcome, Refusal};
@@ -45,6 +45,7 @@ fn refusal_of(error: &TakeError) -> Result<Refusal, NoMemory>
 fn take_link(store: &mut LinkStore, link: Link) -> Result<Outcome, NoMemory>
     requires tables { IsChangeOf (tables_of store.old) link.change }
     ensures outcome { IfOk result (λ outcome. outcome ≡ outcome_of_link store.old.links link) }
+    ensures agrees { IfOk result (TellsAnswer store.old.links link) }
     ensures after { OnOk result (store.new ≡ with_link store.old link (outcome_of_link store.old.links link)) }
     ensures schema { store.new.schema ≡ store.old.schema }
 {
