@@ -1,7 +1,7 @@
 //! The command line.
-ghost use Rattle.std.specs.Prelude.{◌≡◌, ℕ, List, Option, [], true, map, Err, IfOk, IfErr, option_map, string_bytes};
+ghost use Rattle.std.specs.Prelude.{◌≡◌, ◌≢◌, ℕ, List, Option, [], true, map, Err, IfOk, IfErr, IsTrue, option_map, string_bytes};
 ghost use Rattle.clap.specs.Words.{app_of, takes, fault_of, kind_of, FailsBy, HasMatchesOf, subcommand_rows_of};
-ghost use Rattle.ovs_relay.specs.CommandLine.{program, merge_of, merge_word, AsksToFold};
+ghost use Rattle.ovs_relay.specs.CommandLine.{program, merge_of, merge_word, AsksToFold, AskForHelp, HaveFault, is_help, is_usage};
 
 use clap::error::ErrorKind;
 use clap::{Arg, ArgAction, ArgMatches, Command, Error};
@@ -69,9 +69,12 @@ fn first_line(text: &str) -> &str {
     }
 }
 
-// What becomes of words that clap doesn't take.
+// What becomes of words that clap doesn't take: its help where they ask for it, and else the line that says what is off.
 fn refused(alloc: Global, error: &Error) -> Result<Task, CommandFault>
     ensures no_task { IfOk result (λ task. (word : Option (List ℕ)) → ¬ (AsksToFold word task)) }
+    ensures help { IfOk result (λ task. IsTrue (is_help task) → kind_of error.now ≡ ErrorKind.DisplayHelp) }
+    ensures usage { IfErr result (λ fault. IsTrue (is_usage fault)
+        → (kind_of error.now ≢ ErrorKind.DisplayHelp) × (kind_of error.now ≢ ErrorKind.OutOfMemory)) }
     ensures memory { kind_of error.now ≡ ErrorKind.OutOfMemory → result ≡ Err CommandFault.NoMemory }
 {
     let text = format!(in alloc; "{error}")?;
@@ -95,13 +98,15 @@ fn merge_of(alloc: Global, matches: &ArgMatches<'_>) -> Result<Option<String>, A
     }
 }
 
-/// Reads a command line: the program's name and the words after it. `Usage` where they are no task, as where `--merge`
-/// has no word after it or stands twice, and `NoMemory`.
+/// Reads a command line: the program's name and the words after it. `Help` only where they ask for help. `Usage` where they
+/// are no task, as where `--merge` has no word after it or stands twice, and `NoMemory`.
 pub fn command<S: AsStr>(alloc: Global, words: &[S]) -> Result<Task, CommandFault>
     ensures accepted { takes program (map S.text words.now) ≡ true
         → IfOk result (AsksToFold (merge_word (map S.text words.now))) × IfErr result (λ fault. fault ≡ CommandFault.NoMemory) }
     ensures only { IfOk result (λ task. (word : Option (List ℕ)) → AsksToFold word task
         → (fault_of program (map S.text words.now) ≡ []) × (word ≡ merge_word (map S.text words.now))) }
+    ensures help { IfOk result (λ task. IsTrue (is_help task) → AskForHelp (map S.text words.now)) }
+    ensures usage { IfErr result (λ fault. IsTrue (is_usage fault) → HaveFault (map S.text words.now)) }
 {
     match commands(alloc)?.try_get_matches_from(words) {
         Ok(matches) => {

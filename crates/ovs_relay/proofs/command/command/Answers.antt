@@ -1,13 +1,18 @@
 use Rattle.std.proofs.Common.{◌∙◌, ap, sym, map}
 use Rattle.clap.specs.Words.{App, fault_of, is_simple, is_simple_and_free, subcommand_of, takes}
 use Rattle.ovs_relay.specs.CommandLine.{merge_of}
-use Rattle.ovs_relay.proofs.CommandLines.{no_memory}
+use Rattle.ovs_relay.proofs.CommandLines.{fault_of_usage, no_memory}
 use Rattle.ovs_relay.proofs.command.command.Goals as goal
 
 pub returns-in-Err-clause-accepted : goal.returns-in-Err-clause-accepted
 returns-in-Err-clause-accepted g c taken =
     no_memory c.refused.result _
     (c.refused.ensures.memory (c.in-Err.ensures.passes (ap (λ (a : App). takes a (map g.S.AsStr.text c.args.words.now)) c.in_ok-commands.ensures.value ∙ taken)))
+
+pub returns-in-Err-clause-usage : goal.returns-in-Err-clause-usage
+returns-in-Err-clause-usage g c =
+    fault_of_usage c.refused.result c.in-Err.error _ (map g.S.AsStr.text c.args.words.now) c.in_ok-commands.ensures.value
+    (c.in-Err.ensures.kinds (ap is_simple_and_free c.in_ok-commands.ensures.value)) c.refused.ensures.usage
 
 pub returns-in_ok-merge-in-Ok-clause-only : goal.returns-in_ok-merge-in-Ok-clause-only
 returns-in_ok-merge-in-Ok-clause-only g c word asks =
