@@ -13,6 +13,12 @@ is_whole Clean = true
 is_whole Refused = true
 is_whole _ = false
 
+-- the exit status of the program: 0 done, 1 some input refused, 3 memory or a device gave out
+abbrev pub status_of : RunEnd → ℕ
+status_of Clean = 0
+status_of Refused = 1
+status_of _ = 3
+
 -- the failures counted of the writer, which had so many before the run: one more exactly where the run ends by a write fault
 abbrev pub writes_failed_by : ℕ → RunEnd → ℕ
 writes_failed_by n ends.WriteFault = one_more n

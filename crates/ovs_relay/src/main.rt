@@ -33,50 +33,66 @@ use run::RunEnd;
 use std::fs::File;
 use std::process::ExitCode;
 
-// One line on standard error, and the status.
-fn fails<R: Eprint>(rt: &R, line: &str, status: u8) -> ExitCode {
+/// The exit status for a fault of the command line.
+const WRONG_WORDS: u8 = 2;
+
+// One line on standard error.
+fn says<R: Eprint>(rt: &R, line: &str) {
     let _ = eprintln!(rt; "ovs_relay: {line}");
-    ExitCode::from(status)
 }
 
-// The same for a file, named before the line.
-fn fails_at<R: Eprint>(rt: &R, path: &str, line: &str, status: u8) -> ExitCode {
+// The same of a file, which is named before the line.
+fn says_of<R: Eprint>(rt: &R, path: &str, line: &str) {
     let _ = eprintln!(rt; "ovs_relay: {path:?} {line}");
-    ExitCode::from(status)
+}
+
+// One line on standard error, and the status of the end that it tells of.
+fn fails<R: Eprint>(rt: &R, line: &str, end: RunEnd) -> ExitCode {
+    says(rt, line);
+    ExitCode::from(end.status())
+}
+
+// The same for a fault of the command line.
+fn refuses<R: Eprint>(rt: &R, line: &str) -> ExitCode {
+    says(rt, line);
+    ExitCode::from(WRONG_WORDS)
 }
 
 // Folds from standard input, with the links of a file where one is named. The file is opened before anything is read.
 fn run_fold(rt: &HostRuntime, merge: Option<&str>) -> ExitCode {
-    let path = merge.unwrap_or("");
     let mut second = None;
-    if merge.is_some() {
+    if let Some(path) = merge {
         match File::open(rt, path) {
             Ok(file) => second = Some(Counted::new(file)),
-            Err(_) => return fails_at(rt, path, "can't be opened", 2),
+            Err(_) => {
+                says_of(rt, path, "can't be opened");
+                return ExitCode::from(WRONG_WORDS);
+            }
         }
     }
     let mut reader = Counted::new(rt.stdin());
     let mut writer = Counted::new(rt.stdout());
-    match fold_run(rt.alloc(), &mut reader, &mut second, &mut writer) {
-        RunEnd::Clean => ExitCode::SUCCESS,
-        RunEnd::Refused => ExitCode::from(1),
-        RunEnd::ReadFault if reader.failures() > 0 => {
-            fails(rt, "standard input can't be read", 3)
+    let end = fold_run(rt.alloc(), &mut reader, &mut second, &mut writer);
+    match (end, merge) {
+        (RunEnd::Clean | RunEnd::Refused, _) => {}
+        (RunEnd::ReadFault, Some(path)) if reader.failures() == 0 => {
+            says_of(rt, path, "can't be read")
         }
-        RunEnd::ReadFault => fails_at(rt, path, "can't be read", 3),
-        RunEnd::WriteFault => fails(rt, "standard output can't be written", 3),
-        RunEnd::TurnsSpent => fails(rt, "too many reads and writes", 3),
-        RunEnd::NoMemory => fails(rt, "out of memory", 3),
+        (RunEnd::ReadFault, _) => says(rt, "standard input can't be read"),
+        (RunEnd::WriteFault, _) => says(rt, "standard output can't be written"),
+        (RunEnd::TurnsSpent, _) => says(rt, "too many reads and writes"),
+        (RunEnd::NoMemory, _) => says(rt, "out of memory"),
     }
+    ExitCode::from(end.status())
 }
 
 fn main(rt: HostRuntime) -> ExitCode {
     let alloc = rt.alloc();
     let Ok(args) = std::env::args(&rt) else {
-        return fails(&rt, "the command line can't be read", 3);
+        return fails(&rt, "the command line can't be read", RunEnd::NoMemory);
     };
     let Ok(words) = args.collect::<Vec<String>>(alloc) else {
-        return fails(&rt, "out of memory", 3);
+        return fails(&rt, "out of memory", RunEnd::NoMemory);
     };
     match command(alloc, words.as_slice()) {
         Ok(Task::Fold { merge }) => {
@@ -85,9 +101,9 @@ fn main(rt: HostRuntime) -> ExitCode {
         }
         Ok(Task::Help(text)) => match print!(rt; "{text}") {
             Ok(()) => ExitCode::SUCCESS,
-            Err(_) => fails(&rt, "standard output can't be written", 3),
+            Err(_) => fails(&rt, "standard output can't be written", RunEnd::WriteFault),
         },
-        Err(CommandFault::Usage(line)) => fails(&rt, line.as_str(), 2),
-        Err(CommandFault::NoMemory) => fails(&rt, "out of memory", 3),
+        Err(CommandFault::Usage(line)) => refuses(&rt, line.as_str()),
+        Err(CommandFault::NoMemory) => fails(&rt, "out of memory", RunEnd::NoMemory),
     }
 }

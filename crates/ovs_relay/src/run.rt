@@ -6,7 +6,7 @@ ghost use Rattle.ovs_relay.specs.Turns.{IsSpentByCalls};
 ghost use Rattle.ovs_relay.specs.Fault.{failed_reads, failed_writes};
 ghost use Rattle.ovs_relay.specs.Sending.{AppendsAllBut, AppendsBeginning};
 ghost use Rattle.ovs_relay.specs.Rules.{AreFirstLines, answers_from, answers_to, state_from, state_after, script_output, is_content_with};
-ghost use Rattle.ovs_relay.specs.RunEnd.{is_whole, writes_failed_by};
+ghost use Rattle.ovs_relay.specs.RunEnd.{is_whole, status_of, writes_failed_by};
 
 use crate::fault::Fault;
 use crate::line::Line;
@@ -34,6 +34,19 @@ pub enum RunEnd {
     TurnsSpent,
     /// A growth was refused.
     NoMemory,
+}
+
+impl RunEnd {
+    /// The exit status of the program: 0 done, 1 some input refused, 3 memory or a device gave out.
+    pub fn status(self) -> u8
+        ensures value { result ≡ status_of self }
+    {
+        match self {
+            RunEnd::Clean => 0,
+            RunEnd::Refused => 1,
+            RunEnd::ReadFault | RunEnd::WriteFault | RunEnd::TurnsSpent | RunEnd::NoMemory => 3,
+        }
+    }
 }
 
 impl From<Fault> for RunEnd {
