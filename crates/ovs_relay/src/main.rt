@@ -31,6 +31,7 @@ use fold::fold_run;
 use ovs_wire::Counted;
 use run::RunEnd;
 use std::fs::File;
+use std::io::ErrorKind;
 use std::process::ExitCode;
 
 /// The exit status for a fault of the command line.
@@ -88,8 +89,12 @@ fn run_fold(rt: &HostRuntime, merge: Option<&str>) -> ExitCode {
 
 fn main(rt: HostRuntime) -> ExitCode {
     let alloc = rt.alloc();
-    let Ok(args) = std::env::args(&rt) else {
-        return fails(&rt, "the command line can't be read", RunEnd::NoMemory);
+    let args = match std::env::args(&rt) {
+        Ok(args) => args,
+        Err(error) if error.kind() == ErrorKind::OutOfMemory => {
+            return fails(&rt, "out of memory", RunEnd::NoMemory);
+        }
+        Err(_) => return refuses(&rt, "a word of the command line is no UTF-8"),
     };
     let Ok(words) = args.collect::<Vec<String>>(alloc) else {
         return fails(&rt, "out of memory", RunEnd::NoMemory);
