@@ -1,3 +1,5 @@
+//! What stores of links answer, and what stands in them after that, as texts. The ids of commits are letters there.
+
 ghost use Rattle.std.specs.Prelude.{◌≡◌, IfOk};
 ghost use Rattle.ovs_links.specs.Sets.{AllOf, IsOfTables};
 
@@ -6,6 +8,7 @@ use ovs_rows::Change;
 use ovs_types::{NoMemory, Schema, TxnId};
 use serde_json::Value;
 use std::alloc::Global;
+use std::process::Abort;
 use std::test::Fail;
 
 const SCHEMA: &str =
@@ -55,18 +58,6 @@ fn link(
     }
 }
 
-// Takes a link of this change.
-fn take(
-    store: &mut LinkStore,
-    alloc: Global,
-    prev: u128,
-    id: u128,
-    change: &str,
-) -> Result<Result<Took, TakeError>, &'static str> {
-    let link = link(alloc, store.schema(), prev, id, change)?;
-    Ok(store.take(link))
-}
-
 fn store(alloc: Global) -> Result<LinkStore, &'static str> {
     LinkStore::new(alloc, &schema(alloc)?).map_err(|_| "no memory")
 }
@@ -93,45 +84,81 @@ fn folded(
     }
 }
 
-// What the held link that a merge is refused for shares with one of the other store, and its ids.
-fn merge_forked(answer: Result<(), MergeError>) -> Option<(By, u128, u128)> {
-    match answer {
-        Ok(()) => None,
-        Err(refused) => match refused {
-            MergeError::Fork {
-                by,
-                held_prev,
-                held_id,
-            } => Some((by, held_prev.value(), held_id.value())),
-            MergeError::Full | MergeError::NoMemory => None,
-        },
+// ---- answers as texts
+
+fn letter(id: TxnId) -> &'static str {
+    match id.value() {
+        0 => "0",
+        A => "a",
+        B => "b",
+        C => "c",
+        D => "d",
+        _ => "?",
     }
 }
 
-// What the held link that a link contradicts shares with it, and its ids.
-fn forked<T: Drop>(answer: Result<T, TakeError>) -> Option<(By, u128, u128)> {
-    match answer {
-        Ok(_) => None,
-        Err(refused) => match refused {
-            TakeError::Fork {
-                by,
-                held_prev,
-                held_id,
-                ..
-            } => Some((by, held_prev.value(), held_id.value())),
-            TakeError::Full { .. } | TakeError::NoMemory { .. } => None,
-        },
+fn text(alloc: Global, word: &str) -> Result<String, &'static str> {
+    String::from_str(alloc, word).map_err(|_| "no memory")
+}
+
+fn fork_text(alloc: Global, by: By, prev: TxnId, id: TxnId) -> Result<String, &'static str> {
+    let shared = match by {
+        By::Prev => "prev",
+        By::Id => "id",
+    };
+    let prev = letter(prev);
+    let id = letter(id);
+    format!(in alloc; "fork by {shared} with {prev} {id}").map_err(|_| "no memory")
+}
+
+fn refused_text(alloc: Global, error: TakeError) -> Result<String, &'static str> {
+    match error {
+        TakeError::Fork {
+            by,
+            held_prev,
+            held_id,
+            ..
+        } => fork_text(alloc, by, held_prev, held_id),
+        TakeError::Full { .. } => text(alloc, "full"),
+        TakeError::NoMemory { .. } => text(alloc, "no memory"),
     }
 }
 
-// Appends a link of this change, where none follows the head, and where this one does and fits.
+// ---- what may be done to a store
+
+/// A link has the id before it, its own id, and a change.
+#[derive(Clone, Copy, Debug)]
+enum Event {
+    Take(u128, u128, &'static str),
+    Append(u128, u128, &'static str),
+    Settle,
+    /// The links of a second store.
+    Merge(&'static [(u128, u128, &'static str)]),
+}
+
+fn take(
+    store: &mut LinkStore,
+    alloc: Global,
+    prev: u128,
+    id: u128,
+    change: &str,
+) -> Result<String, &'static str> {
+    let link = link(alloc, store.schema(), prev, id, change)?;
+    match store.take(link) {
+        Ok(Took::New) => text(alloc, "new"),
+        Ok(Took::Held) => text(alloc, "held"),
+        Err(error) => refused_text(alloc, error),
+    }
+}
+
+// Where no held link follows the head, and where this one does and fits.
 fn append(
     store: &mut LinkStore,
     alloc: Global,
     prev: u128,
     id: u128,
     change: &str,
-) -> Result<Result<(), TakeError>, &'static str> {
+) -> Result<String, &'static str> {
     let link = link(alloc, store.schema(), prev, id, change)?;
     if !matches!(store.settle(alloc), Ok(Settled::Done)) {
         return Err("not settled");
@@ -139,146 +166,313 @@ fn append(
     if link.prev() != store.head() || !store.database().fits(link.change()) {
         return Err("not next");
     }
-    Ok(store.append(alloc, link))
+    match store.append(alloc, link) {
+        Ok(()) => text(alloc, "appended"),
+        Err(error) => refused_text(alloc, error),
+    }
 }
 
-// The id of the link that follows the chain and doesn't fit.
-fn stuck_at(answer: Result<Settled, NoMemory>) -> Option<u128> {
-    match answer {
+fn settle(store: &mut LinkStore, alloc: Global) -> Result<String, &'static str> {
+    match store.settle(alloc) {
         Ok(settled) => match settled {
-            Settled::Stuck(id) => Some(id.value()),
-            Settled::Done => None,
+            Settled::Done => text(alloc, "done"),
+            Settled::Stuck(id) => {
+                let id = letter(id);
+                format!(in alloc; "stuck at {id}").map_err(|_| "no memory")
+            }
         },
-        Err(_) => None,
+        Err(NoMemory) => text(alloc, "no memory"),
     }
 }
 
-#[test]
-fn parked_until_the_gap_is_filled(rt: HostRuntime) -> Result<(), Fail> {
-    let alloc = rt.alloc();
-    let mut store = store(alloc)?;
-    assert!(rt; matches!(take(&mut store, alloc, B, C, MODIFY)?, Ok(Took::New)));
-    assert!(rt; matches!(take(&mut store, alloc, 0, A, INSERT)?, Ok(Took::New)));
-    assert!(rt; matches!(store.settle(alloc), Ok(Settled::Done)));
-    assert_eq!(rt; store.head().value(), A);
-    assert_eq!(rt; store.parked(), 1);
-    assert!(rt; matches!(take(&mut store, alloc, A, B, MODIFY)?, Ok(Took::New)));
-    assert!(rt; matches!(take(&mut store, alloc, A, B, MODIFY)?, Ok(Took::Held)));
-    assert!(rt; matches!(store.settle(alloc), Ok(Settled::Done)));
-    assert_eq!(rt; store.head().value(), C);
-    assert_eq!(rt; store.chain_len(), 3);
-    assert_eq!(rt; store.folded().steps().len(), 3);
-    assert!(rt; matches!(store.position_of(TxnId::zero()), Some(0)));
-    assert!(rt; matches!(store.position_of(TxnId::from_value(B)), Some(2)));
-    assert!(rt; store.link_at(0).is_none());
-    assert_eq!(rt; store.link_at(3).map(|link| link.id().value()), Some(C));
-    assert!(rt; store.link_at(4).is_none());
-    Ok(())
+fn merge(
+    store: &mut LinkStore,
+    alloc: Global,
+    parts: &[(u128, u128, &'static str)],
+) -> Result<String, &'static str> {
+    let other = folded(alloc, store.schema(), parts)?;
+    match store.merge(&other) {
+        Ok(()) => text(alloc, "merged"),
+        Err(error) => match error {
+            MergeError::Fork {
+                by,
+                held_prev,
+                held_id,
+            } => fork_text(alloc, by, held_prev, held_id),
+            MergeError::Full => text(alloc, "full"),
+            MergeError::NoMemory => text(alloc, "no memory"),
+        },
+    }
 }
 
-#[test]
-fn copied_steps_have_the_same_ids(rt: HostRuntime) -> Result<(), Fail> {
-    let alloc = rt.alloc();
-    let schema = schema(alloc)?;
-    let store = folded(alloc, &schema, &[(0, A, INSERT), (A, B, MODIFY)])?;
+fn answer(store: &mut LinkStore, alloc: Global, event: Event) -> Result<String, &'static str> {
+    match event {
+        Event::Take(prev, id, change) => take(store, alloc, prev, id, change),
+        Event::Append(prev, id, change) => append(store, alloc, prev, id, change),
+        Event::Settle => settle(store, alloc),
+        Event::Merge(parts) => merge(store, alloc, parts),
+    }
+}
+
+// The head, how many links are held and parked, and of copies of the steps the ids and how many rows each named.
+fn state(alloc: Global, store: &LinkStore) -> Result<String, &'static str> {
+    let head = letter(store.head());
+    let held = store.len();
+    let parked = store.parked();
+    let mut told = format!(in alloc; "head {head}, {held} held, {parked} parked:").map_err(
+        |_| "no memory",
+    )?;
     for step in store.folded().steps() {
-        let copy = step.copy()?;
-        assert_eq!(rt; (copy.prev, copy.id), (step.prev, step.id));
-        assert_eq!(rt; copy.applied.rows().len(), 1);
+        let step = step.copy().map_err(|_| "no memory")?;
+        let prev = letter(step.prev);
+        let id = letter(step.id);
+        let rows = step.applied.rows().len();
+        told = format!(in alloc; "{told} {prev}{id}/{rows}").map_err(|_| "no memory")?;
     }
-    Ok(())
+    Ok(told)
 }
 
-#[test]
-fn a_ring_is_parked(rt: HostRuntime) -> Result<(), Fail> {
-    let alloc = rt.alloc();
+// What a new store answers to the events, and what stands in it then.
+fn told(alloc: Global, events: &[Event]) -> Result<String, &'static str> {
     let mut store = store(alloc)?;
-    assert!(rt; store.is_empty());
-    assert!(rt; matches!(take(&mut store, alloc, A, B, NOTHING)?, Ok(Took::New)));
-    assert!(rt; matches!(take(&mut store, alloc, B, A, NOTHING)?, Ok(Took::New)));
-    assert!(rt; matches!(store.settle(alloc), Ok(Settled::Done)));
-    assert_eq!(rt; store.head().value(), 0);
-    assert_eq!(rt; store.len(), 2);
-    assert_eq!(rt; store.chain_len(), 0);
-    Ok(())
+    let mut told = String::new(alloc);
+    for event in events {
+        let answer = answer(&mut store, alloc, *event)?;
+        told = format!(in alloc; "{told}{answer}; ").map_err(|_| "no memory")?;
+    }
+    let state = state(alloc, &store)?;
+    format!(in alloc; "{told}{state}").map_err(|_| "no memory")
+}
+
+fn check(rt: &(impl Abort + AllocGlobal), events: &[Event], expected: &str) {
+    match told(rt.alloc(), events) {
+        Ok(told) => assert_eq!(rt; told.as_str(), expected),
+        Err(fault) => assert_eq!(rt; fault, expected),
+    }
 }
 
 #[test]
-fn forks_by_prev_and_by_id(rt: HostRuntime) -> Result<(), Fail> {
-    let alloc = rt.alloc();
-    let mut store = store(alloc)?;
-    assert!(rt; matches!(take(&mut store, alloc, 0, A, INSERT)?, Ok(Took::New)));
-    assert!(rt; matches!(take(&mut store, alloc, B, C, NOTHING)?, Ok(Took::New)));
-
-    // Another change between the same two commits, and another commit after the same one.
-    let same_ends = take(&mut store, alloc, 0, A, INSERT_OTHER)?;
-    assert_eq!(rt; forked(same_ends), Some((By::Prev, 0, A)));
-    let by_prev = take(&mut store, alloc, 0, C, NOTHING)?;
-    assert_eq!(rt; forked(by_prev), Some((By::Prev, 0, A)));
-    let by_id = take(&mut store, alloc, A, C, NOTHING)?;
-    assert_eq!(rt; forked(by_id), Some((By::Id, B, C)));
-    assert_eq!(rt; store.len(), 2);
-    assert!(rt; store.holds(&link(alloc, store.schema(), B, C, NOTHING)?));
-    assert!(rt; !store.holds(&link(alloc, store.schema(), A, C, NOTHING)?));
-    Ok(())
+fn parked_until_the_gap_is_filled(rt: HostRuntime) {
+    check(
+        &rt,
+        &[
+            Event::Take(B, C, MODIFY),
+            Event::Take(0, A, INSERT),
+            Event::Settle,
+            Event::Take(A, B, MODIFY),
+            Event::Take(A, B, MODIFY),
+        ],
+        "new; new; done; new; held; head a, 3 held, 2 parked: 0a/1",
+    );
+    check(
+        &rt,
+        &[
+            Event::Take(B, C, MODIFY),
+            Event::Take(0, A, INSERT),
+            Event::Take(A, B, MODIFY),
+            Event::Settle,
+        ],
+        "new; new; new; done; head c, 3 held, 0 parked: 0a/1 ab/1 bc/1",
+    );
 }
 
 #[test]
-fn stuck_where_a_change_does_not_fit(rt: HostRuntime) -> Result<(), Fail> {
-    let alloc = rt.alloc();
-    let mut store = store(alloc)?;
-    assert!(rt; matches!(take(&mut store, alloc, 0, A, MODIFY)?, Ok(Took::New)));
-    assert_eq!(rt; stuck_at(store.settle(alloc)), Some(A));
-    assert_eq!(rt; store.parked(), 1);
-    Ok(())
+fn a_ring_is_parked(rt: HostRuntime) {
+    check(&rt, &[], "head 0, 0 held, 0 parked:");
+    check(
+        &rt,
+        &[
+            Event::Take(A, B, NOTHING),
+            Event::Take(B, A, NOTHING),
+            Event::Settle,
+        ],
+        "new; new; done; head 0, 2 held, 2 parked:",
+    );
+}
+
+// Another change between the same two commits, another commit after the same one, and the same commit after another.
+#[test]
+fn forks_by_prev_and_by_id(rt: HostRuntime) {
+    check(
+        &rt,
+        &[
+            Event::Take(0, A, INSERT),
+            Event::Take(B, C, NOTHING),
+            Event::Take(0, A, INSERT_OTHER),
+            Event::Take(0, C, NOTHING),
+            Event::Take(A, C, NOTHING),
+        ],
+        "new; new; fork by prev with 0 a; fork by prev with 0 a; fork by id with b c; head 0, 2 held, 2 parked:",
+    );
 }
 
 #[test]
-fn appended_links_are_folded(rt: HostRuntime) -> Result<(), Fail> {
-    let alloc = rt.alloc();
-    let mut store = store(alloc)?;
-    assert!(rt; append(&mut store, alloc, 0, A, INSERT)?.is_ok());
-    assert_eq!(rt; store.head().value(), A);
-    assert_eq!(rt; store.len(), 1);
-    assert!(rt; append(&mut store, alloc, A, B, MODIFY)?.is_ok());
-    assert_eq!(rt; store.head().value(), B);
-    assert_eq!(rt; store.len(), 2);
-    assert_eq!(rt; store.chain_len(), 2);
-    assert_eq!(rt; store.folded().steps().len(), 2);
-    assert!(rt; matches!(take(&mut store, alloc, A, B, MODIFY)?, Ok(Took::Held)));
-    Ok(())
+fn stuck_where_a_change_does_not_fit(rt: HostRuntime) {
+    check(
+        &rt,
+        &[Event::Take(0, A, MODIFY), Event::Settle],
+        "new; stuck at a; head 0, 1 held, 1 parked:",
+    );
 }
 
 #[test]
-fn appending_the_id_of_a_parked_link_forks(rt: HostRuntime) -> Result<(), Fail> {
-    let alloc = rt.alloc();
-    let mut store = store(alloc)?;
-    assert!(rt; matches!(take(&mut store, alloc, B, C, NOTHING)?, Ok(Took::New)));
-    let by_id = append(&mut store, alloc, 0, C, INSERT)?;
-    assert_eq!(rt; forked(by_id), Some((By::Id, B, C)));
-    assert_eq!(rt; store.len(), 1);
-    assert_eq!(rt; store.chain_len(), 0);
-    assert_eq!(rt; store.head().value(), 0);
-    assert!(rt; append(&mut store, alloc, 0, B, INSERT)?.is_ok());
-    assert_eq!(rt; store.parked(), 1);
-    assert!(rt; matches!(store.settle(alloc), Ok(Settled::Done)));
-    assert_eq!(rt; store.head().value(), C);
-    Ok(())
+fn appended_links_are_folded(rt: HostRuntime) {
+    check(
+        &rt,
+        &[
+            Event::Append(0, A, INSERT),
+            Event::Append(A, B, MODIFY),
+            Event::Take(A, B, MODIFY),
+        ],
+        "appended; appended; held; head b, 2 held, 0 parked: 0a/1 ab/1",
+    );
 }
 
 #[test]
-fn links_in_any_order_fold_to_one_chain(rt: HostRuntime) -> Result<(), Fail> {
-    let alloc = rt.alloc();
+fn appending_the_id_of_a_parked_link_forks(rt: HostRuntime) {
+    check(
+        &rt,
+        &[Event::Take(B, C, NOTHING), Event::Append(0, C, INSERT)],
+        "new; fork by id with b c; head 0, 1 held, 1 parked:",
+    );
+    check(
+        &rt,
+        &[
+            Event::Take(B, C, NOTHING),
+            Event::Append(0, B, INSERT),
+            Event::Settle,
+        ],
+        "new; appended; done; head c, 2 held, 0 parked: 0b/1 bc/0",
+    );
+}
+
+#[test]
+fn merging_fills_a_gap(rt: HostRuntime) {
+    check(
+        &rt,
+        &[
+            Event::Take(0, A, INSERT),
+            Event::Take(B, C, MODIFY),
+            Event::Settle,
+            Event::Merge(&[(A, B, MODIFY)]),
+        ],
+        "new; new; done; merged; head a, 3 held, 2 parked: 0a/1",
+    );
+    check(
+        &rt,
+        &[
+            Event::Take(0, A, INSERT),
+            Event::Take(B, C, MODIFY),
+            Event::Merge(&[(A, B, MODIFY)]),
+            Event::Settle,
+        ],
+        "new; new; merged; done; head c, 3 held, 0 parked: 0a/1 ab/1 bc/1",
+    );
+}
+
+#[test]
+fn merging_the_same_links_adds_none(rt: HostRuntime) {
+    check(
+        &rt,
+        &[
+            Event::Take(0, A, INSERT),
+            Event::Take(B, C, MODIFY),
+            Event::Settle,
+            Event::Merge(&[(B, C, MODIFY), (0, A, INSERT)]),
+        ],
+        "new; new; done; merged; head a, 2 held, 1 parked: 0a/1",
+    );
+}
+
+#[test]
+fn folded_and_parked_links_come_over(rt: HostRuntime) {
+    check(
+        &rt,
+        &[
+            Event::Merge(&[(0, A, INSERT), (B, C, MODIFY)]),
+            Event::Settle,
+        ],
+        "merged; done; head a, 2 held, 1 parked: 0a/1",
+    );
+}
+
+#[test]
+fn a_fork_refuses_the_merge(rt: HostRuntime) {
+    check(
+        &rt,
+        &[
+            Event::Append(0, A, INSERT),
+            Event::Merge(&[(0, B, INSERT_OTHER), (C, D, NOTHING)]),
+        ],
+        "appended; fork by prev with 0 a; head a, 1 held, 0 parked: 0a/1",
+    );
+    check(
+        &rt,
+        &[
+            Event::Append(0, A, INSERT),
+            Event::Take(B, C, NOTHING),
+            Event::Merge(&[(A, C, NOTHING)]),
+        ],
+        "appended; new; fork by id with b c; head a, 2 held, 1 parked: 0a/1",
+    );
+}
+
+#[test]
+fn of_two_forks_the_least_id_decides(rt: HostRuntime) {
+    check(
+        &rt,
+        &[
+            Event::Append(0, A, INSERT),
+            Event::Take(B, C, NOTHING),
+            Event::Merge(&[(0, D, INSERT), (A, C, NOTHING)]),
+        ],
+        "appended; new; fork by id with b c; head a, 2 held, 1 parked: 0a/1",
+    );
+}
+
+// ---- looking up
+
+fn place_text(alloc: Global, store: &LinkStore, id: u128) -> Result<String, &'static str> {
+    match store.position_of(TxnId::from_value(id)) {
+        Some(place) => format!(in alloc; "{place}").map_err(|_| "no memory"),
+        None => text(alloc, "none"),
+    }
+}
+
+fn link_text(store: &LinkStore, number: usize) -> &'static str {
+    match store.link_at(number) {
+        Some(link) => letter(link.id()),
+        None => "none",
+    }
+}
+
+// Two folded links and a parked one: the places of ids, the links at numbers, and which links are held.
+fn looked_up(alloc: Global) -> Result<String, &'static str> {
     let schema = schema(alloc)?;
-    let mut links = Vec::new(alloc);
-    links.push(link(alloc, &schema, A, B, MODIFY)?)?;
-    links.push(link(alloc, &schema, 0, A, INSERT)?)?;
-    links.push(link(alloc, &schema, A, B, MODIFY)?)?;
-    let Ok(store) = fold_all(alloc, &schema, links) else {
-        return Err(Fail::from("not folded"));
-    };
-    assert_eq!(rt; store.head().value(), B);
-    assert_eq!(rt; store.len(), 2);
+    let parts = [
+        (A, B, MODIFY),
+        (0, A, INSERT),
+        (C, D, NOTHING),
+        (A, B, MODIFY),
+    ];
+    let store = folded(alloc, &schema, &parts)?;
+    let start = place_text(alloc, &store, 0)?;
+    let second = place_text(alloc, &store, B)?;
+    let parked = place_text(alloc, &store, D)?;
+    let zeroth = link_text(&store, 0);
+    let last = link_text(&store, 2);
+    let past = link_text(&store, 3);
+    let held = store.holds(&link(alloc, &schema, C, D, NOTHING)?);
+    let other = store.holds(&link(alloc, &schema, C, B, NOTHING)?);
+    format!(in alloc; "{start} {second} {parked}; {zeroth} {last} {past}; {held} {other}").map_err(
+        |_| "no memory",
+    )
+}
+
+#[test]
+fn looking_up(rt: HostRuntime) -> Result<(), Fail> {
+    let told = looked_up(rt.alloc())?;
+    assert_eq!(rt; told.as_str(), "0 2 none; none b none; true false");
     Ok(())
 }
 
@@ -289,80 +483,5 @@ fn a_start_id_or_the_id_before_makes_no_link(rt: HostRuntime) -> Result<(), Fail
     assert!(rt; link(alloc, &schema, A, 0xffff_ffff_ffff_ffff, NOTHING).is_err());
     assert!(rt; link(alloc, &schema, A, A, NOTHING).is_err());
     assert!(rt; link(alloc, &schema, A, 0x1_0000_0000_0000_0000, NOTHING).is_ok());
-    Ok(())
-}
-
-#[test]
-fn merging_fills_a_gap(rt: HostRuntime) -> Result<(), Fail> {
-    let alloc = rt.alloc();
-    let schema = schema(alloc)?;
-    let mut store = folded(alloc, &schema, &[(0, A, INSERT), (B, C, MODIFY)])?;
-    let other = folded(alloc, &schema, &[(A, B, MODIFY)])?;
-    assert!(rt; store.merge(&other).is_ok());
-    assert_eq!(rt; store.len(), 3);
-    assert_eq!(rt; store.chain_len(), 1);
-    assert!(rt; matches!(store.settle(alloc), Ok(Settled::Done)));
-    assert_eq!(rt; store.head().value(), C);
-    Ok(())
-}
-
-#[test]
-fn merging_the_same_links_adds_none(rt: HostRuntime) -> Result<(), Fail> {
-    let alloc = rt.alloc();
-    let schema = schema(alloc)?;
-    let mut store = folded(alloc, &schema, &[(0, A, INSERT), (B, C, MODIFY)])?;
-    let other = folded(alloc, &schema, &[(B, C, MODIFY), (0, A, INSERT)])?;
-    assert!(rt; store.merge(&other).is_ok());
-    assert_eq!(rt; store.len(), 2);
-    assert_eq!(rt; store.head().value(), A);
-    Ok(())
-}
-
-#[test]
-fn folded_and_parked_links_come_over(rt: HostRuntime) -> Result<(), Fail> {
-    let alloc = rt.alloc();
-    let schema = schema(alloc)?;
-    let mut store = folded(alloc, &schema, &[])?;
-    let other = folded(alloc, &schema, &[(0, A, INSERT), (B, C, MODIFY)])?;
-    assert_eq!(rt; other.chain_len(), 1);
-    assert!(rt; store.merge(&other).is_ok());
-    assert_eq!(rt; store.chain_len(), 0);
-    assert!(rt; matches!(store.settle(alloc), Ok(Settled::Done)));
-    assert_eq!(rt; store.head().value(), A);
-    assert_eq!(rt; store.parked(), 1);
-    Ok(())
-}
-
-#[test]
-fn a_fork_by_prev_refuses_the_merge(rt: HostRuntime) -> Result<(), Fail> {
-    let alloc = rt.alloc();
-    let schema = schema(alloc)?;
-    let mut store = folded(alloc, &schema, &[(0, A, INSERT)])?;
-    let other = folded(alloc, &schema, &[(0, B, INSERT_OTHER), (C, D, NOTHING)])?;
-    assert_eq!(rt; merge_forked(store.merge(&other)), Some((By::Prev, 0, A)));
-    assert_eq!(rt; store.len(), 1);
-    assert_eq!(rt; store.head().value(), A);
-    Ok(())
-}
-
-#[test]
-fn a_fork_by_id_refuses_the_merge(rt: HostRuntime) -> Result<(), Fail> {
-    let alloc = rt.alloc();
-    let schema = schema(alloc)?;
-    let mut store = folded(alloc, &schema, &[(0, A, INSERT), (B, C, NOTHING)])?;
-    let other = folded(alloc, &schema, &[(A, C, NOTHING)])?;
-    assert_eq!(rt; merge_forked(store.merge(&other)), Some((By::Id, B, C)));
-    assert_eq!(rt; store.len(), 2);
-    Ok(())
-}
-
-#[test]
-fn of_two_forks_the_least_id_decides(rt: HostRuntime) -> Result<(), Fail> {
-    let alloc = rt.alloc();
-    let schema = schema(alloc)?;
-    let mut store = folded(alloc, &schema, &[(0, A, INSERT), (B, C, NOTHING)])?;
-    let other = folded(alloc, &schema, &[(0, D, INSERT), (A, C, NOTHING)])?;
-    assert_eq!(rt; merge_forked(store.merge(&other)), Some((By::Id, B, C)));
-    assert_eq!(rt; store.len(), 2);
     Ok(())
 }
