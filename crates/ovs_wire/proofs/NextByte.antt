@@ -1,11 +1,10 @@
 -- One more byte of a stream.
-use Rattle.std.proofs.Common.{◌⊎◌, ◌≡◌, ℕ, ◌+◌, ◌-◌, ◌<◌, ◌≤◌, List, [], ◌∷◌, ◌++◌, length, take, drop, get_or, slice_index, refl, ap, sym, ◌∙◌, subst, arith, ⊎_elim, length-append}
+use Rattle.std.proofs.Common.{◌≡◌, ℕ, ◌+◌, ◌-◌, ◌<◌, ◌≤◌, List, [], ◌∷◌, ◌++◌, length, take, drop, get_or, slice_index, refl, ap, sym, ◌∙◌, subst, arith, ⊎_elim, length-append}
 use Rattle.std.proofs.lemmas.List.{take_more, take-append-le, take_all, drop-append-le, take-append-drop, length-take-le, drop-take, append-nil, drop_all, length-take}
 use Rattle.std.proofs.Math.Seq.{take-length}
 use Rattle.std.proofs.lemmas.List.Sums.{fold-append}
 use Rattle.std.proofs.lemmas.Bool.{cases_lt}
 use Rattle.ovs_wire.specs.declared.error.FrameError.{FrameError}
-use Rattle.ovs_wire.specs.declared.error.FrameError.TheVariants.{NotObject, TooDeep, TooLong}
 use Rattle.ovs_wire.specs.declared.limits.TheConstants.{MAX_MESSAGE_BYTES, MAX_NESTING}
 use Rattle.std.proofs.lemmas.Grind.{common_steps}
 use Rattle.ovs_wire.specs.declared.place.Place.{Place}
@@ -127,7 +126,7 @@ now_more bytes i start found p q s next = next ∙ ap (λ a. past a (get_or byte
     (place_after-more (drop start (take i bytes)) (get_or bytes i 0))
 
 pub stands_more : (bytes : List ℕ) (i start : ℕ) (found : List (List ℕ)) (p q : Place)
-    → Stands bytes i start found p → i < length bytes → (start ≡ i → get_or bytes i 0 ≡ 123)
+    → Stands bytes i start found p → i < length bytes → (i - start ≡ 0 → get_or bytes i 0 ≡ 123)
     → q ≡ past p (get_or bytes i 0) → 0 < q.depth → q.depth ≤ MAX_NESTING → i - start < MAX_MESSAGE_BYTES
     → Stands bytes (i + 1) start found q
 stands_more bytes i start found p q s lt head next deep low short =
@@ -137,7 +136,7 @@ stands_more bytes i start found p q s lt head next deep low short =
     let now = now_more bytes i start found p q s next in
     let d : q.depth ≡ depth (u ++ b ∷ []) = ap (λ a. a.depth) now in
     let is = unfinished_more u b (unfinished_now (take i bytes) found u s.frames)
-    (λ none. head (omega (arith, none, len, s.within))) (omega (arith, d, deep)) (omega (arith, d, low))
+    (λ none. head (omega (arith, none, len))) (omega (arith, d, deep)) (omega (arith, d, low))
     (omega (arith, len, short)) in
     let grown = current_more bytes start i s.within lt in
     let frames : AreFrames (take (i + 1) bytes) (found ++ []) (Rest (u ++ b ∷ [])) =
@@ -150,7 +149,7 @@ stands_more bytes i start found p q s lt head next deep low short =
     }
 
 pub stands_whole : (bytes : List ℕ) (i start : ℕ) (found : List (List ℕ)) (p q : Place) (o : List ℕ)
-    → Stands bytes i start found p → i < length bytes → (start ≡ i → get_or bytes i 0 ≡ 123)
+    → Stands bytes i start found p → i < length bytes → (i - start ≡ 0 → get_or bytes i 0 ≡ 123)
     → q ≡ past p (get_or bytes i 0) → q.depth ≡ 0 → i - start < MAX_MESSAGE_BYTES
     → o ≡ drop start (take (i + 1) bytes) → Stands bytes (i + 1) (i + 1) (found ++ o ∷ []) (place_after [])
 stands_whole bytes i start found p q o s lt head next deep short whole =
@@ -160,7 +159,7 @@ stands_whole bytes i start found p q o s lt head next deep short whole =
     let now = now_more bytes i start found p q s next in
     let d : q.depth ≡ depth (u ++ b ∷ []) = ap (λ a. a.depth) now in
     let is = object_whole u b (unfinished_now (take i bytes) found u s.frames)
-    (λ none. head (omega (arith, none, len, s.within))) (sym d ∙ deep) (omega (arith, len, short)) in
+    (λ none. head (omega (arith, none, len))) (sym d ∙ deep) (omega (arith, len, short)) in
     let o_is : u ++ b ∷ [] ≡ o = sym (whole ∙ current_more bytes start i s.within lt) in
     let none = current_none bytes (i + 1) in
     let frames : AreFrames (take (i + 1) bytes) (found ++ (u ++ b ∷ []) ∷ []) (Rest []) =
@@ -172,23 +171,18 @@ stands_whole bytes i start found p q o s lt head next deep short whole =
       place = ap place_after (sym none);
     }
 
-stands_fault : (bytes : List ℕ) (i start : ℕ) (found : List (List ℕ)) (p : Place) (f : FrameError)
-    → Stands bytes i start found p → i < length bytes → Breaks (drop start (take i bytes)) (get_or bytes i 0) f
-    → AreFrames bytes found (Fault f)
+pub stands_fault : (bytes : List ℕ) (i start : ℕ) (found : List (List ℕ)) (p : Place) (f : FrameError)
+    → Stands bytes i start found p → i < length bytes
+    → ((before : List ℕ) → IsUnfinished before → length before ≡ i - start → p ≡ place_after before
+    → Breaks before (get_or bytes i 0) f) → AreFrames bytes found (Fault f)
 stands_fault bytes i start found p f s lt breaks =
     let u = drop start (take i bytes) in
     let b = get_or bytes i 0 in
-    let h = faulty u b f (unfinished_now (take i bytes) found u s.frames) breaks in
+    let is = unfinished_now (take i bytes) found u s.frames in
+    let h = faulty u b f is (breaks u is (length_current bytes start i s.within (omega arith)) s.place) in
     let frames : AreFrames (take (i + 1) bytes) (found ++ []) (Fault f) =
     more bytes i found [] u (Fault f) lt s.frames (only_fault (u ++ b ∷ []) f h) in
     fault_now bytes (i + 1) found f (simp append-nil at frames)
-
-pub not_object : (bytes : List ℕ) (i start : ℕ) (found : List (List ℕ)) (p : Place)
-    → Stands bytes i start found p → i < length bytes → start ≡ i → (IsSpace (get_or bytes i 0) → ⊥)
-    → (get_or bytes i 0 ≡ 123 → ⊥) → AreFrames bytes found (Fault NotObject)
-not_object bytes i start found p s lt same blank other =
-    stands_fault bytes i start found p NotObject s lt
-    (omega (arith, length_current bytes start i s.within (omega arith)), blank, other)
 
 -- at most one deeper
 pub past_by_one : (a : Place) (b : ℕ) → (past a b).depth ≤ a.depth + 1
@@ -211,27 +205,6 @@ deeper u b is deep =
     (past_by_one (place_after u) b) in
     (some_before u b by_one deep, omega (arith, by_one, nests_now u is, deep))
 
-pub too_deep : (bytes : List ℕ) (i start : ℕ) (found : List (List ℕ)) (p q : Place)
-    → Stands bytes i start found p → i < length bytes → q ≡ past p (get_or bytes i 0) → MAX_NESTING < q.depth
-    → AreFrames bytes found (Fault TooDeep)
-too_deep bytes i start found p q s lt next deep =
-    let u = drop start (take i bytes) in
-    let b = get_or bytes i 0 in
-    let d : q.depth ≡ depth (u ++ b ∷ []) = ap (λ a. a.depth) (now_more bytes i start found p q s next) in
-    stands_fault bytes i start found p TooDeep s lt
-    (deeper u b (unfinished_now (take i bytes) found u s.frames) (omega (arith, d, deep)))
-
-pub too_long : (bytes : List ℕ) (i start : ℕ) (found : List (List ℕ)) (p q : Place)
-    → Stands bytes i start found p → i < length bytes → q ≡ past p (get_or bytes i 0) → q.depth ≤ MAX_NESTING
-    → MAX_MESSAGE_BYTES ≤ i - start → AreFrames bytes found (Fault TooLong)
-too_long bytes i start found p q s lt next low long =
-    let u = drop start (take i bytes) in
-    let b = get_or bytes i 0 in
-    let len = length_current bytes start i s.within (omega arith) in
-    let is = unfinished_now (take i bytes) found u s.frames in
-    let d : q.depth ≡ depth (u ++ b ∷ []) = ap (λ a. a.depth) (now_more bytes i start found p q s next) in
-    stands_fault bytes i start found p TooLong s lt (omega (arith, len, is.fits, long), omega (arith, d, low))
-
 pub stands_last : (bytes : List ℕ) (i start : ℕ) (found : List (List ℕ)) (p : Place)
     → Stands bytes i start found p → length bytes ≤ i
     → AreFrames bytes found (Rest (drop start bytes)) × (p ≡ place_after (drop start bytes))
@@ -247,11 +220,6 @@ pub depth_now : (bytes : List ℕ) (i start : ℕ) (found : List (List ℕ)) (p 
 depth_now bytes i start found p s =
     let u = drop start (take i bytes) in
     omega (arith, ap (λ a. a.depth) s.place, nests_now u (unfinished_now (take i bytes) found u s.frames))
-
-pub opens : (bytes : List ℕ) (i start : ℕ) → ((start ≡ i) × (get_or bytes i 0 ≡ 123)) ⊎ (start ≡ i → ⊥)
-    → start ≡ i → get_or bytes i 0 ≡ 123
-opens bytes i start either same = ⊎_elim (λ (b : (start ≡ i) × (get_or bytes i 0 ≡ 123)). b.1)
-    (λ (n : start ≡ i → ⊥). absurd (n same)) either
 
 pub moved : (bytes : List ℕ) (i start start' : ℕ) (found found' : List (List ℕ)) (p p' : Place)
     → Stands bytes i start found p → start' ≡ start → found' ≡ found → p' ≡ p → Stands bytes i start' found' p'

@@ -5,7 +5,7 @@ ghost use Rattle.ovs_wire.specs.Framing.{IsNew, Feeds, Takes, Answers};
 use crate::error::{FrameError, NoMemory};
 use crate::frame::Frame;
 use crate::place::Place;
-use crate::scan::{Scanned, scan};
+use crate::scan::scan;
 use std::alloc::Global;
 use std::collections::VecDeque;
 use std::marker::Model;
@@ -88,40 +88,29 @@ impl Framer {
         if self.rest.extend_from_slice(piece).is_err() {
             return Err(FrameError::NoMemory);
         }
-        match scan(alloc, &self.rest, held, self.place) {
-            Ok(
-                Scanned {
-                    found,
-                    start,
-                    place,
-                    fault,
-                },
-            ) => {
-                if queue(&mut self.waiting, found).is_err() {
-                    self.rest.truncate(held);
-                    return Err(FrameError::NoMemory);
-                }
-                match fault {
-                    Some(fault) => {
-                        self.rest.clear();
-                        self.rest.shrink_to_fit();
-                        self.place = Place::start();
-                        self.fault = Some(fault);
-                        Err(fault)
-                    }
-                    None => {
-                        self.rest.drain(..start);
-                        if start > 0 {
-                            self.rest.shrink_to(SPARE_ROOM);
-                        }
-                        self.place = place;
-                        Ok(())
-                    }
-                }
+        let Ok(scanned) = scan(alloc, &self.rest, held, self.place) else {
+            self.rest.truncate(held);
+            return Err(FrameError::NoMemory);
+        };
+        if queue(&mut self.waiting, scanned.found).is_err() {
+            self.rest.truncate(held);
+            return Err(FrameError::NoMemory);
+        }
+        match scanned.fault {
+            Some(fault) => {
+                self.rest.clear();
+                self.rest.shrink_to_fit();
+                self.place = Place::start();
+                self.fault = Some(fault);
+                Err(fault)
             }
-            Err(_) => {
-                self.rest.truncate(held);
-                Err(FrameError::NoMemory)
+            None => {
+                self.rest.drain(..scanned.start);
+                if scanned.start > 0 {
+                    self.rest.shrink_to(SPARE_ROOM);
+                }
+                self.place = scanned.place;
+                Ok(())
             }
         }
     }

@@ -57,7 +57,7 @@ impl Id {
         self.value
     }
 
-    /// An equal id.
+    /// An equal id, or `NoMemory` where memory ran out.
     pub fn copy(&self) -> Result<Id, NoMemory>
         ensures value { IfOk result (λ i. i ≡ self.now) }
     {

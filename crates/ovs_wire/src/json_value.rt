@@ -45,7 +45,7 @@ impl Json {
         self.value
     }
 
-    /// An equal value.
+    /// An equal value, or `NoMemory` where memory ran out.
     pub fn copy(&self) -> Result<Json, NoMemory>
         ensures value { IfOk result (λ j. j ≡ self.now) }
     {

@@ -79,7 +79,7 @@ impl Message {
         Ok(bytes)
     }
 
-    /// An equal message.
+    /// An equal message, or `NoMemory` where memory ran out.
     pub fn copy(&self) -> Result<Message, NoMemory>
         ensures value { IfOk result (λ m. m ≡ self.now) }
     {

@@ -39,7 +39,7 @@ impl Method {
         self.name
     }
 
-    /// An equal method.
+    /// An equal method, or `NoMemory` where memory ran out.
     pub fn copy(&self) -> Result<Method, NoMemory>
         ensures value { IfOk result (λ m. m ≡ self.now) }
     {

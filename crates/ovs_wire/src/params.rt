@@ -47,7 +47,7 @@ impl Params {
         self.values
     }
 
-    /// Equal params.
+    /// Equal params, or `NoMemory` where memory ran out.
     pub fn copy(&self) -> Result<Params, NoMemory>
         ensures value { IfOk result (λ p. p ≡ self.now) }
     {

@@ -55,10 +55,7 @@ fn members_of(mut members: Map<String, Value>) -> Members
 fn or_null(value: Option<Value>) -> Value
     ensures value { view result ≡ or_null (option_map view value) }
 {
-    match value {
-        Some(value) => value,
-        None => Value::Null,
-    }
+    value.unwrap_or(Value::Null)
 }
 
 #[tactic(auto, using(crate::proofs::Lists::list_again))]
@@ -89,12 +86,10 @@ fn replied(answer: Option<Value>, error: Option<Value>, id: Value) -> Option<Mes
     if answer.is_none() && error.is_none() {
         return None;
     }
+    let id = Id::new(id)?;
     let result = Json::new(or_null(answer));
     let error = Json::new(or_null(error));
-    match Id::new(id) {
-        Some(id) => Some(Message::Reply { result, error, id }),
-        None => None,
-    }
+    Some(Message::Reply { result, error, id })
 }
 
 /// The message that JSON spells, if it spells one.

@@ -1,6 +1,6 @@
-ghost use Rattle.std.specs.Prelude.{◌≡◌, ◌≤◌, ℕ, length, take, drop, IfOk};
-ghost use Rattle.ovs_wire.specs.Place.{place_after};
-ghost use Rattle.ovs_wire.specs.Frames.{AreFrames, IsUnfinished};
+ghost use Rattle.std.specs.Prelude.{◌≡◌, ◌≤◌, ◌<◌, ◌↔◌, ℕ, List, length, take, drop, IsTrue, IfOk, IfErr, OnOk};
+ghost use Rattle.ovs_wire.specs.Place.{past, place_after};
+ghost use Rattle.ovs_wire.specs.Frames.{AreFrames, Breaks, IsSpace, IsUnfinished};
 ghost use Rattle.ovs_wire.specs.Framing.{ending_of};
 
 use crate::error::{FrameError, NoMemory};
@@ -17,6 +17,37 @@ pub(crate) struct Scanned {
     pub start: usize,
     pub place: Place,
     pub fault: Option<FrameError>,
+}
+
+// Whether a byte is white space, as it stands between messages.
+fn is_space(byte: u8) -> bool
+    ensures value { IsTrue result ↔ IsSpace byte }
+{
+    matches!(byte, b' ' | b'\t' | b'\r' | b'\n')
+}
+
+// The place after one more byte of a message that has `len` bytes up to `place`, or the fault that this byte is.
+fn go_on(place: Place, len: usize, byte: u8) -> Result<Place, FrameError>
+    requires nests { place.depth ≤ MAX_NESTING }
+    requires no_space { len ≡ 0 → IsSpace byte → ⊥ }
+    ensures place { IfOk result (λ next. next ≡ past place byte) }
+    ensures nests { IfOk result (λ next. next.depth ≤ MAX_NESTING) }
+    ensures opens { OnOk result (len ≡ 0 → byte ≡ 123) }
+    ensures fits { OnOk result (len < MAX_MESSAGE_BYTES) }
+    ensures fault { IfErr result (λ fault. (before : List ℕ) → IsUnfinished before
+        → length before ≡ len → place ≡ place_after before → Breaks before byte fault) }
+{
+    if len == 0 && byte != b'{' {
+        return Err(FrameError::NotObject);
+    }
+    let next = place.past(byte);
+    if next.depth > MAX_NESTING {
+        return Err(FrameError::TooDeep);
+    }
+    if len >= MAX_MESSAGE_BYTES {
+        return Err(FrameError::TooLong);
+    }
+    Ok(next)
 }
 
 /// Scans on from the first `held` bytes, which are one unfinished message up to `place`.
@@ -37,35 +68,19 @@ pub(crate) fn scan(
     let mut start = 0;
     let mut place = place;
     for i in held..bytes.len() {
-        let byte = bytes[i];
-        if start == i && byte != b'{' {
-            if byte == b' ' || byte == b'\t' || byte == b'\r' || byte == b'\n' {
-                start = i + 1;
-                continue;
-            }
-            return Ok(Scanned {
-                found,
-                start,
-                place,
-                fault: Some(FrameError::NotObject),
-            });
+        let (len, byte) = (i - start, bytes[i]);
+        if len == 0 && is_space(byte) {
+            start = i + 1;
+            continue;
         }
-        place = place.past(byte);
-        if place.depth > MAX_NESTING {
-            return Ok(Scanned {
+        match go_on(place, len, byte) {
+            Ok(next) => place = next,
+            Err(fault) => return Ok(Scanned {
                 found,
                 start,
                 place,
-                fault: Some(FrameError::TooDeep),
-            });
-        }
-        if i - start >= MAX_MESSAGE_BYTES {
-            return Ok(Scanned {
-                found,
-                start,
-                place,
-                fault: Some(FrameError::TooLong),
-            });
+                fault: Some(fault),
+            }),
         }
         if place.depth == 0 {
             let frame = Frame::copied(alloc, &bytes[start..i + 1])?;
