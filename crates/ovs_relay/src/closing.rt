@@ -73,17 +73,13 @@ fn database_line(alloc: Global, database: &Database) -> Result<String, NoMemory>
 
 fn joined(
     alloc: Global,
-    stuck: &String,
-    head: &String,
-    counts: &String,
-    database: &String,
+    stuck: &str,
+    head: &str,
+    counts: &str,
+    database: &str,
 ) -> Result<String, AllocError>
-    ensures text { IfOk result (λ text. string_bytes text ≡ string_bytes stuck.now ++ (string_bytes head.now ++ (string_bytes counts.now ++ string_bytes database.now))) }
+    ensures text { IfOk result (λ text. string_bytes text ≡ stuck.now ++ (head.now ++ (counts.now ++ database.now))) }
 {
-    let stuck = stuck.as_str();
-    let head = head.as_str();
-    let counts = counts.as_str();
-    let database = database.as_str();
     format!(in alloc; "{stuck}{head}{counts}{database}")
 }
 
@@ -95,7 +91,13 @@ fn last_lines(alloc: Global, store: &LinkStore, stuck: Option<TxnId>) -> Result<
     let head = head_line(alloc, store.head())?;
     let counts = counts_line(alloc, store.len(), store.chain_len(), store.parked())?;
     let database = database_line(alloc, store.database())?;
-    Ok(joined(alloc, &stuck, &head, &counts, &database)?)
+    Ok(joined(
+        alloc,
+        stuck.as_str(),
+        head.as_str(),
+        counts.as_str(),
+        database.as_str(),
+    )?)
 }
 
 // Folds the longest chain. The id is that of the link at which it is stuck.

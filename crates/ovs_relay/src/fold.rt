@@ -51,9 +51,7 @@ impl Fold {
             refused: false,
         }
     }
-}
 
-impl Fold {
     /// What a second text is for, behind the input that was heard.
     pub fn into_merging(self, alloc: Global) -> Result<Merging, NoMemory>
         ensures value { IfOk result (λ merging. merging ≡ merging_of self) }

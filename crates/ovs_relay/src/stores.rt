@@ -120,10 +120,7 @@ impl TwoStores {
         ensures text { IfOk result (λ closing. string_bytes closing.text ≡ stores_closing self.old) }
         ensures content { IfOk result (λ closing. closing.is_content ≡ (not refused && is_merged_whole self.old)) }
     {
-        let merged = match merge_stores(&mut self.first, &self.second) {
-            Ok(merged) => merged,
-            Err(error) => return Err(error),
-        };
+        let merged = merge_stores(&mut self.first, &self.second)?;
         let is_merged = merged.is_ok();
         let line = merge_line(alloc, merged)?;
         let end = close_store(alloc, &mut self.first, false)?;
