@@ -11,4 +11,5 @@ pub mod Intakes
 pub mod Closings
 pub mod Merges
 pub mod BothTexts
+pub mod CommandFaults
 pub mod CommandLines

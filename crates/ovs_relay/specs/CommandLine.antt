@@ -1,8 +1,7 @@
 -- Which words the program takes, and what they ask for.
-use Rattle.std.specs.Prelude.{◌≡◌, ◌≢◌, List, Option, Some, Bool, codes, true, false, option_map, option_and_then, string_bytes}
-use Rattle.clap.specs.Words.{App, IsAmong, Row, Rule, Text, fault_of, first_of, new_app, new_rule, subcommand_of, with_rule, with_subcommand}
+use Rattle.std.specs.Prelude.{◌≡◌, ◌≢◌, List, [], ◌∷◌, Option, Some, Bool, codes, true, false, option_map, option_and_then, string_bytes}
+use Rattle.clap.specs.Words.{App, Row, Rule, Text, fault_of, first_of, new_app, new_rule, subcommand_of, with_rule, with_subcommand}
 use Rattle.clap.specs.declared.builder.action.ArgAction.TheVariants.{Set}
-use Rattle.clap.specs.declared.error.kind.ErrorKind.{ErrorKind}
 use Rattle.clap.specs.declared.error.kind.ErrorKind.TheVariants.{DisplayHelp}
 use Rattle.ovs_relay.specs.declared.command.CommandFault.{CommandFault}
 use Rattle.ovs_relay.specs.declared.command.CommandFault.TheVariants.{Usage, NoMemory}
@@ -36,13 +35,13 @@ abbrev pub AsksToFold : Option Text → Task → Type 0
 AsksToFold word (Fold merge) = option_map string_bytes merge ≡ word
 AsksToFold word (Help text) = ⊥
 
--- the words ask for help: that is among what `clap` finds in them in the place of a task
+-- the words ask for help: a call for help is all that `clap` finds in them in the place of a task
 abbrev pub AskForHelp : List Text → Type 0
-AskForHelp words = IsAmong DisplayHelp (fault_of program words)
+AskForHelp words = fault_of program words ≡ DisplayHelp ∷ []
 
--- the words have a fault: something that isn't a call for help is among what `clap` finds in the place of a task
+-- the words have a fault: `clap` finds something in them in the place of a task, and they don't ask for help
 abbrev pub HaveFault : List Text → Type 0
-HaveFault words = (found : ErrorKind) × IsAmong found (fault_of program words) × (found ≢ DisplayHelp)
+HaveFault words = (fault_of program words ≢ []) × ¬ (AskForHelp words)
 
 -- the answer is help
 abbrev pub is_help : Task → Bool

@@ -98,13 +98,15 @@ fn merge_of(alloc: Global, matches: &ArgMatches<'_>) -> Result<Option<String>, A
     }
 }
 
-/// Reads a command line: the program's name and the words after it. `Help` only where they ask for help. `Usage` where they
-/// are no task, as where `--merge` has no word after it or stands twice, and `NoMemory`.
+/// Reads a command line: the program's name and the words after it. `Help` where they ask for help, `Usage` where they are
+/// no task, as where `--merge` has no word after it or stands twice, and `NoMemory`.
 pub fn command<S: AsStr>(alloc: Global, words: &[S]) -> Result<Task, CommandFault>
     ensures accepted { takes program (map S.text words.now) ≡ true
         → IfOk result (AsksToFold (merge_word (map S.text words.now))) × IfErr result (λ fault. fault ≡ CommandFault.NoMemory) }
     ensures only { IfOk result (λ task. (word : Option (List ℕ)) → AsksToFold word task
         → (fault_of program (map S.text words.now) ≡ []) × (word ≡ merge_word (map S.text words.now))) }
+    ensures asked { AskForHelp (map S.text words.now)
+        → IfOk result (λ task. IsTrue (is_help task)) × IfErr result (λ fault. fault ≡ CommandFault.NoMemory) }
     ensures help { IfOk result (λ task. IsTrue (is_help task) → AskForHelp (map S.text words.now)) }
     ensures usage { IfErr result (λ fault. IsTrue (is_usage fault) → HaveFault (map S.text words.now)) }
 {
