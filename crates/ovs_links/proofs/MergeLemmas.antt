@@ -13,7 +13,8 @@ use Rattle.ovs_links.specs.Store.{Stored, max_links}
 use Rattle.ovs_links.specs.Kept.{IsKept, IsSound, from_links, find_prev, find_id, count_key}
 use Rattle.ovs_links.specs.Join.{Agree, AreJoinable, join}
 use Rattle.ovs_links.specs.MergeLists.{FitsIn, Meets, HasFork, HasLeast, new_links}
-use Rattle.ovs_links.specs.Merging.{Refutes, IsLeastFork, MergesAs, AreOfOneSource}
+use Rattle.ovs_links.specs.Answers.{Refutes}
+use Rattle.ovs_links.specs.Merging.{IsLeastFork, MergesAs, AreOfOneSource}
 use Rattle.ovs_links.specs.declared.link.Link.{Link}
 use Rattle.ovs_links.specs.declared.answer.By.{By}
 use Rattle.ovs_links.specs.declared.answer.By.TheVariants.{Prev, Id}

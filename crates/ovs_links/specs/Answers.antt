@@ -1,5 +1,5 @@
 -- What the calls of a store answer, and what they leave.
-use Rattle.std.specs.Prelude.{◌≡◌, ◌≢◌, ◌<◌, ◌++◌, false, List, [], ◌∷◌, take, length, Result, Ok, Err}
+use Rattle.std.specs.Prelude.{◌≡◌, ◌≢◌, ◌<◌, ◌++◌, ℕ, false, List, [], ◌∷◌, take, length, Result, Ok, Err}
 use Rattle.std.specs.Ordering.{nat_cmp}
 use Rattle.std.specs.FinMap.{FinMap, len, insert}
 use Rattle.ovs_types.specs.declared.schema.Table.{Table}
@@ -12,6 +12,7 @@ use Rattle.ovs_links.specs.Store.{Stored, max_links, head_of, rows_of}
 use Rattle.ovs_links.specs.declared.link.Link.{Link}
 use Rattle.ovs_links.specs.declared.answer.Took.{Took}
 use Rattle.ovs_links.specs.declared.answer.Took.TheVariants.{New, Held}
+use Rattle.ovs_links.specs.declared.answer.By.{By}
 use Rattle.ovs_links.specs.declared.answer.By.TheVariants.{Prev, Id}
 use Rattle.ovs_links.specs.declared.answer.TakeError.{TakeError}
 use Rattle.ovs_links.specs.declared.answer.TakeError.TheVariants.{Fork, Full, NoMemory}
@@ -32,14 +33,16 @@ NonePrev m l = (h : Link) → Holds m h → h.prev ≢ l.prev
 abbrev pub NoneId : FinMap nat_cmp Link → Link → Type 0
 NoneId m l = (h : Link) → Holds m h → h.id ≢ l.id
 
+-- a held link with these ids contradicts this one: that of the same prev, or, if none has it, that of the same id
+abbrev pub Refutes : FinMap nat_cmp Link → Link → By → ℕ → ℕ → Type 0
+Refutes m l Prev p i = (h : Link) × Holds m h × Contradict h l × (h.prev ≡ l.prev) × (p ≡ h.prev) × (i ≡ h.id)
+Refutes m l Id p i = NonePrev m l × ((h : Link) × Holds m h × Contradict h l × (h.id ≡ l.id) × (p ≡ h.prev) × (i ≡ h.id))
+
 -- what taking a link answers: each link has one answer, but for want of memory, which comes last
 abbrev pub TakesAs : FinMap nat_cmp Link → Link → Result Took TakeError → Type 0
 TakesAs m l (Ok Held) = Holds m l
 TakesAs m l (Ok New) = NonePrev m l × NoneId m l × (len m < max_links)
-TakesAs m l (Err (Fork link Prev p i)) =
-    (link ≡ l) × ((h : Link) × Holds m h × Contradict h l × (h.prev ≡ l.prev) × (p ≡ h.prev) × (i ≡ h.id))
-TakesAs m l (Err (Fork link Id p i)) =
-    (link ≡ l) × NonePrev m l × ((h : Link) × Holds m h × Contradict h l × (h.id ≡ l.id) × (p ≡ h.prev) × (i ≡ h.id))
+TakesAs m l (Err (Fork link by p i)) = (link ≡ l) × Refutes m l by p i
 TakesAs m l (Err (Full link)) = (link ≡ l) × NonePrev m l × NoneId m l × (len m ≡ max_links)
 TakesAs m l (Err (NoMemory link)) = (link ≡ l) × NonePrev m l × NoneId m l × (len m < max_links)
 

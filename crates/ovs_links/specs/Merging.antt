@@ -1,24 +1,17 @@
 -- What merging a store answers, and what it leaves.
-use Rattle.std.specs.Prelude.{◌≡◌, ◌≤◌, ◌<◌, ℕ, List, Result, Ok, Err}
+use Rattle.std.specs.Prelude.{◌≡◌, ◌≤◌, ◌<◌, List, Result, Ok, Err}
 use Rattle.std.specs.Ordering.{nat_cmp}
 use Rattle.std.specs.FinMap.{FinMap, len}
 use Rattle.ovs_types.specs.declared.schema.Table.{Table}
 use Rattle.ovs_rows.specs.Row.{no_rows}
 use Rattle.ovs_links.specs.Sets.{Holds, Among, Contradict}
 use Rattle.ovs_links.specs.History.{Commit, IsHistory, links_of}
-use Rattle.ovs_links.specs.Answers.{NonePrev}
+use Rattle.ovs_links.specs.Answers.{Refutes}
 use Rattle.ovs_links.specs.Join.{Agree, AreJoinable, join}
 use Rattle.ovs_links.specs.Store.{Stored, max_links}
 use Rattle.ovs_links.specs.declared.link.Link.{Link}
-use Rattle.ovs_links.specs.declared.answer.By.{By}
-use Rattle.ovs_links.specs.declared.answer.By.TheVariants.{Prev, Id}
 use Rattle.ovs_links.specs.declared.answer.MergeError.{MergeError}
 use Rattle.ovs_links.specs.declared.answer.MergeError.TheVariants.{Fork, Full, NoMemory}
-
--- a held link with these ids contradicts this one: that of the same prev, or, if none has it, that of the same id
-abbrev pub Refutes : FinMap nat_cmp Link → Link → By → ℕ → ℕ → Type 0
-Refutes m l Prev p i = (h : Link) × Holds m h × Contradict h l × (h.prev ≡ l.prev) × (p ≡ h.prev) × (i ≡ h.id)
-Refutes m l Id p i = NonePrev m l × ((h : Link) × Holds m h × Contradict h l × (h.id ≡ l.id) × (p ≡ h.prev) × (i ≡ h.id))
 
 -- a link of the second set that contradicts one of the first, with the least id of those
 pub record IsLeastFork (m t : FinMap nat_cmp Link) (l : Link) : Type 0 where

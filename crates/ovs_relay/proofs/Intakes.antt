@@ -71,7 +71,7 @@ full_is m l keyed none_prev none_id full =
 pub refused_is : (s : Stored) (l : Link) (e : TakeError) (r : Refusal) → IsStore s → TakesAs s.links l (Err e) → IsRefusalOf e r → Refused r ≡ outcome_of_link s.links l
 refused_is s l (errors.Fork k Prev p i) r store (is, (h, held, differ, same, prev, id)) refusal =
     ap Refused refusal ∙ (λ j. Refused (Fork (prev j) (id j))) ∙ fork_prev_is s.links l h held differ.0 same
-refused_is s l (errors.Fork k Id p i) r store (is, none, (h, held, differ, same, prev, id)) refusal =
+refused_is s l (errors.Fork k Id p i) r store (is, (none, (h, held, differ, same, prev, id))) refusal =
     ap Refused refusal ∙ (λ j. Refused (Fork (prev j) (id j))) ∙ fork_id_is s.links l h store.keyed store.consistent none held same
 refused_is s l (errors.Full k) r store (is, none_prev, none_id, full) refusal =
     ap Refused refusal ∙ full_is s.links l store.keyed none_prev none_id full
@@ -89,7 +89,7 @@ pub refusal_tells : (m : FinMap nat_cmp Link) (l : Link) (e : TakeError) (r : Re
 refusal_tells m l (errors.Fork k Prev p i) r takes refusal =
     subst (λ (z : Refusal). TellsAnswer m l (Refused z)) (sym refusal) (Prev, (refl, takes.1))
 refusal_tells m l (errors.Fork k Id p i) r takes refusal =
-    subst (λ (z : Refusal). TellsAnswer m l (Refused z)) (sym refusal) (Id, (refl, takes.1, takes.2))
+    subst (λ (z : Refusal). TellsAnswer m l (Refused z)) (sym refusal) (Id, (refl, takes.1))
 refusal_tells m l (errors.Full k) r takes refusal =
     subst (λ (z : Refusal). TellsAnswer m l (Refused z)) (sym refusal) (refl, takes.1, takes.2, takes.3)
 refusal_tells m l (errors.NoMemory k) r takes refusal = absurd refusal

@@ -11,7 +11,8 @@ use Rattle.ovs_links.specs.Sets.{Holds, Contradict, IsConsistent}
 use Rattle.ovs_links.specs.Answers.{NonePrev}
 use Rattle.ovs_links.specs.Store.{Stored, IsStore, max_links}
 use Rattle.ovs_links.specs.Join.{Agree, AreJoinable, join}
-use Rattle.ovs_links.specs.Merging.{IsLeastFork, Refutes, MergesAs, MergesTo}
+use Rattle.ovs_links.specs.Answers.{Refutes}
+use Rattle.ovs_links.specs.Merging.{IsLeastFork, MergesAs, MergesTo}
 use Rattle.ovs_links.specs.declared.answer.By.{By}
 use Rattle.ovs_links.specs.declared.answer.By.TheVariants.{Prev, Id}
 use Rattle.ovs_links.specs.declared.answer.MergeError.{MergeError}

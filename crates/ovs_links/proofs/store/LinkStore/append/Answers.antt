@@ -22,7 +22,7 @@ returns-in-Id-clause-answer c =
     let none_prev : NonePrev c.args.self.now.links c.args.link = λ h a p. c.requires.done h a (p ∙ c.requires.next) in
     let absent = none_found_prev ls c.args.link (subst (λ (v : Stored). NonePrev v.links c.args.link) (sym c.self.view_is) none_prev) in
     let fork = fork_by_id ls c.args.link e.0 c.self.invariant.0.prevs absent e.1 in
-    (refl, none_prev, (e.0, subst (λ (v : Stored). Holds v.links e.0) c.self.view_is fork.0, fork.1, fork.2, e.2, e.3))
+    (refl, (none_prev, (e.0, subst (λ (v : Stored). Holds v.links e.0) c.self.view_is fork.0, fork.1, fork.2, e.2, e.3)))
 
 pub returns-in-Id-clause-source : goal.returns-in-Id-clause-source
 returns-in-Id-clause-source c k _ =

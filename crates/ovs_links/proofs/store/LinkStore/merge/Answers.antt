@@ -3,7 +3,8 @@ use Rattle.std.specs.FinMap.{len}
 use Rattle.ovs_links.specs.Store.{Stored, max_links, tables_of}
 use Rattle.ovs_links.specs.Kept.{IsKept, stored_of, from_links}
 use Rattle.ovs_links.specs.Join.{Agree, AreJoinable, join}
-use Rattle.ovs_links.specs.Merging.{IsLeastFork, Refutes}
+use Rattle.ovs_links.specs.Answers.{Refutes}
+use Rattle.ovs_links.specs.Merging.{IsLeastFork}
 use Rattle.ovs_links.specs.declared.link.Link.{Link}
 use Rattle.ovs_links.proofs.MergeLemmas.{AreMergeable, least_fork, merge_no_fork, kept_merged, merges, too_many, join_new, on_views}
 use Rattle.ovs_links.proofs.store.LinkStore.merge.Goals as goal

@@ -31,8 +31,10 @@ returns-in-Id-clause-answer c =
     let held = e.1.0 in
     let fork = fork_by_id (s.chain.items ++ s.parked.items) c.args.link held c.self.invariant.0.prevs e.0 e.1.1 in (
       refl,
-      subst (λ (v : Stored). NonePrev v.links c.args.link) c.self.view_is (none_prev (s.chain.items ++ s.parked.items) c.args.link e.0),
-      (held, subst (λ (v : Stored). Holds v.links held) c.self.view_is fork.0, fork.1, fork.2, e.1.2, e.1.3),
+      (
+        subst (λ (v : Stored). NonePrev v.links c.args.link) c.self.view_is (none_prev (s.chain.items ++ s.parked.items) c.args.link e.0),
+        (held, subst (λ (v : Stored). Holds v.links held) c.self.view_is fork.0, fork.1, fork.2, e.1.2, e.1.3),
+      ),
     )
 
 pub returns-then-len-ge-MAX_LINKS-clause-answer : goal.returns-then-len-ge-MAX_LINKS-clause-answer
