@@ -3,8 +3,12 @@
 
 mod closing;
 mod command;
+#[cfg(test)]
+mod command_tests;
 mod fault;
 mod fold;
+#[cfg(test)]
+mod fold_limits_tests;
 #[cfg(test)]
 mod fold_tests;
 mod intake;
