@@ -8,10 +8,9 @@ use Rattle.std.specs.FinMap.{FinMap, get, len, values}
 use Rattle.ovs_links.specs.declared.link.Link.{Link}
 use Rattle.ovs_links.specs.contracts.link.Link as link_row
 use Rattle.ovs_links.specs.Sets.{Holds, Contradict, IsConsistent}
-use Rattle.ovs_links.specs.Answers.{NonePrev}
 use Rattle.ovs_links.specs.Store.{Stored, IsStore, max_links}
 use Rattle.ovs_links.specs.Join.{Agree, AreJoinable, join}
-use Rattle.ovs_links.specs.Answers.{Refutes}
+use Rattle.ovs_links.specs.Answers.{NonePrev, Refutes}
 use Rattle.ovs_links.specs.Merging.{IsLeastFork, MergesAs, MergesTo}
 use Rattle.ovs_links.specs.declared.answer.By.{By}
 use Rattle.ovs_links.specs.declared.answer.By.TheVariants.{Prev, Id}

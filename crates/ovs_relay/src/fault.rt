@@ -10,7 +10,7 @@ pub enum Fault {
     /// A read failed.
     #[error("the input can't be read")]
     ReadFault,
-    /// A write failed, or took none of some bytes.
+    /// A write failed, or passed no byte.
     #[error("the output can't be written")]
     WriteFault,
     /// All read and write calls of the run are made.

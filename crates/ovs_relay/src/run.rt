@@ -28,7 +28,7 @@ pub enum RunEnd {
     Refused,
     /// A read failed.
     ReadFault,
-    /// A write failed, or took none of some bytes.
+    /// A write failed, or passed no byte.
     WriteFault,
     /// All read and write calls of the run are made.
     TurnsSpent,
