@@ -20,13 +20,14 @@ use Rattle.ovs_rows.specs.declared.change.Action.{Action}
 use Rattle.ovs_rows.specs.declared.reading.NamedRows.{NamedRows}
 use Rattle.ovs_rows.specs.Change.{Actions, IsActionOf, IsChangeOf, is_idle}
 use Rattle.ovs_rows.specs.ChangeReading.{is_named, with_row, read_change}
-use Rattle.ovs_rows.specs.ChangeSpelling.{SpellsAction, IsRow, IsTable, Spells}
+use Rattle.ovs_rows.specs.ChangeSpelling.{SpellsAction, Spells}
 use Rattle.ovs_rows.specs.ChangeWriting.{action_json, actions_in, update_member, updates_json, table_update, change_json, IsSpelledUpdate, IsSpelledTable, AreSpelledTables}
 use Rattle.ovs_rows.specs.Place.{place_cmp, place_total, place_exact}
 use Rattle.ovs_rows.specs.Row.{columns_at, columns_in}
 use Rattle.ovs_rows.specs.Writing.{with_member}
 use Rattle.ovs_rows.proofs.ChangeLaws.{only}
 use Rattle.ovs_rows.proofs.ChangeRowsBack.{action_spelled, normal_stays}
+use Rattle.ovs_rows.proofs.ChangeSteps.{RowStep, TableStep, spelled_change}
 use Rattle.ovs_rows.proofs.IdOrder.{id_text_cmp, less_is}
 use Rattle.ovs_rows.proofs.Maps.{of_T, All-entries}
 use Rattle.ovs_rows.proofs.ObjectOrder.{Precedes, IsFirst, first_with, lead_first}
@@ -58,12 +59,12 @@ module _ (number : ℕ) (columns : List NamedColumn) where
   ids_before id (e ∷ es) fits least each = (id_text_cmp id e.0.id fits each.0.fits ∙ less_is id e.0.id least.0, ids_before id es fits least.1 each.1)
 
   rows_lead : (m : Actions) (es : List Entry) → Ascend es → AreNew m es → AllByRecursion (IsReadable number columns) es
-      → Lead (IsRow number columns) (only_actions m) (fold with_member no_members (map (update_member columns) es)) (only_actions (put_all m es))
+      → Lead (RowStep number columns) (only_actions m) (fold with_member no_members (map (update_member columns) es)) (only_actions (put_all m es))
   rows_lead m [] ascend new each = refl
   rows_lead m (e ∷ es) ascend new each =
       let row = each.0 in
       let here : record { table = number; id = e.0.id } ≡ e.0 = λ i. record { table = sym row.table i; id = e.0.id } in
-      lead_first (IsRow number columns) (only_actions m) (only_actions (insert m e.0 e.1)) (only_actions (put_all m (e ∷ es))) (id_text e.0.id) (action_json columns e.1) (map (update_member columns) es)
+      lead_first (RowStep number columns) (only_actions m) (only_actions (insert m e.0 e.1)) (only_actions (put_all m (e ∷ es))) (id_text e.0.id) (action_json columns e.1) (map (update_member columns) es)
       (ids_before e.0.id es row.fits ascend.0 each.1)
       (e.0.id, e.1, row.id, ap (is_named (only_actions m)) here ∙ not_named m e.0 new.0, row.action, with_one m e.0 e.1 row.stays ∙ ap (λ (p : Place). with_row (only_actions m) p e.1) (sym here))
       (rows_lead (insert m e.0 e.1) es ascend.1 (still_new m e.0 e.1 es ascend.0 new.1) each.1)
@@ -117,11 +118,11 @@ module _ (change : Actions) where
   module _ (tables : List Table) where
     table_leads : (number : ℕ) (t : Table) (m after : Actions) (es : List Entry) (ms : List (List ℕ × Data)) → slice_get tables number ≡ Some t → IsAscendingBy (λ t. t.name) tables
         → Ascend es → AreNew m es → AllByRecursion (IsReadable number t.columns) es → IsFirst t.name ms
-        → Lead (IsTable tables) (only_actions (put_all m es)) (fold with_member no_members ms) (only_actions after)
-        → Lead (IsTable tables) (only_actions m) (fold with_member no_members (cons_option (option_map (λ d. (t.name, d)) (updates_json t.columns es)) ms)) (only_actions after)
+        → Lead (TableStep tables) (only_actions (put_all m es)) (fold with_member no_members ms) (only_actions after)
+        → Lead (TableStep tables) (only_actions m) (fold with_member no_members (cons_option (option_map (λ d. (t.name, d)) (updates_json t.columns es)) ms)) (only_actions after)
     table_leads number t m after [] ms at ascending ascend new each before leads = leads
     table_leads number t m after (e ∷ es) ms at ascending ascend new each before leads =
-        lead_first (IsTable tables) (only_actions m) (only_actions (put_all m (e ∷ es))) (only_actions after) t.name (object (fold with_member no_members (map (update_member t.columns) (e ∷ es)))) ms before
+        lead_first (TableStep tables) (only_actions m) (only_actions (put_all m (e ∷ es))) (only_actions after) t.name (object (fold with_member no_members (map (update_member t.columns) (e ∷ es)))) ms before
         ((number, t), fold with_member no_members (map (update_member t.columns) (e ∷ es)), table_number tables ascending number t at, refl, rows_lead number t.columns m (e ∷ es) ascend new each)
         leads
 
@@ -138,7 +139,7 @@ module _ (change : Actions) where
     -- the tables from this number on
     tables_lead : (number : ℕ) (ts : List Table) (m : Actions) → ((j : ℕ) (t : Table) → slice_get ts j ≡ Some t → slice_get tables (number + j) ≡ Some t) → IsAscendingBy (λ t. t.name) tables → IsAscendingBy (λ t. t.name) ts
         → AllByRecursion (λ u. AllByRecursion (IsReadable u.0 u.1.columns) (actions_in u.0 change)) (enumerate_from number ts) → IsBelow number m
-        → (after : Actions) × Lead (IsTable tables) (only_actions m) (fold with_member no_members (filter_map (table_update change) (enumerate_from number ts))) (only_actions after) × IsBelow (number + length ts) after
+        → (after : Actions) × Lead (TableStep tables) (only_actions m) (fold with_member no_members (filter_map (table_update change) (enumerate_from number ts))) (only_actions after) × IsBelow (number + length ts) after
     unfolding IsStrictlySortedBy
     tables_lead number [] m at ascending rest each below =
         let none : number ≡ number + 0 = omega arith in
@@ -220,7 +221,7 @@ module _ (tables : List Table) (change : Actions) (sound : IsChangeOf tables cha
       let lead = tables_lead change tables 0 tables empty at ascending ascending (all_readable 0 tables at spelled) none_below in
       let count : 0 + length tables ≡ length tables = omega arith in
       let same : lead.0 ≡ change = all_below lead.0 (subst (λ n. IsBelow change n lead.0) count lead.2) in
-      (fold with_member no_members (filter_map (table_update change) (enumerate_from 0 tables)), only_actions lead.0, refl, lead.1, sym same)
+      spelled_change tables (change_json tables change) change (fold with_member no_members (filter_map (table_update change) (enumerate_from 0 tables)), only_actions lead.0, refl, lead.1, sym same)
 
   read_back : IsAscendingBy (λ t. t.name) tables → AreSpelledTables tables change → read_change tables (change_json tables change) ≡ Ok change
   read_back ascending spelled = only tables (change_json tables change) change (spelled_back ascending spelled)

@@ -24,26 +24,28 @@ use Rattle.ovs_rows.specs.declared.reading.NamedRows.{NamedRows}
 use Rattle.ovs_rows.specs.Cells.{no_cells, data_of, read_cell, read_cells}
 use Rattle.ovs_rows.specs.Change.{Actions}
 use Rattle.ovs_rows.specs.ChangeReading.{read_insert, read_modify, read_one_of, read_action, no_rows_named, is_named, with_row, read_row, read_table, read_tables, read_change}
-use Rattle.ovs_rows.specs.ChangeSpelling.{IsCell, SpellsCells, IsUpdate, SpellsAction, IsRow, IsTable, Spells}
+use Rattle.ovs_rows.specs.ChangeSpelling.{SpellsCells, IsUpdate, SpellsAction, Spells}
 use Rattle.ovs_rows.specs.Faults.{Read, in_change, Gives}
+use Rattle.ovs_rows.proofs.CellSteps.{CellStep, spelled_cells, leading_cells}
+use Rattle.ovs_rows.proofs.ChangeSteps.{RowStep, TableStep, ChangeLeads, spelled_change, leading_change}
 use Rattle.ovs_rows.proofs.ReadingSteps.{datum_of}
 
 -- ---- cells
 
-cell_found : (purpose : Purpose) (cs : List NamedColumn) (s : List (Option Datum)) (name : List ℕ) (d : Data) (t : List (Option Datum)) → read_cell purpose cs s name d ≡ Ok t → IsCell purpose cs s name d t
+cell_found : (purpose : Purpose) (cs : List NamedColumn) (s : List (Option Datum)) (name : List ℕ) (d : Data) (t : List (Option Datum)) → read_cell purpose cs s name d ≡ Ok t → CellStep purpose cs s name d t
 cell_found purpose cs s name d t e =
     let p = bind_found (ok_or (column_named cs name) faults.NoColumn) _ t e in
     let q = bind_found (in_change (read_datum p.0.1 d)) _ t p.2 in
     (p.0, q.0, ok_or_found _ _ _ p.1, datum_found p.0.1 d q.0 (datum_of _ _ q.1), same_value _ _ q.2)
 
-cell_only : (purpose : Purpose) (cs : List NamedColumn) (s : List (Option Datum)) (name : List ℕ) (d : Data) (t : List (Option Datum)) → IsCell purpose cs s name d t → read_cell purpose cs s name d ≡ Ok t
+cell_only : (purpose : Purpose) (cs : List NamedColumn) (s : List (Option Datum)) (name : List ℕ) (d : Data) (t : List (Option Datum)) → CellStep purpose cs s name d t → read_cell purpose cs s name d ≡ Ok t
 cell_only purpose cs s name d t (column, x, named, value, is) = rw (named, datum_only column.1 d x value, is) refl
 
 cells_found : (purpose : Purpose) (cs : List NamedColumn) (ms : Members) (t : List (Option Datum)) → read_cells purpose cs ms ≡ Ok t → SpellsCells purpose cs ms t
-cells_found purpose cs = each_found (read_cell purpose cs) (IsCell purpose cs) (cell_found purpose cs) (no_cells cs)
+cells_found purpose cs ms t e = spelled_cells purpose cs ms t (each_found (read_cell purpose cs) (CellStep purpose cs) (cell_found purpose cs) (no_cells cs) ms t e)
 
 cells_only : (purpose : Purpose) (cs : List NamedColumn) (ms : Members) (t : List (Option Datum)) → SpellsCells purpose cs ms t → read_cells purpose cs ms ≡ Ok t
-cells_only purpose cs = each_only (read_cell purpose cs) (IsCell purpose cs) (cell_only purpose cs) (no_cells cs)
+cells_only purpose cs ms t spelled = each_only (read_cell purpose cs) (CellStep purpose cs) (cell_only purpose cs) (no_cells cs) ms t (leading_cells purpose cs ms t spelled)
 
 -- ---- row updates
 
@@ -102,27 +104,27 @@ with_update_found before p update after false there e =
     let q = bind_found update (λ a. Ok (with_row before p a)) after e in
     (q.0, there, q.1, same_value _ _ q.2)
 
-row_found : (table : ℕ) (cs : List NamedColumn) (before : NamedRows) (name : List ℕ) (d : Data) (after : NamedRows) → read_row table cs before name d ≡ Ok after → IsRow table cs before name d after
+row_found : (table : ℕ) (cs : List NamedColumn) (before : NamedRows) (name : List ℕ) (d : Data) (after : NamedRows) → read_row table cs before name d ≡ Ok after → RowStep table cs before name d after
 row_found table cs before name d after e =
     let p = bind_found (ok_or (read_id name) faults.BadRowId) _ after e in
     let q = with_update_found before (record { table = table; id = p.0 }) (read_action cs d) after _ refl p.2 in
     (p.0, q.0, ok_or_found _ _ _ p.1, q.1, action_found cs d q.0 q.2, q.3)
 
-row_only : (table : ℕ) (cs : List NamedColumn) (before : NamedRows) (name : List ℕ) (d : Data) (after : NamedRows) → IsRow table cs before name d after → read_row table cs before name d ≡ Ok after
+row_only : (table : ℕ) (cs : List NamedColumn) (before : NamedRows) (name : List ℕ) (d : Data) (after : NamedRows) → RowStep table cs before name d after → read_row table cs before name d ≡ Ok after
 row_only table cs before name d after (id, action, named, new, spelled, is) = rw (named, new, action_only cs d action spelled, is) refl
 
 -- ---- tables
 
-table_found : (tables : List Table) (before : NamedRows) (name : List ℕ) (d : Data) (after : NamedRows) → read_table tables before name d ≡ Ok after → IsTable tables before name d after
+table_found : (tables : List Table) (before : NamedRows) (name : List ℕ) (d : Data) (after : NamedRows) → read_table tables before name d ≡ Ok after → TableStep tables before name d after
 table_found tables before name d after e =
     let p = bind_found (ok_or (table_named tables name) faults.NoTable) _ after e in
     let q = bind_found (ok_or (as_object d) faults.BadKind) _ after p.2 in
     let cs = p.0.1.columns in
-    (p.0, q.0, ok_or_found _ _ _ p.1, object_of d q.0 (ok_or_found _ _ _ q.1), each_found (read_row p.0.0 cs) (IsRow p.0.0 cs) (row_found p.0.0 cs) before q.0 after q.2)
+    (p.0, q.0, ok_or_found _ _ _ p.1, object_of d q.0 (ok_or_found _ _ _ q.1), each_found (read_row p.0.0 cs) (RowStep p.0.0 cs) (row_found p.0.0 cs) before q.0 after q.2)
 
-table_only : (tables : List Table) (before : NamedRows) (name : List ℕ) (d : Data) (after : NamedRows) → IsTable tables before name d after → read_table tables before name d ≡ Ok after
+table_only : (tables : List Table) (before : NamedRows) (name : List ℕ) (d : Data) (after : NamedRows) → TableStep tables before name d after → read_table tables before name d ≡ Ok after
 table_only tables before name d after (table, rows, named, is, lead) =
-    rw (named, is) (each_only (read_row table.0 table.1.columns) (IsRow table.0 table.1.columns) (row_only table.0 table.1.columns) before rows after lead)
+    rw (named, is) (each_only (read_row table.0 table.1.columns) (RowStep table.0 table.1.columns) (row_only table.0 table.1.columns) before rows after lead)
 
 -- ---- changes
 
@@ -130,12 +132,15 @@ pub found : (tables : List Table) (d : Data) (c : Actions) → read_change table
 found tables d c e =
     let p = bind_found (ok_or (as_object d) faults.BadKind) _ c e in
     let q = bind_found (read_tables tables p.0) _ c p.2 in
-    (p.0, q.0, object_of d p.0 (ok_or_found _ _ _ p.1), each_found (read_table tables) (IsTable tables) (table_found tables) no_rows_named p.0 q.0 q.1, same_value _ _ q.2)
+    spelled_change tables d c (p.0, q.0, object_of d p.0 (ok_or_found _ _ _ p.1), each_found (read_table tables) (TableStep tables) (table_found tables) no_rows_named p.0 q.0 q.1, same_value _ _ q.2)
+
+only_led : (tables : List Table) (d : Data) (c : Actions) → ChangeLeads tables d c → read_change tables d ≡ Ok c
+only_led tables d c (members, rows, is, lead, same) =
+    let read : read_tables tables members ≡ Ok rows = each_only (read_table tables) (TableStep tables) (table_only tables) no_rows_named members rows lead in
+    rw (is, read, same) refl
 
 pub only : (tables : List Table) (d : Data) (c : Actions) → Spells tables d c → read_change tables d ≡ Ok c
-only tables d c (members, rows, is, lead, same) =
-    let read : read_tables tables members ≡ Ok rows = each_only (read_table tables) (IsTable tables) (table_only tables) no_rows_named members rows lead in
-    rw (is, read, same) refl
+only tables d c spelled = only_led tables d c (leading_change tables d c spelled)
 
 -- ---- for what a call answers
 

@@ -1,6 +1,6 @@
 -- A change that is read has the actions that the value says, and no others.
-use Rattle.std.proofs.Common.{◌≡◌, ℕ, List, false, Option, Some, None, Ok, refl, sym, ap, subst, ◌∙◌, ◌⊎◌, inl, inr}
-use Rattle.std.specs.FinMap.{get, get-empty, same_map}
+use Rattle.std.proofs.Common.{◌≡◌, ℕ, List, false, Some, Ok, sym, ap, subst, ◌∙◌, ◌⊎◌, inl, inr}
+use Rattle.std.specs.FinMap.{get}
 use Rattle.serde_json.specs.Data.{Data, object, Members, no_members, member}
 use Rattle.ovs_types.specs.declared.schema.NamedColumn.{NamedColumn}
 use Rattle.ovs_types.specs.declared.schema.Table.{Table}
@@ -13,15 +13,12 @@ use Rattle.ovs_rows.specs.declared.reading.NamedRows.{NamedRows}
 use Rattle.ovs_rows.specs.Change.{Actions, is_idle}
 use Rattle.ovs_rows.specs.ChangeMeaning.{SaysOfRow, SaysOfPlace, Says, Means, OneValueForAllSpellings}
 use Rattle.ovs_rows.specs.ChangeReading.{no_rows_named}
-use Rattle.ovs_rows.specs.ChangeSpelling.{SpellsAction, IsRow, IsTable, Spells}
+use Rattle.ovs_rows.specs.ChangeSpelling.{SpellsAction, Spells}
 use Rattle.ovs_rows.specs.Faults.{Read}
-use Rattle.ovs_rows.specs.Place.{place_cmp, place_total, place_exact}
 use Rattle.ovs_rows.proofs.ChangeLaws.{action_only}
+use Rattle.ovs_rows.proofs.ChangeSteps.{Has, none_named, RowStep, TableStep, ChangeLeads, leading_change, same_change}
 use Rattle.ovs_rows.proofs.NamedRowLaws.{action_from, action_there, action_stays}
 use Rattle.ovs_rows.proofs.ReadingSteps.{kept_to_end}
-
-abbrev Has : NamedRows → Place → Action → Type 0
-Has rows p a = get rows.actions p ≡ Some a
 
 abbrev fine : Action → Read Action
 fine a = Ok a
@@ -35,17 +32,17 @@ one_action cs d a b spells_a spells_b =
 -- ---- rows of one table
 
 module _ (table : ℕ) (cs : List NamedColumn) where
-  row_stays : (p : Place) (a : Action) (s : NamedRows) (name : List ℕ) (d : Data) (t : NamedRows) → IsRow table cs s name d t → Has s p a → Has t p a
+  row_stays : (p : Place) (a : Action) (s : NamedRows) (name : List ℕ) (d : Data) (t : NamedRows) → RowStep table cs s name d t → Has s p a → Has t p a
   row_stays p a s name d t (id, b, named, new, spelled, is) has =
       subst (λ (r : NamedRows). Has r p a) (sym is) (action_stays s (record { table = table; id = id }) b p a new has)
 
-  rows_stay : (p : Place) (a : Action) (before : NamedRows) (ms : Members) (after : NamedRows) → Lead (IsRow table cs) before ms after → Has before p a → Has after p a
-  rows_stay p a = kept_to_end (IsRow table cs) (λ s. Has s p a) (row_stays p a)
+  rows_stay : (p : Place) (a : Action) (before : NamedRows) (ms : Members) (after : NamedRows) → Lead (RowStep table cs) before ms after → Has before p a → Has after p a
+  rows_stay p a = kept_to_end (RowStep table cs) (λ s. Has s p a) (row_stays p a)
 
   abbrev Said : Members → Place → Action → Type 0
   Said ms p a = (p.table ≡ table) × (is_idle a ≡ false) × SaysOfRow cs ms p.id a
 
-  row_said : (p : Place) (a : Action) (s : NamedRows) (name : List ℕ) (d : Data) (t : NamedRows) → IsRow table cs s name d t → Has t p a
+  row_said : (p : Place) (a : Action) (s : NamedRows) (name : List ℕ) (d : Data) (t : NamedRows) → RowStep table cs s name d t → Has t p a
       → ((p.table ≡ table) × (is_idle a ≡ false) × (read_id name ≡ Some p.id) × SpellsAction cs d a) ⊎ Has s p a
   row_said p a s name d t (id, b, named, new, spelled, is) has =
       elim (action_from s (record { table = table; id = id }) b p a (subst (λ (r : NamedRows). Has r p a) is has)) [
@@ -53,7 +50,7 @@ module _ (table : ℕ) (cs : List NamedColumn) where
         | inr old ↦ inr old
       ]
 
-  rows_said : (p : Place) (a : Action) (before : NamedRows) (ms : Members) (after : NamedRows) → Lead (IsRow table cs) before ms after → Has after p a → Has before p a ⊎ Said ms p a
+  rows_said : (p : Place) (a : Action) (before : NamedRows) (ms : Members) (after : NamedRows) → Lead (RowStep table cs) before ms after → Has after p a → Has before p a ⊎ Said ms p a
   rows_said p a before no_members after lead has = inl (subst (λ (r : NamedRows). Has r p a) lead has)
   rows_said p a before (member name d ms) after (next, step, rest) has = elim (rows_said p a next ms after rest has) [
     | inl earlier ↦ elim (row_said p a before name d next step earlier) [
@@ -63,7 +60,7 @@ module _ (table : ℕ) (cs : List NamedColumn) where
     | inr later ↦ inr (later.0, later.1, inr later.2)
   ]
 
-  row_says : (p : Place) (a : Action) (s : NamedRows) (name : List ℕ) (d : Data) (t : NamedRows) → IsRow table cs s name d t
+  row_says : (p : Place) (a : Action) (s : NamedRows) (name : List ℕ) (d : Data) (t : NamedRows) → RowStep table cs s name d t
       → p.table ≡ table → is_idle a ≡ false → read_id name ≡ Some p.id → SpellsAction cs d a → Has t p a
   row_says p a s name d t (id, b, named, new, spelled, is) at idle this says =
       let number : id ≡ p.id = cc in
@@ -73,7 +70,7 @@ module _ (table : ℕ) (cs : List NamedColumn) where
       subst (λ (r : NamedRows). Has r (record { table = table; id = id }) b) (sym is) (action_there s (record { table = table; id = id }) b (ap is_idle action ∙ idle)) in
       ap (λ (q : Place). get t.actions q) (sym here) ∙ there ∙ ap Some action
 
-  rows_say : (p : Place) (a : Action) (before : NamedRows) (ms : Members) (after : NamedRows) → Lead (IsRow table cs) before ms after
+  rows_say : (p : Place) (a : Action) (before : NamedRows) (ms : Members) (after : NamedRows) → Lead (RowStep table cs) before ms after
       → p.table ≡ table → is_idle a ≡ false → SaysOfRow cs ms p.id a → Has after p a
   rows_say p a before no_members after lead at idle says = absurd says
   rows_say p a before (member name d ms) after (next, step, rest) at idle (inl here) = rows_stay p a next ms after rest (row_says p a before name d next step at idle here.0 here.1)
@@ -82,13 +79,13 @@ module _ (table : ℕ) (cs : List NamedColumn) where
 -- ---- tables
 
 module _ (tables : List Table) where
-  table_stays : (p : Place) (a : Action) (s : NamedRows) (name : List ℕ) (d : Data) (t : NamedRows) → IsTable tables s name d t → Has s p a → Has t p a
+  table_stays : (p : Place) (a : Action) (s : NamedRows) (name : List ℕ) (d : Data) (t : NamedRows) → TableStep tables s name d t → Has s p a → Has t p a
   table_stays p a s name d t (table, rows, named, is, lead) has = rows_stay table.0 table.1.columns p a s rows t lead has
 
-  tables_stay : (p : Place) (a : Action) (before : NamedRows) (ms : Members) (after : NamedRows) → Lead (IsTable tables) before ms after → Has before p a → Has after p a
-  tables_stay p a = kept_to_end (IsTable tables) (λ s. Has s p a) (table_stays p a)
+  tables_stay : (p : Place) (a : Action) (before : NamedRows) (ms : Members) (after : NamedRows) → Lead (TableStep tables) before ms after → Has before p a → Has after p a
+  tables_stay p a = kept_to_end (TableStep tables) (λ s. Has s p a) (table_stays p a)
 
-  tables_said : (p : Place) (a : Action) (before : NamedRows) (ms : Members) (after : NamedRows) → Lead (IsTable tables) before ms after → Has after p a
+  tables_said : (p : Place) (a : Action) (before : NamedRows) (ms : Members) (after : NamedRows) → Lead (TableStep tables) before ms after → Has after p a
       → Has before p a ⊎ ((is_idle a ≡ false) × SaysOfPlace tables ms p a)
   tables_said p a before no_members after lead has = inl (subst (λ (r : NamedRows). Has r p a) lead has)
   tables_said p a before (member name d ms) after (next, (table, rows, named, is, lead), rest) has = elim (tables_said p a next ms after rest has) [
@@ -99,7 +96,7 @@ module _ (tables : List Table) where
     | inr later ↦ inr (later.0, inr later.1)
   ]
 
-  table_says : (p : Place) (a : Action) (s : NamedRows) (name : List ℕ) (d : Data) (t : NamedRows) → IsTable tables s name d t → is_idle a ≡ false
+  table_says : (p : Place) (a : Action) (s : NamedRows) (name : List ℕ) (d : Data) (t : NamedRows) → TableStep tables s name d t → is_idle a ≡ false
       → (this : Table) (these : Members) → table_named tables name ≡ Some (p.table, this) → d ≡ object these → SaysOfRow this.columns these p.id a → Has t p a
   table_says p a s name d t (table, rows, named, is, lead) idle this these found object_is says =
       let one : (p.table, this) ≡ table = cc in
@@ -107,7 +104,7 @@ module _ (tables : List Table) where
       rows_say table.0 table.1.columns p a s rows t lead (ap (λ q. q.0) one) idle
       (subst (λ (ms : Members). SaysOfRow table.1.columns ms p.id a) members (subst (λ (q : ℕ × Table). SaysOfRow q.1.columns these p.id a) one says))
 
-  tables_say : (p : Place) (a : Action) (before : NamedRows) (ms : Members) (after : NamedRows) → Lead (IsTable tables) before ms after → is_idle a ≡ false → SaysOfPlace tables ms p a → Has after p a
+  tables_say : (p : Place) (a : Action) (before : NamedRows) (ms : Members) (after : NamedRows) → Lead (TableStep tables) before ms after → is_idle a ≡ false → SaysOfPlace tables ms p a → Has after p a
   tables_say p a before no_members after lead idle says = absurd says
   tables_say p a before (member name d ms) after (next, step, rest) idle (inl (this, these, found, object_is, says)) =
       tables_stay p a next ms after rest (table_says p a before name d next step idle this these found object_is says)
@@ -115,11 +112,8 @@ module _ (tables : List Table) where
 
 -- ---- the whole
 
-none_named : (p : Place) (a : Action) → Has no_rows_named p a → ⊥
-none_named p a has = let none : get no_rows_named.actions p ≡ None = get-empty place_cmp p in cc
-
-pub means : (tables : List Table) (d : Data) (c : Actions) → Spells tables d c → Means tables d c
-means tables d c (members, rows, is, lead, same) p a = (there, says)
+means_led : (tables : List Table) (d : Data) (c : Actions) → ChangeLeads tables d c → Means tables d c
+means_led tables d c (members, rows, is, lead, same) p a = (there, says)
   where
     there : get c p ≡ Some a → Says tables d p a
     there has = elim (tables_said tables p a no_rows_named members rows lead (subst (λ (m : Actions). get m p ≡ Some a) same has)) [
@@ -132,13 +126,11 @@ means tables d c (members, rows, is, lead, same) p a = (there, says)
         let these : others ≡ members = cc in
         ap (λ (m : Actions). get m p) same ∙ tables_say tables p a no_rows_named members rows lead idle (subst (λ (ms : Members). SaysOfPlace tables ms p a) these said)
 
--- two that are some action alike are equal
-alike : (o r : Option Action) → ((a : Action) → o ≡ Some a → r ≡ Some a) → ((a : Action) → r ≡ Some a → o ≡ Some a) → o ≡ r
-alike (Some a) r f g = sym (f a refl)
-alike None None f g = refl
-alike None (Some b) f g = g b refl
+pub means : (tables : List Table) (d : Data) (c : Actions) → Spells tables d c → Means tables d c
+means tables d c spelled = means_led tables d c (leading_change tables d c spelled)
 
 pub one_value : OneValueForAllSpellings
-one_value tables d e x y spells_x spells_y same = same_map place_total place_exact x y (λ p. alike (get x p) (get y p)
-    (λ a has. (means tables e y spells_y p a).1 ((same p a).0 ((means tables d x spells_x p a).0 has)))
-    (λ a has. (means tables d x spells_x p a).1 ((same p a).1 ((means tables e y spells_y p a).0 has))))
+one_value tables d e x y spells_x spells_y same = same_change x y (λ p a. (
+  λ has. (means tables e y spells_y p a).1 ((same p a).0 ((means tables d x spells_x p a).0 has)),
+  λ has. (means tables d x spells_x p a).1 ((same p a).1 ((means tables e y spells_y p a).0 has)),
+))

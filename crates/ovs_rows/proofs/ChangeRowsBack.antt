@@ -21,10 +21,11 @@ use Rattle.ovs_rows.specs.declared.change.Action.{Action}
 use Rattle.ovs_rows.specs.declared.change.Action.TheVariants.{Insert, Delete, Modify}
 use Rattle.ovs_rows.specs.Cells.{kept, no_cells, value_or_default, data_of}
 use Rattle.ovs_rows.specs.Change.{IsEditOf, AreEditsOf, IsActionOf, is_idle}
-use Rattle.ovs_rows.specs.ChangeSpelling.{IsCell, SpellsCells, SpellsAction}
+use Rattle.ovs_rows.specs.ChangeSpelling.{SpellsCells, SpellsAction}
 use Rattle.ovs_rows.specs.ChangeWriting.{beside_default, as_edited, cell_member, cell_members, action_json, IsSpelled, AreSpelled, IsSpelledAction}
 use Rattle.ovs_rows.specs.Row.{AreDataOf}
 use Rattle.ovs_rows.specs.Writing.{with_member}
+use Rattle.ovs_rows.proofs.CellSteps.{CellStep, spelled_cells}
 use Rattle.ovs_rows.proofs.Data.{same_datum}
 use Rattle.ovs_rows.proofs.ObjectOrder.{Precedes, IsFirst, first_with, lead_first}
 
@@ -60,14 +61,14 @@ module _ {X : Type 0} (cell : NamedColumn → X → Option Datum) where
 
   module _ (purpose : Purpose) (all : List NamedColumn) where
     abbrev Leads : List (Option Datum) → List (List ℕ × Data) → List (Option Datum) → Type 0
-    Leads before ms after = Lead (IsCell purpose all) before (fold with_member no_members ms) after
+    Leads before ms after = Lead (CellStep purpose all) before (fold with_member no_members ms) after
 
     cell_leads : (c : NamedColumn) (ms : List (List ℕ × Data)) (front rest after : List (Option Datum)) (o : Option Datum) → column_named all c.name ≡ Some (length front, c.column) → IsFirst c.name ms → IfSome o (IsCellOf purpose c)
         → Leads ((front ++ o ∷ []) ++ rest) ms ((front ++ o ∷ []) ++ after) → Leads (front ++ None ∷ rest) (cons_option (cell_member c o) ms) (front ++ o ∷ after)
     cell_leads c ms front rest after None at before is leads =
         subst (λ s. Leads s ms (front ++ None ∷ after)) (append_one front None rest) (subst (Leads ((front ++ None ∷ []) ++ rest) ms) (append_one front None after) leads)
     cell_leads c ms front rest after (Some x) at before is leads =
-        lead_first (IsCell purpose all) (front ++ None ∷ rest) (front ++ Some x ∷ rest) (front ++ Some x ∷ after) c.name (datum_json x) ms before
+        lead_first (CellStep purpose all) (front ++ None ∷ rest) (front ++ Some x ∷ rest) (front ++ Some x ∷ after) c.name (datum_json x) ms before
         ((length front, c.column), x, at, is.0, sym (set_after front None (kept purpose c.column x) rest ∙ ap (λ o. front ++ o ∷ rest) is.1))
         (subst (λ s. Leads s ms (front ++ Some x ∷ after)) (append_one front (Some x) rest) (subst (Leads ((front ++ Some x ∷ []) ++ rest) ms) (append_one front (Some x) after) leads))
 
@@ -87,7 +88,8 @@ module _ {X : Type 0} (cell : NamedColumn → X → Option Datum) where
   cells_spelled : (purpose : Purpose) (cs : List NamedColumn) (xs : List X) → IsAscendingBy (λ c. c.name) cs → AllByRecursion (λ p. IfSome (cell p.0 p.1) (IsCellOf purpose p.0)) (zip cs xs)
       → SpellsCells purpose cs (fold with_member no_members (cell_members cell cs xs)) (cells_of cs xs)
   cells_spelled purpose cs xs ascending each =
-      cells_lead purpose cs cs xs [] (λ j c e. (let number : j ≡ 0 + j = omega arith in column_number cs ascending j c e ∙ λ i. Some (number i, c.column))) ascending each
+      spelled_cells purpose cs (fold with_member no_members (cell_members cell cs xs)) (cells_of cs xs)
+      (cells_lead purpose cs cs xs [] (λ j c e. (let number : j ≡ 0 + j = omega arith in column_number cs ascending j c e ∙ λ i. Some (number i, c.column))) ascending each)
 
 -- ---- a new row
 

@@ -23,10 +23,12 @@ use Rattle.ovs_rows.specs.declared.reading.NamedRows.{NamedRows}
 use Rattle.ovs_rows.specs.Cells.{kept, no_cells, data_of}
 use Rattle.ovs_rows.specs.Change.{Actions, IsEditOf, IsActionOf, IsChangeOf, is_idle}
 use Rattle.ovs_rows.specs.ChangeReading.{no_rows_named, with_row}
-use Rattle.ovs_rows.specs.ChangeSpelling.{IsCell, SpellsCells, SpellsAction, IsRow, IsTable, Spells}
+use Rattle.ovs_rows.specs.ChangeSpelling.{SpellsCells, SpellsAction, Spells}
 use Rattle.ovs_rows.specs.Place.{place_cmp}
 use Rattle.ovs_rows.specs.Row.{columns_at, columns_in, AreDataOf}
 use Rattle.ovs_types.proofs.Defaults.{IsDatumOf-default_datum}
+use Rattle.ovs_rows.proofs.CellSteps.{CellStep, leading_cells}
+use Rattle.ovs_rows.proofs.ChangeSteps.{RowStep, TableStep, ChangeLeads, leading_change}
 use Rattle.ovs_rows.proofs.NamedRowLaws.{action_from}
 use Rattle.ovs_rows.proofs.ReadingSteps.{kept_to_end}
 
@@ -51,7 +53,7 @@ module _ (P : Column → Datum → Type 0) where
   none_of_columns (c ∷ cs) = (tt, none_of_columns cs)
 
   module _ (purpose : Purpose) (kept_so : (c : Column) (d : Data) (x : Datum) → values.Spells c d x → IfSome (kept purpose c x) (P c)) where
-    cell_of_columns : (cs : List NamedColumn) (s : List (Option Datum)) (name : List ℕ) (d : Data) (t : List (Option Datum)) → IsCell purpose cs s name d t → AreCells P cs s → AreCells P cs t
+    cell_of_columns : (cs : List NamedColumn) (s : List (Option Datum)) (name : List ℕ) (d : Data) (t : List (Option Datum)) → CellStep purpose cs s name d t → AreCells P cs s → AreCells P cs t
     cell_of_columns cs s name d t (column, x, named, spelled, is) all =
         let p = found_stands (λ c. c.name) (λ c. c.column) 0 cs name column.0 column.1 named in
         let number : p.0 ≡ column.0 = omega (arith, p.2) in
@@ -61,7 +63,7 @@ module _ (P : Column → Datum → Type 0) where
 
     -- what holds of each datum that is kept holds of the cells
     pub cells_of_columns : (cs : List NamedColumn) (ms : Members) (t : List (Option Datum)) → SpellsCells purpose cs ms t → AreCells P cs t
-    cells_of_columns cs ms t lead = kept_to_end (IsCell purpose cs) (AreCells P cs) (cell_of_columns cs) (no_cells cs) ms t lead (none_of_columns cs)
+    cells_of_columns cs ms t spelled = kept_to_end (CellStep purpose cs) (AreCells P cs) (cell_of_columns cs) (no_cells cs) ms t (leading_cells purpose cs ms t spelled) (none_of_columns cs)
 
 telling_of_column : (c : Column) (x : Datum) → IsDatumOf c x → (b : Bool) → (is_single c || not (is_empty x)) ≡ b → IfSome (cond b (Some x) None) (IsEditOf c)
 telling_of_column c x h true e = (h, e)
@@ -92,23 +94,26 @@ row_of_tables tables rows q b within sound all p a at = elim (action_from rows q
   | inr old ↦ all p a old
 ]
 
-table_of_tables : (tables : List Table) (before : NamedRows) (name : List ℕ) (d : Data) (after : NamedRows) → IsTable tables before name d after → IsChangeOf tables before.actions → IsChangeOf tables after.actions
+table_of_tables : (tables : List Table) (before : NamedRows) (name : List ℕ) (d : Data) (after : NamedRows) → TableStep tables before name d after → IsChangeOf tables before.actions → IsChangeOf tables after.actions
 table_of_tables tables before name d after (table, rows, named, is, lead) all =
     let p = found_stands (λ t. t.name) (λ t. t) 0 tables name table.0 table.1 named in
     let number : p.0 ≡ table.0 = omega (arith, p.2) in
     let at : slice_get tables table.0 ≡ Some table.1 = ap (slice_get tables) (sym number) ∙ p.3 ∙ ap Some (sym p.5) in
     let columns : table.1.columns ≡ columns_at tables table.0 = ap columns_in (sym at) in
     let within : table.0 < length tables = slice_get_within tables table.0 table.1 at in
-    kept_to_end (IsRow table.0 table.1.columns) (λ s. IsChangeOf tables s.actions)
-    (λ s key v t (step : IsRow table.0 table.1.columns s key v t) sound.
+    kept_to_end (RowStep table.0 table.1.columns) (λ s. IsChangeOf tables s.actions)
+    (λ s key v t (step : RowStep table.0 table.1.columns s key v t) sound.
     subst (λ (r : NamedRows). IsChangeOf tables r.actions) (sym step.5)
     (row_of_tables tables s (record { table = table.0; id = step.0 }) step.1 within (λ busy. subst (λ cs. IsActionOf cs step.1) columns (action_of_columns table.1.columns v step.1 step.4 busy)) sound))
     before rows after lead all
 
-pub of_tables : (tables : List Table) (d : Data) (c : Actions) → Spells tables d c → IsChangeOf tables c
-of_tables tables d c (members, rows, is, lead, same) =
+of_tables_led : (tables : List Table) (d : Data) (c : Actions) → ChangeLeads tables d c → IsChangeOf tables c
+of_tables_led tables d c (members, rows, is, lead, same) =
     subst (IsChangeOf tables) (sym same)
-    (kept_to_end (IsTable tables) (λ s. IsChangeOf tables s.actions) (table_of_tables tables) no_rows_named members rows lead (λ p a at. absurd (nothing p a at)))
+    (kept_to_end (TableStep tables) (λ s. IsChangeOf tables s.actions) (table_of_tables tables) no_rows_named members rows lead (λ p a at. absurd (nothing p a at)))
   where
     nothing : (p : Place) (a : Action) → get no_rows_named.actions p ≡ Some a → ⊥
     nothing p a at = let none : get no_rows_named.actions p ≡ None = get-empty place_cmp p in cc
+
+pub of_tables : (tables : List Table) (d : Data) (c : Actions) → Spells tables d c → IsChangeOf tables c
+of_tables tables d c spelled = of_tables_led tables d c (leading_change tables d c spelled)

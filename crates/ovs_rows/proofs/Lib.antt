@@ -8,8 +8,10 @@ pub mod Gathering
 pub mod Writings
 pub mod Settled
 pub mod ReadingSteps
-pub mod ChangeLaws
 pub mod NamedRowLaws
+pub mod CellSteps
+pub mod ChangeSteps
+pub mod ChangeLaws
 pub mod ChangeTables
 pub mod ChangeMeanings
 pub mod IdOrder

@@ -14,7 +14,7 @@ use Rattle.ovs_rows.specs.Place.{place_cmp, place_total, place_exact}
 pub same_place : (p q : Place) → eq_by_cmp place_cmp p q ≡ true → p ≡ q
 same_place p q e = place_exact p q ((Equal-is (place_cmp p q)).0 e)
 
-itself : (p : Place) → eq_by_cmp place_cmp p p ≡ true
+pub itself : (p : Place) → eq_by_cmp place_cmp p p ≡ true
 itself p = ap is_eq (tied_itself place_total p)
 
 inserted_by : (m : Actions) (q : Place) (b : Action) (p : Place) (a : Action) (t : Bool) → eq_by_cmp place_cmp p q ≡ t → cond t (Some b) (get m p) ≡ Some a → ((p ≡ q) × (a ≡ b)) ⊎ (get m p ≡ Some a)
