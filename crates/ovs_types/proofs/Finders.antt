@@ -1,14 +1,18 @@
 -- What stands in a list at a name, and its number.
-use Rattle.std.proofs.Common.{◌≡◌, ◌≢◌, ℕ, zero, suc, ◌+◌, ◌<◌, List, [], ◌∷◌, Bool, true, false, cond, Option, Some, None, refl, sym, ap, subst, ◌∙◌, ◌⊎◌, inl, inr, length, arith}
+use Rattle.std.proofs.Common.{◌≡◌, ◌≢◌, ℕ, zero, suc, ◌+◌, ◌<◌, ◌≤◌, List, [], ◌∷◌, Bool, true, false, cond, Option, Some, None, Result, Ok, Err, refl, sym, ap, subst, ◌∙◌, ◌⊎◌, inl, inr, length, get_or, arith}
 use Rattle.std.proofs.lemmas.Bool.{cases_order}
-use Rattle.std.proofs.lemmas.Option.{slice_get_within}
-use Rattle.std.specs.Prelude.{nat_eq, slice_get, map, option_map, IfSome, IfNone}
+use Rattle.std.proofs.lemmas.List.Sorted.{searchable_from_sorted}
+use Rattle.std.proofs.lemmas.Option.{slice_get_within, slice_get-get_or, get_or_from_slice_get}
+use Rattle.std.specs.Prelude.{nat_eq, slice_get, map, option_map, IfNone}
 use Rattle.std.specs.Borrow.{Bor}
+use Rattle.std.specs.FinMap.{nat_cmp-IsAntisymmetric, slice_cmp-IsAntisymmetric}
 use Rattle.std.specs.List.{AllByRecursion}
-use Rattle.std.specs.List.Sorted.{IsStrictlySortedBy}
-use Rattle.std.specs.Ordering.{nat_cmp, ordering_reverse}
+use Rattle.std.specs.List.Sorted.{IsStrictlySortedBy, IsSortedBy, IsPartitionPoint, IsSearchInRange, IsBinarySearchResult}
+use Rattle.std.specs.Ordering.{nat_cmp, ordering_reverse, is_lt}
+use Rattle.std.specs.Result.{result_ok}
 use Rattle.std.specs.Cmp.{tied_itself, first_so, second_so}
 use Rattle.std.specs.Cmp.Lexicographic.{pointwise, bytes_decides, slice_cmp, nat_list_cmp_total}
+use Rattle.std.specs.declared.cmp.Ordering.{Ordering}
 use Rattle.std.specs.declared.cmp.Ordering.TheVariants.{Less, Equal, Greater}
 use Rattle.ovs_types.specs.Names.{is_name, IsAscendingBy, AreNames}
 use Rattle.ovs_types.specs.Finding.{find_from, column_named, table_named}
@@ -25,6 +29,9 @@ not_before_itself s t e h =
     let tied : slice_cmp nat_cmp s s ≡ Equal = tied_itself nat_list_cmp_total s in
     let before : slice_cmp nat_cmp s s ≡ Less = subst (Precedes s) (sym e) h in
     cc
+
+tied_names : (s t : List ℕ) → s ≡ t → slice_cmp nat_cmp s t ≡ Equal
+tied_names s t e = subst (λ u. slice_cmp nat_cmp s u ≡ Equal) e (tied_itself nat_list_cmp_total s)
 
 -- so a name that comes before another one is not that one
 differ : (s t : List ℕ) (b : Bool) → pointwise nat_eq s t ≡ b → Precedes s t → b ≡ false
@@ -154,6 +161,68 @@ module _ {X : Type 0} (name_of : X → List ℕ) where
   pub found_name : {Y : Type 0} (value_of : X → Y) (xs : List X) → AreNames name_of xs → (s : List ℕ) (i : ℕ) (y : Y) → find_from name_of value_of 0 xs s ≡ Some (i, y) → is_name s ≡ true
   found_name value_of xs h s i y e = let p = found_stands name_of value_of 0 xs s i y e in ap is_name (sym p.4) ∙ name_at xs p.0 p.1 h p.3
 
+-- ---- what a search finds among entries whose names ascend
+
+module _ {X : Type 0} (name_of : X → List ℕ) where
+  abbrev pub by_name : List ℕ → X → Ordering
+  by_name s x = slice_cmp nat_cmp (name_of x) s
+
+  sorted_by_name : (xs : List X) → IsAscendingBy name_of xs → IsSortedBy (λ x y. is_lt (slice_cmp nat_cmp (name_of x) (name_of y))) xs
+  sorted_by_name xs h k d low within =
+      let x = get_or xs k d in
+      let y = get_or xs (k + 1) d in
+      let before : Precedes (name_of x) (name_of y) =
+      names_ascend name_of xs h k (k + 1) x y (slice_get-get_or xs k d (omega (arith, within))) (slice_get-get_or xs (k + 1) d within) (omega arith) in
+      let turned : slice_cmp nat_cmp (name_of y) (name_of x) ≡ Greater = nat_list_cmp_total.antisymm (name_of y) (name_of x) ∙ ap ordering_reverse before in
+      ap is_lt turned
+
+  -- the entry at the number where a search found a name is the one that has it
+  pub search_found : {Y : Type 0} (value_of : X → Y) (xs : List X) → IsAscendingBy name_of xs → (s : List ℕ) (r : Result ℕ ℕ) → IsSearchInRange r (length xs)
+      → IsBinarySearchResult (by_name s) xs r → (i : ℕ) → result_ok r ≡ Some i → (d : X) → find_from name_of value_of 0 xs s ≡ Some (i, value_of (get_or xs i d))
+  search_found value_of xs h s (Err j) within place i e d = absurd cc
+  search_found value_of xs h s (Ok j) within place i e d =
+      let number : j ≡ i = cc in
+      let x = get_or xs j d in
+      let named : name_of x ≡ s = slice_cmp-IsAntisymmetric nat_cmp-IsAntisymmetric (name_of x) s (place d) in
+      let found : find_from name_of value_of 0 xs (name_of x) ≡ Some (0 + j, value_of x) = found_by_name name_of value_of 0 xs h j x (slice_get-get_or xs j d within) in
+      let counted : 0 + j ≡ i = omega (arith, number) in
+      ap (find_from name_of value_of 0 xs) (sym named) ∙ found ∙ λ k. Some (counted k, value_of (get_or xs (number k) d))
+
+  none_by : {Y : Type 0} (value_of : X → Y) (k : ℕ) (x : X) (xs : List X) (s : List ℕ) (b : Bool) → pointwise nat_eq (name_of x) s ≡ b → name_of x ≢ s
+      → find_from name_of value_of (suc k) xs s ≡ None → cond b (Some (k, value_of x)) (find_from name_of value_of (suc k) xs s) ≡ None
+  none_by value_of k x xs s true named other later = absurd (other ((bytes_decides (name_of x) s).0 named))
+  none_by value_of k x xs s false named other later = later
+
+  -- where none has the name none is found
+  none_found : {Y : Type 0} (value_of : X → Y) (k : ℕ) (xs : List X) (s : List ℕ) → ((j : ℕ) (x : X) → slice_get xs j ≡ Some x → name_of x ≢ s) → find_from name_of value_of k xs s ≡ None
+  none_found value_of k [] s absent = refl
+  none_found value_of k (x ∷ xs) s absent = none_by value_of k x xs s _ refl (absent 0 x refl) (none_found value_of (suc k) xs s (λ j. absent (suc j)))
+
+  -- nor does an entry have it, where the search ended between what comes before it and what comes after
+  not_between : (xs : List X) (s : List ℕ) (i : ℕ) → IsPartitionPoint (λ x. by_name s x ≡ Less) (λ x. by_name s x ≡ Greater) xs i
+      → (j : ℕ) (x : X) → slice_get xs j ≡ Some x → name_of x ≢ s
+  not_between xs s i sides j x at same = by_side (cases_order j i)
+    where
+      stands : get_or xs j x ≡ x
+      stands = get_or_from_slice_get xs j x x at
+
+      ties_as : (o : Ordering) → by_name s (get_or xs j x) ≡ o → o ≡ Equal
+      ties_as o e = sym e ∙ tied_names (name_of (get_or xs j x)) s (ap name_of stands ∙ same)
+
+      behind : i ≤ j → ⊥
+      behind up = let tied : Greater ≡ Equal = ties_as Greater (sides.1 j x up (slice_get_within xs j x at)) in cc
+
+      by_side : ((j ≡ i) ⊎ ((j < i) ⊎ (i < j))) → ⊥
+      by_side (inl here) = behind (omega (arith, here))
+      by_side (inr (inl before)) = let tied : Less ≡ Equal = ties_as Less (sides.0 j x (omega arith) before) in cc
+      by_side (inr (inr after)) = behind (omega (arith, after))
+
+  pub search_absent : {Y : Type 0} (value_of : X → Y) (xs : List X) → IsAscendingBy name_of xs → (s : List ℕ) (r : Result ℕ ℕ)
+      → IsBinarySearchResult (by_name s) xs r → result_ok r ≡ None → find_from name_of value_of 0 xs s ≡ None
+  search_absent value_of xs h s (Ok i) parted e = absurd cc
+  search_absent value_of xs h s (Err i) parted e =
+      none_found value_of 0 xs s (not_between xs s i (parted (searchable_from_sorted nat_list_cmp_total name_of xs s (sorted_by_name xs h))))
+
 -- ---- columns and tables
 
 -- the column at the number that is found
@@ -178,20 +247,12 @@ table_number ts h i t at = let number : 0 + i ≡ i = omega arith in found_by_na
 
 -- ---- for what the finders answer
 
-pub column_there : (cs : List NamedColumn) (s : List ℕ) (r : Option (ℕ × Column)) → r ≡ column_named cs s → IfSome r (λ p. slice_get cs p.0 ≡ Some (record { name = s; column = p.1 }))
-column_there cs s None e = tt
-column_there cs s (Some p) e = column_at cs s p.0 p.1 (sym e)
-
 pub column_absent : (cs : List NamedColumn) (s : List ℕ) (r : Option (ℕ × Column)) → r ≡ column_named cs s → IfNone r ((number : ℕ) → (c : NamedColumn) → slice_get cs number ≡ Some c → c.name ≢ s)
 column_absent cs s None e = unfound_absent (λ c. c.name) (λ c. c.column) 0 cs s (sym e)
 column_absent cs s (Some p) e = tt
 
 abbrev seen : Option (ℕ × Bor Table) → Option (ℕ × Table)
 seen = option_map (λ p. (p.0, p.1.now))
-
-pub table_there : (ts : List Table) (s : List ℕ) (r : Option (ℕ × Bor Table)) → seen r ≡ table_named ts s → IfSome r (λ p. (slice_get ts p.0 ≡ Some p.1.now) × (p.1.now.name ≡ s))
-table_there ts s None e = tt
-table_there ts s (Some p) e = table_at ts s p.0 p.1.now (sym e)
 
 pub table_absent : (ts : List Table) (s : List ℕ) (r : Option (ℕ × Bor Table)) → seen r ≡ table_named ts s → IfNone r ((number : ℕ) → (t : Table) → slice_get ts number ≡ Some t → t.name ≢ s)
 table_absent ts s None e = unfound_absent (λ t. t.name) (λ t. t) 0 ts s (sym e)
@@ -200,6 +261,5 @@ table_absent ts s (Some p) e = tt
 pub column_reserved : (cs : List NamedColumn) → AreNames (λ c. c.name) cs → (s : List ℕ) (i : ℕ) (c : Column) → column_named cs s ≡ Some (i, c) → is_name s ≡ false → ⊥
 column_reserved cs h s i c e reserved = let good : is_name s ≡ true = found_name (λ c. c.name) (λ c. c.column) cs h s i c e in cc
 
-pub table_reserved : (ts : List Table) → AreNames (λ t. t.name) ts → (s : List ℕ) (r : Option (ℕ × Bor Table)) → seen r ≡ table_named ts s → is_name s ≡ false → r ≡ None
-table_reserved ts h s None e reserved = refl
-table_reserved ts h s (Some p) e reserved = let good : is_name s ≡ true = found_name (λ t. t.name) (λ t. t) ts h s p.0 p.1.now (sym e) in absurd cc
+pub table_reserved : (ts : List Table) → AreNames (λ t. t.name) ts → (s : List ℕ) (i : ℕ) (t : Table) → table_named ts s ≡ Some (i, t) → is_name s ≡ false → ⊥
+table_reserved ts h s i t e reserved = let good : is_name s ≡ true = found_name (λ t. t.name) (λ t. t) ts h s i t e in cc

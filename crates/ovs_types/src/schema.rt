@@ -1,13 +1,12 @@
 //! Schemas (RFC 7047 section 3.2): a database's tables and columns.
 
-ghost use Rattle.std.specs.Prelude.{◌≡◌, None, false, IsTrue, ◌↔◌, IfOk, IfSome, option_map};
+ghost use Rattle.std.specs.Prelude.{◌≡◌, ◌≢◌, ◌<◌, ℕ, None, Some, false, IsTrue, ◌↔◌, IfOk, IfSome, IfNone, option_map, length, slice_get};
 ghost use Rattle.serde_json.specs.View.{view};
-ghost use Rattle.ovs_types.specs.Finding.{table_named, columns_of, column_of};
+ghost use Rattle.ovs_types.specs.Finding.{column_named, table_named, columns_of, column_of};
 ghost use Rattle.ovs_types.specs.Names.{is_name, IsAscendingBy, AreNames};
 
 use crate::column::Column;
 use crate::error::NoMemory;
-use crate::finding::{column_named, table_named};
 use crate::text::Text;
 use serde_json::Value;
 use std::alloc::Global;
@@ -55,6 +54,25 @@ impl NamedColumns {
     {
         &self.columns
     }
+
+    /// The number of the column of a name in the order of the names, and what the column holds, if there is one.
+    pub fn find(&self, name: &str) -> Option<(usize, Column)>
+        ensures found { result ≡ column_named self.now name.now }
+        ensures within { IfSome result (λ p. p.0 < length self.now) }
+        // The column at that number has the name and holds that.
+        ensures there { IfSome result (λ p. slice_get self.now p.0 ≡ Some (record { name = name.now; column = p.1 })) }
+        // Where none is found no column has the name.
+        ensures absent { IfNone result
+            ((number : ℕ) → (c : _) → slice_get self.now number ≡ Some c → c.name ≢ name.now) }
+        // No column has a reserved name, as `_uuid` and `_version` are.
+        ensures reserved { is_name name.now ≡ false → result ≡ None }
+    {
+        let columns = self.as_slice();
+        let number = columns
+            .binary_search_by(|column| column.name.as_str().cmp(name))
+            .ok()?;
+        Some((number, columns[number].column))
+    }
 }
 
 /// A table's name and its columns.
@@ -98,6 +116,25 @@ impl Tables {
         ensures names { AreNames (λ x. x.name) self.now }
     {
         &self.tables
+    }
+
+    /// The number of the table of a name in the order of the names, and the table, if there is one.
+    pub fn find(&self, name: &str) -> Option<(usize, &Table)>
+        ensures found { option_map (λ p. (p.0, p.1.now)) result ≡ table_named self.now name.now }
+        ensures within { IfSome result (λ p. p.0 < length self.now) }
+        // The table at that number has the name.
+        ensures there { IfSome result (λ p. (slice_get self.now p.0 ≡ Some p.1.now) × (p.1.now.name ≡ name.now)) }
+        // Where none is found no table has the name.
+        ensures absent { IfNone result
+            ((number : ℕ) → (t : _) → slice_get self.now number ≡ Some t → t.name ≢ name.now) }
+        // No table has a reserved name.
+        ensures reserved { is_name name.now ≡ false → result ≡ None }
+    {
+        let tables = self.as_slice();
+        let number = tables
+            .binary_search_by(|table| table.name.as_str().cmp(name))
+            .ok()?;
+        Some((number, &tables[number]))
     }
 }
 
@@ -151,7 +188,7 @@ impl Schema {
         // No table has a reserved name.
         ensures reserved { is_name name.now ≡ false → result ≡ None }
     {
-        table_named(self.tables(), name)
+        self.description.tables.find(name)
     }
 
     /// The columns of a table, ascending by name, if there is such a table. The implicit columns
@@ -172,7 +209,8 @@ impl Schema {
         // No column has a reserved name, as `_uuid` and `_version` are.
         ensures reserved { is_name name.now ≡ false → result ≡ None }
     {
-        let (_, column) = column_named(self.columns(table)?, name)?;
+        let (_, table) = self.table(table)?;
+        let (_, column) = table.columns.find(name)?;
         Some(column)
     }
 

@@ -122,10 +122,10 @@ fn net_written(rt: HostRuntime) -> Result<(), Fail> {
 fn numbers_of_columns(rt: HostRuntime) -> Result<(), Fail> {
     let schema = schema_of(rt, SMALL)?;
     for table in schema.tables() {
-        let columns = table.columns.as_slice();
-        assert!(rt; column_named(columns, "mtu") == Some((0, one(AtomKind::Integer))));
-        assert!(rt; column_named(columns, "name") == Some((1, one(AtomKind::String))));
-        assert!(rt; column_named(columns, "tags").is_none());
+        let columns = &table.columns;
+        assert!(rt; columns.find("mtu") == Some((0, one(AtomKind::Integer))));
+        assert!(rt; columns.find("name") == Some((1, one(AtomKind::String))));
+        assert!(rt; columns.find("tags").is_none());
     }
     Ok(())
 }
@@ -137,7 +137,11 @@ fn numbers_of_tables(rt: HostRuntime) -> Result<(), Fail> {
         r#"{"name":"_d","version":"","tables":{"b":{"columns":{}},"B_2":{"columns":{}},"a":{"columns":{}}}}"#,
     )?;
     for (name, want) in [("B_2", 0), ("a", 1), ("b", 2)] {
-        let found = table_named(schema.tables(), name).map(|(number, _)| number);
+        let found = schema
+            .description
+            .tables
+            .find(name)
+            .map(|(number, _)| number);
         assert!(rt; found == Some(want), "{name}");
     }
     Ok(())
