@@ -6,8 +6,8 @@ use Rattle.std.specs.Ordering.{match_ordering, ordering_reverse}
 use Rattle.std.specs.Cmp.{IsTotalOrder}
 use Rattle.std.proofs.lemmas.Cmp.{tied_itself, tied_back, alike_right}
 use Rattle.ovs_types.specs.Ascending.{IsBefore, IsAscending}
-use Rattle.ovs_types.proofs.Entries.{entry_at, exchanged_at}
-use Rattle.ovs_types.specs.Exchange.{exchange, exchange_from}
+use Rattle.ovs_types.specs.Exchange.{entry_at, exchanged_at, AreExchanged}
+use Rattle.ovs_types.proofs.Exchanges.{exchange, exchange_from}
 
 some_is : {E : Type 0} (x y : E) → Some x ≡ Some y → x ≡ y
 some_is x y e = cc
@@ -163,32 +163,38 @@ module _ {K E : Type 0} (order : K → K → Ordering) (total : IsTotalOrder ord
     entry_at-exchange q [] ys a b = refl
     entry_at-exchange q (x ∷ xs) ys a b = entry_at-from q x xs a.0 (λ zs c. entry_at-exchange q xs zs a.1 c) ys b
 
-    -- the entry at a key has that key
-    entry_at-key : (q : K) (xs : List E) (x : E) → at q xs ≡ Some x → order q (key x) ≡ Equal
-    entry_at-key q [] x e = absurd cc
-    entry_at-key q (z ∷ zs) x e =
-        elim (order q (key z)) as (λ o. order q (key z) ≡ o → match_ordering o (at q zs) (Some z) (at q zs) ≡ Some x → order q (key x) ≡ Equal) [
-          | Less ↦ λ d f. entry_at-key q zs x f
-          | Equal ↦ λ d f. let same : z ≡ x = some_is z x f in rw (← same) d
-          | Greater ↦ λ d f. entry_at-key q zs x f
-        ] refl e
+-- ---- entries as their own keys
 
-    module _ (itself : (x : E) → is_same x x ≡ true) (decides : (x y : E) → order (key x) (key y) ≡ Equal → is_same x y ≡ true → x ≡ y) where
-      twice : (q : K) (o p : Option E) → ((x : E) → o ≡ Some x → order q (key x) ≡ Equal) → ((y : E) → p ≡ Some y → order q (key y) ≡ Equal)
-          → exchanged_at is_same o (exchanged_at is_same o p) ≡ p
-      twice q None p tx ty = refl
-      twice q (Some x) None tx ty = rw (itself x) refl
-      twice q (Some x) (Some y) tx ty =
-          elim (is_same x y) as (λ s. is_same x y ≡ s → exchanged_at is_same (Some x) (cond s None (Some y)) ≡ Some y) [
-            | true ↦ λ s. ap Some (decides x y (total.congr (key x) q (key y) (tied_back total q (key x) (tx x refl)) ∙ ty y refl) s)
-            | false ↦ λ s. rw s refl
-          ] refl
+module _ {K E : Type 0} (order : K → K → Ordering) (key : E → K) where
+  abbrev by_key : E → E → Ordering
+  by_key x y = order (key x) (key y)
 
-      -- applying a difference gives the second list
-      pub exchange-twice : (xs ys : List E) → IsAscending order key xs → IsAscending order key ys → ex xs (ex xs ys) ≡ ys
-      exchange-twice xs ys a b =
-          let once = IsAscending-exchange xs ys a b in
-          same_entries (ex xs (ex xs ys)) ys (IsAscending-exchange xs (ex xs ys) a once) b (λ q.
-          entry_at-exchange q xs (ex xs ys) a once
-          ∙ ap (exchanged_at is_same (at q xs)) (entry_at-exchange q xs ys a b)
-          ∙ twice q (at q xs) (at q ys) (λ x e. entry_at-key q xs x e) (λ y e. entry_at-key q ys y e))
+  IsBefore-by_key : (x : E) (ys : List E) → IsBefore by_key (λ y. y) x ys → IsBefore order key (key x) ys
+  IsBefore-by_key x [] h = tt
+  IsBefore-by_key x (y ∷ ys) h = (h.0, IsBefore-by_key x ys h.1)
+
+  by_key-IsBefore : (x : E) (ys : List E) → IsBefore order key (key x) ys → IsBefore by_key (λ y. y) x ys
+  by_key-IsBefore x [] h = tt
+  by_key-IsBefore x (y ∷ ys) h = (h.0, by_key-IsBefore x ys h.1)
+
+  pub IsAscending-by_key : (xs : List E) → IsAscending by_key (λ x. x) xs → IsAscending order key xs
+  IsAscending-by_key [] h = tt
+  IsAscending-by_key (x ∷ xs) h = (IsBefore-by_key x xs h.0, IsAscending-by_key xs h.1)
+
+  pub by_key-IsAscending : (xs : List E) → IsAscending order key xs → IsAscending by_key (λ x. x) xs
+  by_key-IsAscending [] h = tt
+  by_key-IsAscending (x ∷ xs) h = (by_key-IsBefore x xs h.0, by_key-IsAscending xs h.1)
+
+  pub entry_at-by_key : (q : E) (xs : List E) → entry_at by_key (λ x. x) q xs ≡ entry_at order key (key q) xs
+  entry_at-by_key q [] = refl
+  entry_at-by_key q (x ∷ xs) = ap (λ o. match_ordering (order (key q) (key x)) o (Some x) o) (entry_at-by_key q xs)
+
+-- ---- what the exchange of two ascending lists is
+
+module _ {E : Type 0} (order : E → E → Ordering) (total : IsTotalOrder order) (is_same : E → E → Bool) (old new d : List E)
+    (a : IsAscending order (λ x. x) old) (b : IsAscending order (λ x. x) new) (e : d ≡ exchange order is_same old new) where
+  pub IsAscending-exchanged : IsAscending order (λ x. x) d
+  IsAscending-exchanged = rw e (IsAscending-exchange order total (λ x. x) is_same old new a b)
+
+  pub AreExchanged-exchange : AreExchanged order is_same old new d
+  AreExchanged-exchange q = rw e (entry_at-exchange order total (λ x. x) is_same q old new a b)

@@ -1,6 +1,8 @@
 -- The exchange of two lists is the difference of the sets or maps that they stand for.
-use Rattle.std.proofs.Common.{◌≡◌, List, [], ◌∷◌, Bool, true, false, cond, ◌||◌, Option, Some, None, refl, sym, ap, ◌∙◌}
+use Rattle.std.proofs.Common.{◌≡◌, List, [], ◌∷◌, ◌++◌, Bool, true, false, cond, ◌||◌, ◌&&◌, Option, Some, None, refl, sym, ap, ◌∙◌}
 use Rattle.std.specs.Prelude.{is_some, option_map, Result, Ok, Err, IfOk, ◌↔◌, MatchBool}
+use Rattle.std.specs.List.{filter}
+use Rattle.std.specs.Option.{option_eq}
 use Rattle.std.specs.declared.cmp.Ordering.TheVariants.{Less, Equal, Greater}
 use Rattle.std.specs.Ordering.{match_ordering, is_eq}
 use Rattle.ovs_types.specs.declared.atom.Atom.{Atom}
@@ -11,14 +13,13 @@ use Rattle.ovs_types.specs.declared.datum.Datum.{Datum}
 use Rattle.ovs_types.specs.declared.datum.Datum.TheVariants.{Set, Map}
 use Rattle.ovs_types.specs.Atom.{atom_cmp, kind_of}
 use Rattle.ovs_types.specs.Pairs.{key_cmp, same_value}
-use Rattle.ovs_types.specs.Ascending.{IsAscending}
-use Rattle.ovs_types.proofs.Entries.{entry_at, exchanged_at}
-use Rattle.ovs_types.specs.Exchange.{exchange}
+use Rattle.ovs_types.specs.Ascending.{IsAscending, in_order}
+use Rattle.ovs_types.specs.Exchange.{entry_at, exchanged_at, AreExchanged}
 use Rattle.ovs_types.specs.Atom.{atom_eq}
 use Rattle.ovs_types.specs.Datum.{contains, value_at, datum_len, is_empty, IsAlike, IsOrdered, IsDatumOf, IsShaped, HasKinds}
-use Rattle.ovs_types.specs.Difference.{in_one, changed, IsExchange, IsDifference, exchange_of, difference_of, changed_by}
-use Rattle.ovs_types.proofs.Ascends.{entry_at-exchange, IsAscending-exchange, same_entries, exchange-twice}
-use Rattle.ovs_types.proofs.Exchanges.{exchange-nil}
+use Rattle.ovs_types.specs.Difference.{in_one, changed, is_exchanged, IsExchange, IsDifference, exchange_of, difference_of, changed_by}
+use Rattle.ovs_types.proofs.Ascends.{same_entries, entry_at-by_key}
+use Rattle.ovs_types.proofs.InOrder.{Ascends-in_order, at-in_order}
 use Rattle.std.proofs.lemmas.Cmp.{tied_itself}
 use Rattle.ovs_types.proofs.AtomOrder.{atom_total, atom_exact}
 
@@ -60,23 +61,26 @@ changed-is (Some x) None = refl
 changed-is (Some x) (Some y) =
     elim (same_value x y) as (λ s. option_map (λ (p : Pair). p.value) (cond s None (Some y)) ≡ cond s None (Some y.value)) [ true ↦ refl | false ↦ refl ]
 
-pub IsExchange-sets : (a b : List Atom) → IsAscending atom_cmp (λ x. x) a → IsAscending atom_cmp (λ x. x) b
-    → IsExchange (Set a) (Set b) (Set (exchange atom_cmp (λ _ _. true) a b))
-IsExchange-sets a b ha hb x =
-    contains-at x (exchange atom_cmp (λ _ _. true) a b)
-    ∙ ap is_some (entry_at-exchange atom_cmp atom_total (λ (x : Atom). x) (λ _ _. true) x a b ha hb)
+pub IsExchange-sets : (a b d : List Atom) → AreExchanged atom_cmp (λ _ _. true) a b d → IsExchange (Set a) (Set b) (Set d)
+IsExchange-sets a b d h x =
+    contains-at x d
+    ∙ ap is_some (h x)
     ∙ in_one-is (atom_at x a) (atom_at x b)
     ∙ ap (λ v. in_one v (is_some (atom_at x b))) (sym (contains-at x a))
     ∙ ap (in_one (contains x a)) (sym (contains-at x b))
 
-pub IsExchange-maps : (a b : List Pair) → IsAscending atom_cmp (λ p. p.key) a → IsAscending atom_cmp (λ p. p.key) b
-    → IsExchange (Map a) (Map b) (Map (exchange key_cmp same_value a b))
-IsExchange-maps a b ha hb k =
-    value_at-at k (exchange key_cmp same_value a b)
-    ∙ ap (option_map (λ (p : Pair). p.value)) (entry_at-exchange atom_cmp atom_total (λ (p : Pair). p.key) same_value k a b ha hb)
-    ∙ changed-is (pair_at k a) (pair_at k b)
-    ∙ ap (λ v. changed v (option_map (λ (p : Pair). p.value) (pair_at k b))) (sym (value_at-at k a))
-    ∙ ap (changed (value_at k a)) (sym (value_at-at k b))
+-- the value at the key of a pair
+value_at-own : (p : Pair) (ps : List Pair) → value_at p.key ps ≡ pair_value (entry_at key_cmp (λ p. p) p ps)
+value_at-own p ps = value_at-at p.key ps ∙ ap pair_value (sym (entry_at-by_key atom_cmp (λ (p : Pair). p.key) p ps))
+
+pub IsExchange-maps : (a b d : List Pair) → AreExchanged key_cmp same_value a b d → IsExchange (Map a) (Map b) (Map d)
+IsExchange-maps a b d h k =
+    let q : Pair = record { key = k; value = k } in
+    value_at-own q d
+    ∙ ap pair_value (h q)
+    ∙ changed-is (entry_at key_cmp (λ p. p) q a) (entry_at key_cmp (λ p. p) q b)
+    ∙ ap (λ v. changed v (pair_value (entry_at key_cmp (λ p. p) q b))) (sym (value_at-own q a))
+    ∙ ap (changed (value_at k a)) (sym (value_at-own q b))
 
 -- ---- a set is its elements, and a map its values
 
@@ -179,7 +183,7 @@ pub only_from : {F : Type 0} (c : Column) (old d : Datum) (r : Result Datum F) �
 only_from c old d (Err f) s e o = tt
 only_from c old d (Ok x) s e o = λ b ordered h. one_exchange old d x b o ordered e (undone old b d (rw s at h))
 
--- ---- the functions
+-- ---- the elements of exactly one set, in order
 
 pub atom_eq-true : (x y : Atom) → atom_eq x y ≡ true → x ≡ y
 atom_eq-true x y e =
@@ -189,29 +193,139 @@ atom_eq-true x y e =
       | Greater ↦ λ d f. absurd cc
     ] refl e
 
-same_pair_by : (p q : Pair) → atom_cmp p.key q.key ≡ Equal → same_value p q ≡ true → p ≡ q
-same_pair_by p q e s =
-    let both : ◌≡◌ {A = Pair} (record { key = p.key; value = p.value }) (record { key = q.key; value = q.value }) = rw (atom_exact p.key q.key e, atom_eq-true p.value q.value s) refl in
-    both
+contains-in_order : (x : Atom) (ys : List Atom) → contains x (in_order atom_cmp ys) ≡ contains x ys
+contains-in_order x ys =
+    contains-at x (in_order atom_cmp ys) ∙ ap is_some (at-in_order atom_cmp atom_total (λ (x : Atom). x) x ys) ∙ sym (contains-at x ys)
 
-pub sets_back : (a b : List Atom) → IsAscending atom_cmp (λ x. x) a → IsAscending atom_cmp (λ x. x) b
-    → exchange atom_cmp (λ _ _. true) a (exchange atom_cmp (λ _ _. true) a b) ≡ b
-sets_back a b ha hb = exchange-twice atom_cmp atom_total (λ (x : Atom). x) (λ _ _. true) (λ x. refl) (λ x y e s. atom_exact x y e) a b ha hb
+contains-append : (x : Atom) (ys zs : List Atom) → contains x (ys ++ zs) ≡ (contains x ys || contains x zs)
+contains-append x [] zs = refl
+contains-append x (y ∷ ys) zs =
+    elim (atom_eq x y) as (λ b. (b || contains x (ys ++ zs)) ≡ ((b || contains x ys) || contains x zs)) [ true ↦ refl | false ↦ contains-append x ys zs ]
 
-pub maps_back : (a b : List Pair) → IsAscending atom_cmp (λ p. p.key) a → IsAscending atom_cmp (λ p. p.key) b
-    → exchange key_cmp same_value a (exchange key_cmp same_value a b) ≡ b
-maps_back a b ha hb = exchange-twice atom_cmp atom_total (λ (p : Pair). p.key) same_value (λ p. atom_eq-self p.value) same_pair_by a b ha hb
+contains-filter : (p : Atom → Bool) (x : Atom) (ys : List Atom) → contains x (filter p ys) ≡ (p x && contains x ys)
+contains-filter p x [] = elim (p x) as (λ b. false ≡ (b && false)) [ true ↦ refl | false ↦ refl ]
+contains-filter p x (y ∷ ys) =
+    elim (p y) as (λ b. p y ≡ b → contains x (cond b (y ∷ filter p ys) (filter p ys)) ≡ (p x && (atom_eq x y || contains x ys))) [
+      | true ↦ λ kept.
+          elim (atom_eq x y) as (λ b. atom_eq x y ≡ b → (b || contains x (filter p ys)) ≡ (p x && (b || contains x ys))) [
+            | true ↦ λ e. let holds : p x ≡ true = ap p (atom_eq-true x y e) ∙ kept in rw holds refl
+            | false ↦ λ e. contains-filter p x ys
+          ] refl
+      | false ↦ λ left.
+          elim (atom_eq x y) as (λ b. atom_eq x y ≡ b → contains x (filter p ys) ≡ (p x && (b || contains x ys))) [
+            | true ↦ λ e. let fails : p x ≡ false = ap p (atom_eq-true x y e) ∙ left in contains-filter p x ys ∙ rw fails refl
+            | false ↦ λ e. contains-filter p x ys
+          ] refl
+    ] refl
 
--- what both have differs from old by what makes old the other
-pub exchange_of-twice : (old new : Datum) → IsAlike old new → IsOrdered old → IsOrdered new → exchange_of old (exchange_of old new) ≡ new
-exchange_of-twice (Set a) (Set b) alike ha hb = ap Set (sets_back a b ha hb)
-exchange_of-twice (Map a) (Map b) alike ha hb = ap Map (maps_back a b ha hb)
-exchange_of-twice (Set a) (Map b) alike ha hb = absurd alike
-exchange_of-twice (Map a) (Set b) alike ha hb = absurd alike
+in_one-either : (a b : Bool) → (in_one a b && (a || b)) ≡ in_one a b
+in_one-either true true = refl
+in_one-either true false = refl
+in_one-either false true = refl
+in_one-either false false = refl
+
+IsExchange-exchange_of_sets : (a b : List Atom) → IsExchange (Set a) (Set b) (exchange_of (Set a) (Set b))
+IsExchange-exchange_of_sets a b x =
+    let p : Atom → Bool = λ y. in_one (contains y a) (contains y b) in
+    contains-in_order x (filter p (a ++ b))
+    ∙ contains-filter p x (a ++ b)
+    ∙ ap (λ c. p x && c) (contains-append x a b)
+    ∙ in_one-either (contains x a) (contains x b)
+
+-- ---- the pairs that the exchange of two maps has, in order
+
+value_at-in_order : (k : Atom) (ps : List Pair) → value_at k (in_order key_cmp ps) ≡ value_at k ps
+value_at-in_order k ps =
+    value_at-at k (in_order key_cmp ps) ∙ ap pair_value (at-in_order atom_cmp atom_total (λ (p : Pair). p.key) k ps) ∙ sym (value_at-at k ps)
+
+-- the pairs of a key that a test lets stay are those of one value
+module _ (k : Atom) (t : Option Atom) (p : Pair → Bool) (decides : (q : Pair) → k ≡ q.key → p q ≡ option_eq atom_eq t (Some q.value)) where
+  value_at-filter : (q : Pair) (qs : List Pair) → value_at k (filter p (q ∷ qs))
+      ≡ cond (atom_eq k q.key && option_eq atom_eq t (Some q.value)) (Some q.value) (value_at k (filter p qs))
+  value_at-filter q qs =
+      elim (atom_eq k q.key) as (λ b. atom_eq k q.key ≡ b → value_at k (filter p (q ∷ qs)) ≡ cond (b && option_eq atom_eq t (Some q.value)) (Some q.value) (value_at k (filter p qs))) [
+        | true ↦ λ e.
+            rw (decides q (atom_eq-true k q.key e)) (
+            elim (option_eq atom_eq t (Some q.value)) as (λ s. value_at k (cond s (q ∷ filter p qs) (filter p qs)) ≡ cond s (Some q.value) (value_at k (filter p qs))) [
+              | true ↦ rw e refl
+              | false ↦ refl
+            ])
+        | false ↦ λ e.
+            elim (p q) as (λ s. value_at k (cond s (q ∷ filter p qs) (filter p qs)) ≡ value_at k (filter p qs)) [
+              | true ↦ rw e refl
+              | false ↦ refl
+            ]
+      ] refl
+
+  none_stays : t ≡ None → (qs : List Pair) → value_at k (filter p qs) ≡ None
+  none_stays none [] = refl
+  none_stays none (q ∷ qs) =
+      value_at-filter q qs
+      ∙ rw none (elim (atom_eq k q.key) as (λ b. cond (b && false) (Some q.value) (value_at k (filter p qs)) ≡ None) [ true ↦ none_stays none qs | false ↦ none_stays none qs ])
+
+  module _ (v : Atom) (some : t ≡ Some v) where
+    first_stays : (qs : List Pair) → value_at k qs ≡ Some v → value_at k (filter p qs) ≡ Some v
+    first_stays [] e = absurd cc
+    first_stays (q ∷ qs) e =
+        value_at-filter q qs
+        ∙ rw some (elim (atom_eq k q.key) as (λ b. cond b (Some q.value) (value_at k qs) ≡ Some v → cond (b && atom_eq v q.value) (Some q.value) (value_at k (filter p qs)) ≡ Some v) [
+          | true ↦ λ f.
+              let same : v ≡ q.value = sym (some_is q.value v f) in
+              rw (← same, atom_eq-self v) refl
+          | false ↦ first_stays qs
+        ] e)
+
+    later_stays : (qs rs : List Pair) → value_at k (filter p rs) ≡ Some v → value_at k (filter p (qs ++ rs)) ≡ Some v
+    later_stays [] rs e = e
+    later_stays (q ∷ qs) rs e =
+        value_at-filter q (qs ++ rs)
+        ∙ rw some (elim (atom_eq k q.key) as (λ b. cond (b && atom_eq v q.value) (Some q.value) (value_at k (filter p (qs ++ rs))) ≡ Some v) [
+          | true ↦ elim (atom_eq v q.value) as (λ b. atom_eq v q.value ≡ b → cond b (Some q.value) (value_at k (filter p (qs ++ rs))) ≡ Some v) [
+            | true ↦ λ s. ap Some (sym (atom_eq-true v q.value s))
+            | false ↦ λ s. later_stays qs rs e
+          ] refl
+          | false ↦ later_stays qs rs e
+        ])
+
+value_at-append : (k v : Atom) (ps qs : List Pair) → value_at k ps ≡ Some v → value_at k (ps ++ qs) ≡ Some v
+value_at-append k v [] qs e = absurd cc
+value_at-append k v (p ∷ ps) qs e =
+    elim (atom_eq k p.key) as (λ b. cond b (Some p.value) (value_at k ps) ≡ Some v → cond b (Some p.value) (value_at k (ps ++ qs)) ≡ Some v) [
+      | true ↦ λ f. f
+      | false ↦ value_at-append k v ps qs
+    ] e
+
+changed_from : (v w : Option Atom) (x : Atom) → changed v w ≡ Some x → (P : Type 0) → (v ≡ Some x → P) → (w ≡ Some x → P) → P
+changed_from None w x e P f g = g e
+changed_from (Some v) None x e P f g = f e
+changed_from (Some v) (Some w) x e P f g =
+    elim (atom_eq v w) as (λ b. cond b None (Some w) ≡ Some x → P) [ true ↦ λ d. absurd cc | false ↦ g ] e
+
+IsExchange-exchange_of_maps : (a b : List Pair) → IsExchange (Map a) (Map b) (exchange_of (Map a) (Map b))
+IsExchange-exchange_of_maps a b k =
+    let p : Pair → Bool = is_exchanged a b in
+    let t : Option Atom = changed (value_at k a) (value_at k b) in
+    let decides : (q : Pair) → k ≡ q.key → p q ≡ option_eq atom_eq t (Some q.value) = λ q e. rw e refl in
+    value_at-in_order k (filter p (a ++ b))
+    ∙ elim t as (λ o. t ≡ o → value_at k (filter p (a ++ b)) ≡ o) [
+      | None ↦ λ e. none_stays k t p decides e (a ++ b)
+      | Some v ↦ λ e.
+          changed_from (value_at k a) (value_at k b) v e (value_at k (filter p (a ++ b)) ≡ Some v)
+          (λ f. first_stays k t p decides v e (a ++ b) (value_at-append k v a b f))
+          (λ f. later_stays k t p decides v e a b (first_stays k t p decides v e b f))
+    ] refl
+
+-- ---- the functions
+
+pub IsExchange-exchange_of : (old new : Datum) → IsAlike old new → IsOrdered old → IsOrdered new → IsExchange old new (exchange_of old new)
+IsExchange-exchange_of (Set a) (Set b) alike ha hb = IsExchange-exchange_of_sets a b
+IsExchange-exchange_of (Map a) (Map b) alike ha hb = IsExchange-exchange_of_maps a b
+IsExchange-exchange_of (Set a) (Map b) alike ha hb = absurd alike
+IsExchange-exchange_of (Map a) (Set b) alike ha hb = absurd alike
 
 pub IsOrdered-exchange_of : (old new : Datum) → IsOrdered old → IsOrdered new → IsOrdered (exchange_of old new)
-IsOrdered-exchange_of (Set a) (Set b) ha hb = IsAscending-exchange atom_cmp atom_total (λ (x : Atom). x) (λ _ _. true) a b ha hb
-IsOrdered-exchange_of (Map a) (Map b) ha hb = IsAscending-exchange atom_cmp atom_total (λ (p : Pair). p.key) same_value a b ha hb
+IsOrdered-exchange_of (Set a) (Set b) ha hb = Ascends-in_order atom_cmp atom_total (λ (x : Atom). x) (filter (λ x. in_one (contains x a) (contains x b)) (a ++ b))
+IsOrdered-exchange_of (Map a) (Map b) ha hb = Ascends-in_order atom_cmp atom_total (λ (p : Pair). p.key) (filter (is_exchanged a b) (a ++ b))
 IsOrdered-exchange_of (Set a) (Map b) ha hb = hb
 IsOrdered-exchange_of (Map a) (Set b) ha hb = hb
 
@@ -221,11 +335,16 @@ IsAlike-exchange_of (Map a) (Map b) alike = tt
 IsAlike-exchange_of (Set a) (Map b) alike = absurd alike
 IsAlike-exchange_of (Map a) (Set b) alike = absurd alike
 
-pub IsExchange-exchange_of : (old new : Datum) → IsAlike old new → IsOrdered old → IsOrdered new → IsExchange old new (exchange_of old new)
-IsExchange-exchange_of (Set a) (Set b) alike ha hb = IsExchange-sets a b ha hb
-IsExchange-exchange_of (Map a) (Map b) alike ha hb = IsExchange-maps a b ha hb
-IsExchange-exchange_of (Set a) (Map b) alike ha hb = absurd alike
-IsExchange-exchange_of (Map a) (Set b) alike ha hb = absurd alike
+-- the exchange of two data is the only one in order
+pub exchange_of_only : (old new d : Datum) → IsAlike old new → IsOrdered old → IsOrdered new → IsOrdered d → IsExchange old new d → d ≡ exchange_of old new
+exchange_of_only old new d alike ha hb o e =
+    one_exchange old new d (exchange_of old new) o (IsOrdered-exchange_of old new ha hb) e (IsExchange-exchange_of old new alike ha hb)
+
+-- what both have differs from old by what makes old the other
+pub exchange_of-twice : (old new : Datum) → IsAlike old new → IsOrdered old → IsOrdered new → exchange_of old (exchange_of old new) ≡ new
+exchange_of-twice old new alike ha hb =
+    let d : Datum = exchange_of old new in
+    sym (exchange_of_only old d new (IsAlike-exchange_of old new alike) ha (IsOrdered-exchange_of old new ha hb) hb (undone old new d (IsExchange-exchange_of old new alike ha hb)))
 
 -- the difference is a difference
 pub IsDifference-difference_of : (c : Column) (old new : Datum) → IsAlike old new → IsOrdered old → IsOrdered new → IsDifference c old new (difference_of c old new)
@@ -279,9 +398,12 @@ is_empty-is (Set (x ∷ xs)) e = absurd cc
 is_empty-is (Map []) e = refl
 is_empty-is (Map (p ∷ ps)) e = absurd cc
 
-exchange_of-none : (old : Datum) → exchange_of old (empty_like old) ≡ old
-exchange_of-none (Set xs) = ap Set (exchange-nil atom_cmp (λ _ _. true) xs)
-exchange_of-none (Map ps) = ap Map (exchange-nil key_cmp same_value ps)
+-- exchanged with nothing a datum stays
+exchange_of-none : (old : Datum) → IsOrdered old → exchange_of old (empty_like old) ≡ old
+exchange_of-none (Set xs) h =
+    sym (exchange_of_only (Set xs) (Set []) (Set xs) tt h tt h (λ x. elim (contains x xs) as (λ b. b ≡ in_one b false) [ true ↦ refl | false ↦ refl ]))
+exchange_of-none (Map ps) h =
+    sym (exchange_of_only (Map ps) (Map []) (Map ps) tt h tt h (λ k. elim (value_at k ps) as (λ v. v ≡ changed v None) [ None ↦ refl | Some v ↦ refl ]))
 
 empty_like-exchange_of : (old new : Datum) → IsAlike old new → empty_like (exchange_of old new) ≡ empty_like old
 empty_like-exchange_of (Set a) (Set b) alike = refl
@@ -311,12 +433,12 @@ pub is_empty-difference_of : (c : Column) (old new : Datum) → is_single c ≡ 
 is_empty-difference_of c old new single alike ha hb =
     let is : difference_of c old new ≡ exchange_of old new = rw single refl in
     let same : is_empty (exchange_of old new) ≡ true → old ≡ new = λ e.
-    sym (exchange_of-none old)
+    sym (exchange_of-none old ha)
     ∙ ap (exchange_of old) (sym (is_empty-is (exchange_of old new) e ∙ empty_like-exchange_of old new alike))
     ∙ exchange_of-twice old new alike ha hb in
     let none : old ≡ new → is_empty (exchange_of old new) ≡ true = λ e.
     ap (λ (d : Datum). is_empty (exchange_of old d)) (sym e)
-    ∙ ap (λ (d : Datum). is_empty (exchange_of old d)) (sym (exchange_of-none old))
+    ∙ ap (λ (d : Datum). is_empty (exchange_of old d)) (sym (exchange_of-none old ha))
     ∙ ap is_empty (exchange_of-twice old (empty_like old) (IsAlike-empty_like old) ha (IsOrdered-empty_like old))
     ∙ is_empty-empty_like old in
     ((λ e. same (sym (ap is_empty is) ∙ e)), (λ e. ap is_empty is ∙ none e))
@@ -336,12 +458,6 @@ IsAlike-data c old new p q = IsAlike-shaped c old new p.shape q.shape
 one_of : (a b : Bool) → in_one a b ≡ true → (P : Type 0) → (a ≡ true → P) → (b ≡ true → P) → P
 one_of true b e P f g = f refl
 one_of false b e P f g = g e
-
-changed_from : (v w : Option Atom) (x : Atom) → changed v w ≡ Some x → (P : Type 0) → (v ≡ Some x → P) → (w ≡ Some x → P) → P
-changed_from None w x e P f g = g e
-changed_from (Some v) None x e P f g = f e
-changed_from (Some v) (Some w) x e P f g =
-    elim (atom_eq v w) as (λ b. cond b None (Some w) ≡ Some x → P) [ true ↦ λ d. absurd cc | false ↦ g ] e
 
 HasKinds-exchange : (c : Column) (old new d : Datum) → IsExchange old new d → HasKinds c old → HasKinds c new → HasKinds c d
 HasKinds-exchange c (Set old) (Set new) (Set d) e h k = λ x is. one_of (contains x old) (contains x new) (sym (e x) ∙ is) (kind_of x ≡ c.key) (h x) (k x)

@@ -13,7 +13,7 @@ use Rattle.std.specs.declared.cmp.Ordering.{Ordering}
 use Rattle.std.specs.declared.cmp.Ordering.TheVariants.{Less, Equal, Greater}
 use Rattle.std.specs.Ordering.{match_ordering, is_eq, is_lt, ordering_reverse}
 use Rattle.ovs_types.specs.Ascending.{IsAscending, IsBefore, ascends, put_entry, in_order, distinct}
-use Rattle.ovs_types.proofs.Entries.{entry_at}
+use Rattle.ovs_types.specs.Exchange.{entry_at}
 use Rattle.ovs_types.proofs.Ascends.{IsBefore-trans, IsBefore-tied, entry_at-before, same_entries, flip_greater}
 
 left_true : (a b : Bool) → (a && b) ≡ true → a ≡ true

@@ -1,6 +1,5 @@
 pub mod Ids
 pub mod AtomOrder
-pub mod Entries
 pub mod Ascends
 pub mod Exchanges
 pub mod ReadEach

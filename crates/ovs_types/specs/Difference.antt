@@ -1,14 +1,17 @@
 -- Differences between two data of a column, as update notifications carry them.
-use Rattle.std.specs.Prelude.{◌≡◌, Bool, true, false, not, Option, Some, None, if◌then◌else◌, MatchBool}
+use Rattle.std.specs.Prelude.{◌≡◌, List, ◌++◌, Bool, true, false, not, Option, Some, None, if◌then◌else◌, MatchBool}
+use Rattle.std.specs.List.{filter}
+use Rattle.std.specs.Option.{option_eq}
 use Rattle.ovs_types.specs.declared.atom.Atom.{Atom}
 use Rattle.ovs_types.specs.declared.column.Column.{Column}
+use Rattle.ovs_types.specs.declared.pairs.Pair.{Pair}
 use Rattle.ovs_types.specs.declared.datum.Datum.{Datum}
 use Rattle.ovs_types.specs.declared.datum.Datum.TheVariants.{Set, Map}
 use Rattle.ovs_types.specs.Atom.{atom_cmp, atom_eq}
 use Rattle.ovs_types.specs.Column.{is_single}
 use Rattle.ovs_types.specs.Datum.{contains, value_at}
-use Rattle.ovs_types.specs.Exchange.{exchange}
-use Rattle.ovs_types.specs.Pairs.{key_cmp, same_value}
+use Rattle.ovs_types.specs.Ascending.{in_order}
+use Rattle.ovs_types.specs.Pairs.{key_cmp}
 
 -- in exactly one of the two
 abbrev pub in_one : Bool → Bool → Bool
@@ -37,9 +40,16 @@ IsDifference c old new d = MatchBool (is_single c) (d ≡ new) (IsExchange old n
 
 -- ---- the same as functions, for definitions that need a value
 
+-- whether the exchange of two maps has the pair at its key
+abbrev pub is_exchanged : List Pair → List Pair → Pair → Bool
+is_exchanged old new p = option_eq atom_eq (changed (value_at p.key old) (value_at p.key new)) (Some p.value)
+
+-- in order, of two sets the elements in exactly one of the two; of two maps the pairs whose key is in only one of them,
+-- and for a key in both with different values the key with the new value (a set and a map are never data of one column,
+-- so that their exchange is never asked for)
 abbrev pub exchange_of : Datum → Datum → Datum
-exchange_of (Set old) (Set new) = Set (exchange atom_cmp (λ _ _. true) old new)
-exchange_of (Map old) (Map new) = Map (exchange key_cmp same_value old new)
+exchange_of (Set old) (Set new) = Set (in_order atom_cmp (filter (λ x. in_one (contains x old) (contains x new)) (old ++ new)))
+exchange_of (Map old) (Map new) = Map (in_order key_cmp (filter (is_exchanged old new) (old ++ new)))
 exchange_of (Set old) (Map new) = Map new
 exchange_of (Map old) (Set new) = Set new
 

@@ -1,7 +1,7 @@
 //! Sets of atoms.
 
 ghost use Rattle.std.specs.Prelude.{◌≡◌, ◌∷◌, [], List, IfOk, true};
-ghost use Rattle.ovs_types.specs.Atom.{atom_cmp};
+ghost use Rattle.ovs_types.specs.Atom.{atom_cmp, atom_total};
 ghost use Rattle.ovs_types.specs.Ascending.{IsAscending};
 ghost use Rattle.ovs_types.specs.Datum.{IsOrdered, contains};
 ghost use Rattle.ovs_types.specs.Difference.{IsExchange, exchange_of};
@@ -30,6 +30,8 @@ impl Entry for Atom {
     fn entry_copy(&self) -> Result<Atom, NoMemory> {
         self.copy()
     }
+
+    ghost total = { atom_total };
 }
 
 // Whether the atom is one of these.

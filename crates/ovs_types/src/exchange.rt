@@ -2,7 +2,9 @@
 
 ghost use Rattle.std.specs.Prelude.{◌≡◌, IfOk, Bool};
 ghost use Rattle.std.specs.declared.cmp.Ordering.{Ordering};
-ghost use Rattle.ovs_types.specs.Exchange.{exchange};
+ghost use Rattle.std.specs.Cmp.{IsTotalOrder};
+ghost use Rattle.ovs_types.specs.Ascending.{IsAscending};
+ghost use Rattle.ovs_types.specs.Exchange.{AreExchanged};
 
 use crate::error::NoMemory;
 use std::alloc::Global;
@@ -24,11 +26,17 @@ pub(crate) trait Entry: Drop {
 
     fn entry_copy(&self) -> Result<Self, NoMemory>
         ensures { IfOk result (λ c. c ≡ self.now) };
+
+    /// The order is total.
+    ghost total: { IsTotalOrder order };
 }
 
-/// The entries of one list alone, and of the keys in both the second list's entry where the two differ.
+/// The entries of one list alone, and of the keys in both the second list's entry where the two differ, ascending.
 pub(crate) fn exchanged<E: Entry>(alloc: Global, old: &[E], other: &[E]) -> Result<Vec<E>, NoMemory>
-    ensures value { IfOk result (λ v. v.items ≡ exchange E.order E.is_same old.now other.now) }
+    requires old { IsAscending E.order (λ x. x) old.now }
+    requires other { IsAscending E.order (λ x. x) other.now }
+    ensures ascending { IfOk result (λ v. IsAscending E.order (λ x. x) v.items) }
+    ensures exchange { IfOk result (λ v. AreExchanged E.order E.is_same old.now other.now v.items) }
 {
     let mut out = Vec::new(alloc);
     let mut left = old;

@@ -3,7 +3,7 @@
 ghost use Rattle.std.specs.Prelude.{◌≡◌, ◌∷◌, [], List, IfOk, true};
 ghost use Rattle.std.specs.Option.{option_copied};
 ghost use Rattle.ovs_types.specs.Atom.{atom_cmp};
-ghost use Rattle.ovs_types.specs.Pairs.{key_cmp, same_value};
+ghost use Rattle.ovs_types.specs.Pairs.{key_cmp, key_total, same_value};
 ghost use Rattle.ovs_types.specs.Ascending.{IsAscending};
 ghost use Rattle.ovs_types.specs.Datum.{IsOrdered, value_at};
 ghost use Rattle.ovs_types.specs.Difference.{IsExchange, exchange_of};
@@ -51,6 +51,8 @@ impl Entry for Pair {
     fn entry_copy(&self) -> Result<Pair, NoMemory> {
         self.copy()
     }
+
+    ghost total = { key_total };
 }
 
 // The value of the first pair of a key.

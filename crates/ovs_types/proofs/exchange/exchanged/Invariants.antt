@@ -1,5 +1,5 @@
 use Rattle.std.proofs.Common.{◌≡◌, ◌+◌, ◌++◌, length, drop}
-use Rattle.ovs_types.specs.Exchange.{exchange}
+use Rattle.ovs_types.proofs.Exchanges.{exchange}
 use Rattle.ovs_types.proofs.exchange.exchanged.Given as goal
 
 -- what was put out, and what is still to come, are the whole
