@@ -14,10 +14,6 @@ is_single c = is_one c.most
 abbrev pub is_map : Column → Bool
 is_map c = is_some c.value
 
--- whether each of its data is exactly one atom
-abbrev pub is_scalar : Column → Bool
-is_scalar c = not (is_map c) && not c.may_be_empty && is_single c
-
 -- whether a datum may have this many elements or pairs; only a single column's are counted
 abbrev pub may_count : Column → ℕ → Bool
 may_count c n = not (is_single c) || (n == 1 || (c.may_be_empty && n == 0))

@@ -34,18 +34,6 @@ impl Entry for Atom {
     ghost total = { atom_total };
 }
 
-// Whether the atom is one of these.
-fn has_atom(items: &[Atom], atom: &Atom) -> bool
-    ensures value { result ≡ contains atom.now items.now }
-{
-    for item in items {
-        if atom.compare(item) == Ordering::Equal {
-            return true;
-        }
-    }
-    false
-}
-
 /// Atoms in ascending order, each once.
 #[derive(Debug, Drop)]
 pub struct Atoms {
@@ -84,6 +72,9 @@ impl Atoms {
     }
 
     /// The set of one atom.
+    ///
+    /// # Errors
+    /// `NoMemory` alone.
     pub fn one(alloc: Global, atom: Atom) -> Result<Atoms, NoMemory>
         ensures one { IfOk result (λ a. a ≡ atom ∷ []) }
     {
@@ -104,10 +95,13 @@ impl Atoms {
     pub fn contains(&self, atom: &Atom) -> bool
         ensures value { result ≡ contains atom.now self.now }
     {
-        has_atom(&self.items, atom)
+        self.items.iter().any(|item| atom == item)
     }
 
     /// An equal set.
+    ///
+    /// # Errors
+    /// `NoMemory` alone.
     pub fn copy(&self) -> Result<Atoms, NoMemory>
         ensures equal { IfOk result (λ a. a ≡ self.now) }
         ensures ordered { IsOrdered (Set self.now) }

@@ -1,7 +1,7 @@
 //! What a column of a table may hold (RFC 7047 section 3.2).
 
 ghost use Rattle.std.specs.Prelude.{◌≡◌, IfOk};
-ghost use Rattle.ovs_types.specs.Column.{is_single, is_map, is_scalar, may_count, loose, keys_column};
+ghost use Rattle.ovs_types.specs.Column.{is_single, is_map, may_count, loose, keys_column};
 ghost use Rattle.ovs_types.specs.Datum.{default_datum, empty_of, one_default, IsDatumOf};
 
 use crate::atom::{Atom, AtomKind};
@@ -39,13 +39,6 @@ impl Column {
         self.value.is_some()
     }
 
-    /// Whether each datum is exactly one atom.
-    pub fn is_scalar(&self) -> bool
-        ensures scalar { result ≡ is_scalar self.now }
-    {
-        !self.is_map() && !self.may_be_empty && self.is_single()
-    }
-
     /// Whether a datum may have this many elements or pairs. Only those of a single column are
     /// counted: one, or none where that may be.
     pub fn may_count(&self, count: usize) -> bool
@@ -80,6 +73,9 @@ impl Column {
 
     /// The datum of a row that was given none: no element where that may be, else one element or
     /// pair of 0, false, the empty text or the id of zeros.
+    ///
+    /// # Errors
+    /// `NoMemory` alone.
     pub fn default_datum(&self, alloc: Global) -> Result<Datum, NoMemory>
         ensures value { IfOk result (λ d. d ≡ default_datum self.now) }
         ensures kept { IfOk result (IsDatumOf self.now) }

@@ -19,8 +19,11 @@ use serde_json::Value;
 use std::alloc::Global;
 
 impl Atom {
-    /// The atom of a kind that a value stands for. `NotInteger` for a number that isn't an integer
-    /// of 64 bits where an integer is wanted, `WrongKind` for any other value that isn't of the kind.
+    /// The atom of a kind that a value stands for.
+    ///
+    /// # Errors
+    /// `NotInteger` for a number that isn't an integer of 64 bits where an integer is wanted,
+    /// `WrongKind` for any other value that isn't of the kind; or `NoMemory`.
     pub fn read(alloc: Global, value: &Value, kind: AtomKind) -> Result<Atom, DatumError>
         // What is read is spelled so.
         ensures found { IfOk result (SpellsAtom kind (view value.now)) }
@@ -35,9 +38,11 @@ impl Atom {
 
 impl Datum {
     /// The datum of a column that a value stands for: one atom or `["set", [..]]`, and for a column
-    /// of maps `["map", [[key, value]..]]`. `WrongShape` for the wrong one of these; then the first
-    /// `WrongKind` or `NotInteger` from left to right; then `Duplicate`; then `WrongCount`, for a
-    /// column of one element alone.
+    /// of maps `["map", [[key, value]..]]`.
+    ///
+    /// # Errors
+    /// `WrongShape` for the wrong one of these; then the first `WrongKind` or `NotInteger` from left
+    /// to right; then `Duplicate`; then `WrongCount`, for a column of one element alone; or `NoMemory`.
     pub fn read(alloc: Global, value: &Value, column: &Column) -> Result<Datum, DatumError>
         // What is read is spelled so.
         ensures found { IfOk result (Spells column.now (view value.now)) }
@@ -54,28 +59,21 @@ impl Datum {
 fn read_row_id(value: &Value) -> Option<RowId>
     ensures value { result ≡ read_uuid (view value.now) }
 {
-    match RowId::read(under("uuid", value)?.as_str()?) {
-        Ok(id) => Some(id),
-        Err(_) => None,
-    }
+    RowId::read(under("uuid", value)?.as_str()?).ok()
 }
 
 fn read_atom(alloc: Global, kind: AtomKind, value: &Value) -> Result<Atom, DatumError>
     ensures exact { Gives (λ a. a) result (read_atom kind (view value.now)) }
 {
     match (kind, value) {
-        (AtomKind::Integer, Value::Number(number)) => match number.as_i64() {
-            Some(integer) => Ok(Atom::Integer(integer)),
-            None => Err(DatumError::NotInteger),
-        },
+        (AtomKind::Integer, Value::Number(number)) => Ok(Atom::Integer(
+            number.as_i64().ok_or(DatumError::NotInteger)?,
+        )),
         (AtomKind::Boolean, Value::Bool(truth)) => Ok(Atom::Boolean(*truth)),
         (AtomKind::String, Value::String(text)) => {
             Ok(Atom::String(Text::new(alloc, text.as_str())?))
         }
-        (AtomKind::Uuid, _) => match read_row_id(value) {
-            Some(id) => Ok(Atom::Uuid(id)),
-            None => Err(DatumError::WrongKind),
-        },
+        (AtomKind::Uuid, _) => Ok(Atom::Uuid(read_row_id(value).ok_or(DatumError::WrongKind)?)),
         _ => Err(DatumError::WrongKind),
     }
 }
@@ -104,10 +102,8 @@ fn read_elements(alloc: Global, kind: AtomKind, value: &Value) -> Result<Vec<Ato
     ensures exact { Gives (λ v. v.items) result (read_elements kind (view value.now)) }
 {
     if begins_with("set", value) {
-        match list_under("set", value) {
-            Some(items) => read_atoms(alloc, kind, items),
-            None => Err(DatumError::WrongShape),
-        }
+        let items = list_under("set", value).ok_or(DatumError::WrongShape)?;
+        read_atoms(alloc, kind, items)
     } else if begins_with("map", value) {
         Err(DatumError::WrongShape)
     } else {
@@ -118,15 +114,11 @@ fn read_elements(alloc: Global, kind: AtomKind, value: &Value) -> Result<Vec<Ato
 fn read_set(alloc: Global, value: &Value, column: &Column) -> Result<Datum, DatumError>
     ensures exact { Gives (λ d. d) result (read_set column.now (view value.now)) }
 {
-    match set_of(read_elements(alloc, column.key, value)?) {
-        Some(set) => {
-            if column.may_count(set.as_slice().len()) {
-                Ok(Datum::Set(set))
-            } else {
-                Err(DatumError::WrongCount)
-            }
-        }
-        None => Err(DatumError::Duplicate),
+    let set = set_of(read_elements(alloc, column.key, value)?).ok_or(DatumError::Duplicate)?;
+    if column.may_count(set.as_slice().len()) {
+        Ok(Datum::Set(set))
+    } else {
+        Err(DatumError::WrongCount)
     }
 }
 
@@ -138,14 +130,10 @@ fn read_pair(
 ) -> Result<Pair, DatumError>
     ensures exact { Gives (λ p. p) result (read_pair key kind (view value.now)) }
 {
-    match two_items(value) {
-        Some((first, second)) => {
-            let key = read_atom(alloc, key, first)?;
-            let value = read_atom(alloc, kind, second)?;
-            Ok(Pair { key, value })
-        }
-        None => Err(DatumError::WrongShape),
-    }
+    let (first, second) = two_items(value).ok_or(DatumError::WrongShape)?;
+    let key = read_atom(alloc, key, first)?;
+    let value = read_atom(alloc, kind, second)?;
+    Ok(Pair { key, value })
 }
 
 fn read_each_pair(
@@ -172,10 +160,8 @@ fn read_pairs(
 ) -> Result<Vec<Pair>, DatumError>
     ensures exact { Gives (λ v. v.items) result (read_pairs key kind (view value.now)) }
 {
-    match map_items(value) {
-        Some(items) => read_each_pair(alloc, key, kind, items),
-        None => Err(DatumError::WrongShape),
-    }
+    let items = map_items(value).ok_or(DatumError::WrongShape)?;
+    read_each_pair(alloc, key, kind, items)
 }
 
 fn read_map(
@@ -186,15 +172,11 @@ fn read_map(
 ) -> Result<Datum, DatumError>
     ensures exact { Gives (λ d. d) result (read_map column.now kind (view value.now)) }
 {
-    match map_of(read_pairs(alloc, column.key, kind, value)?) {
-        Some(map) => {
-            if column.may_count(map.as_slice().len()) {
-                Ok(Datum::Map(map))
-            } else {
-                Err(DatumError::WrongCount)
-            }
-        }
-        None => Err(DatumError::Duplicate),
+    let map = map_of(read_pairs(alloc, column.key, kind, value)?).ok_or(DatumError::Duplicate)?;
+    if column.may_count(map.as_slice().len()) {
+        Ok(Datum::Map(map))
+    } else {
+        Err(DatumError::WrongCount)
     }
 }
 
@@ -208,6 +190,9 @@ fn read_datum(alloc: Global, value: &Value, column: &Column) -> Result<Datum, Da
 }
 
 /// Reading what a datum is written as gives the datum.
+///
+/// # Errors
+/// `NoMemory` alone.
 pub fn written_and_read(alloc: Global, datum: &Datum, column: &Column) -> Result<Datum, DatumError>
     requires datum { IsDatumOf column.now datum.now }
     ensures back { Gives (λ d. d) result (Ok datum.now) }

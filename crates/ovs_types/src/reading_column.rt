@@ -31,10 +31,7 @@ fn kind_named(name: &str) -> Result<AtomKind, SchemaError>
 fn read_kind(value: &Value) -> Result<AtomKind, SchemaError>
     ensures exact { result ≡ read_kind (view value.now) }
 {
-    match value.as_str() {
-        Some(name) => kind_named(name),
-        None => Err(SchemaError::BadShape),
-    }
+    kind_named(value.as_str().ok_or(SchemaError::BadShape)?)
 }
 
 // A `<base-type>`: an `<atomic-type>`, or an object with it as its "type".
@@ -43,52 +40,33 @@ fn read_base(value: &Value) -> Result<AtomKind, SchemaError>
 {
     match value.as_str() {
         Some(name) => kind_named(name),
-        None => match value.get("type") {
-            Some(inner) => read_kind(inner),
-            None => Err(SchemaError::BadShape),
-        },
+        None => read_kind(value.get("type").ok_or(SchemaError::BadShape)?),
     }
 }
 
 fn read_key(value: Option<&Value>) -> Result<AtomKind, SchemaError>
     ensures exact { result ≡ read_key (option_map (λ v. view v.now) value.entry) }
 {
-    match value {
-        Some(value) => read_base(value),
-        None => Err(SchemaError::BadShape),
-    }
+    read_base(value.ok_or(SchemaError::BadShape)?)
 }
 
 fn read_value(value: Option<&Value>) -> Result<Option<AtomKind>, SchemaError>
     ensures exact { result ≡ read_value (option_map (λ v. view v.now) value.entry) }
 {
-    match value {
-        Some(value) => match read_base(value) {
-            Ok(kind) => Ok(Some(kind)),
-            Err(fault) => Err(fault),
-        },
-        None => Ok(None),
-    }
+    value.map(read_base).transpose()
 }
 
 // Whether "min" lets a column be empty.
 fn read_least(value: Option<&Value>) -> Result<bool, SchemaError>
     ensures exact { result ≡ read_least (option_map (λ v. view v.now) value.entry) }
 {
-    match value {
-        Some(value) => match value.as_u64() {
-            Some(least) => {
-                if least == 0 {
-                    Ok(true)
-                } else if least == 1 {
-                    Ok(false)
-                } else {
-                    Err(SchemaError::BadBounds)
-                }
-            }
-            None => Err(SchemaError::BadBounds),
-        },
-        None => Ok(false),
+    let Some(value) = value else {
+        return Ok(false);
+    };
+    match value.as_u64() {
+        Some(0) => Ok(true),
+        Some(1) => Ok(false),
+        _ => Err(SchemaError::BadBounds),
     }
 }
 
@@ -113,14 +91,8 @@ fn read_most(value: Option<&Value>) -> Result<Option<u64>, SchemaError>
         return limit_named(name);
     }
     match value.as_u64() {
-        Some(most) => {
-            if most == 0 {
-                Err(SchemaError::BadBounds)
-            } else {
-                Ok(Some(most))
-            }
-        }
-        None => Err(SchemaError::BadBounds),
+        None | Some(0) => Err(SchemaError::BadBounds),
+        most => Ok(most),
     }
 }
 
@@ -140,15 +112,13 @@ fn read_bounds(value: &Value) -> Result<(bool, Option<u64>), SchemaError>
 fn read_object(value: &Value) -> Result<Column, SchemaError>
     ensures exact { result ≡ read_object (view value.now) }
 {
-    match both(read_kinds(value), read_bounds(value)) {
-        Ok(((key, value), (may_be_empty, most))) => Ok(Column {
-            key,
-            value,
-            may_be_empty,
-            most,
-        }),
-        Err(fault) => Err(fault),
-    }
+    let ((key, value), (may_be_empty, most)) = both(read_kinds(value), read_bounds(value))?;
+    Ok(Column {
+        key,
+        value,
+        may_be_empty,
+        most,
+    })
 }
 
 // A `<type>`.
@@ -156,15 +126,12 @@ fn read_type(value: &Value) -> Result<Column, SchemaError>
     ensures exact { result ≡ read_type (view value.now) }
 {
     match value.as_str() {
-        Some(name) => match kind_named(name) {
-            Ok(key) => Ok(Column {
-                key,
-                value: None,
-                may_be_empty: false,
-                most: Some(1),
-            }),
-            Err(fault) => Err(fault),
-        },
+        Some(name) => Ok(Column {
+            key: kind_named(name)?,
+            value: None,
+            may_be_empty: false,
+            most: Some(1),
+        }),
         None => read_object(value),
     }
 }
@@ -173,8 +140,5 @@ fn read_type(value: &Value) -> Result<Column, SchemaError>
 pub(crate) fn read_column(value: &Value) -> Result<Column, SchemaError>
     ensures exact { result ≡ read_column (view value.now) }
 {
-    match value.get("type") {
-        Some(inner) => read_type(inner),
-        None => Err(SchemaError::BadShape),
-    }
+    read_type(value.get("type").ok_or(SchemaError::BadShape)?)
 }

@@ -74,12 +74,7 @@ fn is_pair(value: &Value) -> bool
 fn are_pairs(items: &[Value]) -> bool
     ensures value { result ≡ are_pairs (items_view items.now) }
 {
-    for item in items {
-        if !is_pair(item) {
-            return false;
-        }
-    }
-    true
+    items.iter().all(is_pair)
 }
 
 /// The list of pairs of `["map", [[key, value]..]]`.
