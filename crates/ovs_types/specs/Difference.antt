@@ -1,5 +1,5 @@
 -- Differences between two data of a column, as update notifications carry them.
-use Rattle.std.specs.Prelude.{◌≡◌, List, ◌++◌, Bool, true, false, not, Option, Some, None, if◌then◌else◌, MatchBool}
+use Rattle.std.specs.Prelude.{◌≡◌, ◌↔◌, List, ◌++◌, Bool, true, false, not, Option, Some, None, if◌then◌else◌, MatchBool}
 use Rattle.std.specs.List.{filter}
 use Rattle.std.specs.Option.{option_eq}
 use Rattle.ovs_types.specs.declared.atom.Atom.{Atom}
@@ -9,7 +9,7 @@ use Rattle.ovs_types.specs.declared.datum.Datum.{Datum}
 use Rattle.ovs_types.specs.declared.datum.Datum.TheVariants.{Set, Map}
 use Rattle.ovs_types.specs.Atom.{atom_cmp, atom_eq}
 use Rattle.ovs_types.specs.Column.{is_single}
-use Rattle.ovs_types.specs.Datum.{contains, value_at}
+use Rattle.ovs_types.specs.Datum.{contains, value_at, is_empty, IsAlike, IsOrdered}
 use Rattle.ovs_types.specs.Ascending.{in_order}
 use Rattle.ovs_types.specs.Pairs.{key_cmp}
 
@@ -60,3 +60,7 @@ difference_of c old new = if is_single c then new else exchange_of old new
 -- the datum to which diff is the difference from old
 abbrev pub changed_by : Column → Datum → Datum → Datum
 changed_by c old diff = if is_single c then diff else exchange_of old diff
+
+-- of a column of any number of elements the difference of two data is empty exactly where they are equal
+abbrev pub EmptyExactlyWhereNothingChanged : Type 0
+EmptyExactlyWhereNothingChanged = (c : Column) (old new : Datum) → is_single c ≡ false → IsAlike old new → IsOrdered old → IsOrdered new → (is_empty (difference_of c old new) ≡ true) ↔ (old ≡ new)

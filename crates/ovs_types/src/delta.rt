@@ -2,7 +2,7 @@
 
 ghost use Rattle.std.specs.Prelude.{◌≡◌, IfOk};
 ghost use Rattle.ovs_types.specs.Datum.{IsAlike, IsDatumOf, IsOrdered};
-ghost use Rattle.ovs_types.specs.Difference.{IsDifference, IsExchange, exchange_of, difference_of, changed_by};
+ghost use Rattle.ovs_types.specs.Difference.{IsDifference, IsExchange, exchange_of, difference_of, changed_by, EmptyExactlyWhereNothingChanged};
 
 use crate::column::Column;
 use crate::datum::Datum;
@@ -24,9 +24,13 @@ impl Datum {
     }
 }
 
-/// The difference from `old` to `new`: for a single column the whole of `new`; for other sets the
-/// elements in exactly one of the two; for other maps the pairs whose key is in only one of them,
-/// and for keys in both with different values the key with the new value.
+/// The difference from `old` to `new`, which must both be sets or both be maps: for a single column
+/// the whole of `new`; for other sets the elements in exactly one of the two; for other maps the
+/// pairs whose key is in only one of them, and for keys in both with different values the key with
+/// the new value.
+///
+/// # Errors
+/// `NoMemory` alone.
 pub fn difference(old: &Datum, new: &Datum, column: &Column) -> Result<Datum, NoMemory>
     requires alike { IsAlike old.now new.now }
     ensures difference { IfOk result (IsDifference column.now old.now new.now) }
@@ -41,7 +45,10 @@ pub fn difference(old: &Datum, new: &Datum, column: &Column) -> Result<Datum, No
     }
 }
 
-/// The datum to which `diff` is the difference from `old`.
+/// The datum to which `diff` is the difference from `old`. The two must both be sets or both be maps.
+///
+/// # Errors
+/// `NoMemory` alone.
 pub fn apply_difference(old: &Datum, diff: &Datum, column: &Column) -> Result<Datum, NoMemory>
     requires alike { IsAlike old.now diff.now }
     ensures applied { IfOk result (λ new. IsDifference column.now old.now new diff.now) }
@@ -59,7 +66,11 @@ pub fn apply_difference(old: &Datum, diff: &Datum, column: &Column) -> Result<Da
     }
 }
 
-/// Applying the difference from one datum to another gives the other.
+/// Applying the difference from one datum to another gives the other. The two must both be sets or
+/// both be maps.
+///
+/// # Errors
+/// `NoMemory` alone.
 pub fn there_and_back(old: &Datum, new: &Datum, column: &Column) -> Result<Datum, NoMemory>
     requires alike { IsAlike old.now new.now }
     ensures back { IfOk result (λ d. d ≡ new.now) }
@@ -69,3 +80,9 @@ pub fn there_and_back(old: &Datum, new: &Datum, column: &Column) -> Result<Datum
     let given = new.copy()?;
     apply_difference(old, &difference(old, &given, column)?, column)
 }
+
+/// Of a column that isn't single, the difference of two data that are both sets or both maps is
+/// empty exactly where the two are equal.
+pub fn empty_exactly_where_nothing_changed()
+    ensures law { EmptyExactlyWhereNothingChanged }
+{}

@@ -28,7 +28,9 @@ pub use atom::{Atom, AtomKind};
 pub use atoms::Atoms;
 pub use column::Column;
 pub use datum::Datum;
-pub use delta::{apply_difference, difference, there_and_back};
+pub use delta::{
+    apply_difference, difference, empty_exactly_where_nothing_changed, there_and_back,
+};
 pub use error::{BadId, DatumError, NoMemory};
 pub use names::{is_id, is_name};
 pub use pairs::{Pair, Pairs};

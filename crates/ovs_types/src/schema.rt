@@ -15,7 +15,9 @@ use std::marker::Model;
 /// A column and its name.
 #[derive(Drop)]
 pub struct NamedColumn {
+    /// Its name; in `NamedColumns` an `<id>` that isn't reserved.
     pub name: Text,
+    /// What the column holds.
     pub column: Column,
 }
 
@@ -78,7 +80,9 @@ impl NamedColumns {
 /// A table's name and its columns.
 #[derive(Drop)]
 pub struct Table {
+    /// Its name; in `Tables` an `<id>` that isn't reserved.
     pub name: Text,
+    /// Its columns, without `_uuid` and `_version`.
     pub columns: NamedColumns,
 }
 
@@ -141,7 +145,9 @@ impl Tables {
 /// What a schema says: the database's name and its tables.
 #[derive(Drop)]
 pub struct Description {
+    /// The database's name.
     pub name: Text,
+    /// The tables.
     pub tables: Tables,
 }
 
@@ -197,6 +203,8 @@ impl Schema {
         ensures all { option_map (λ c. c.now) result ≡ columns_of self.now.description table.now }
         ensures ascending { IfSome result (λ c. IsAscendingBy (λ x. x.name) c.now) }
         ensures names { IfSome result (λ c. AreNames (λ x. x.name) c.now) }
+        // No table has a reserved name.
+        ensures reserved { is_name table.now ≡ false → result ≡ None }
     {
         let (_, found) = self.table(table)?;
         Some(found.columns.as_slice())
