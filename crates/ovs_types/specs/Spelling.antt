@@ -26,7 +26,7 @@ SpellsValue d (Uuid id) = (text : List ℕ) × (d ≡ two (string (codes "uuid")
 abbrev pub SpellsBoth : Data → Pair → Type 0
 SpellsBoth d p = (k : Data) × (v : Data) × (d ≡ two k v) × SpellsValue k p.key × SpellsValue v p.value
 
--- the same of one kind
+-- an atom of this kind
 abbrev pub SpellsAtom : AtomKind → Data → Atom → Type 0
 SpellsAtom kind d x = (kind_of x ≡ kind) × SpellsValue d x
 

@@ -16,9 +16,13 @@ use std::cmp::Ordering;
 /// The type of an atom.
 #[derive(Clone, Copy, Debug, PartialEq, Eq)]
 pub enum AtomKind {
+    /// Integers of 64 bits.
     Integer,
+    /// Truth values.
     Boolean,
+    /// Texts.
     String,
+    /// Ids of rows.
     Uuid,
 }
 
@@ -26,9 +30,13 @@ pub enum AtomKind {
 /// true, texts by their bytes, ids by their number.
 #[derive(Debug, Drop)]
 pub enum Atom {
+    /// An integer of 64 bits.
     Integer(i64),
+    /// A truth value.
     Boolean(bool),
+    /// A text.
     String(Text),
+    /// The id of a row.
     Uuid(RowId),
 }
 
@@ -46,6 +54,9 @@ impl Atom {
     }
 
     /// An equal atom.
+    ///
+    /// # Errors
+    /// `NoMemory` alone.
     pub fn copy(&self) -> Result<Atom, NoMemory>
         ensures equal { IfOk result (λ a. a ≡ self.now) }
     {

@@ -15,7 +15,9 @@ use crate::pairs::{Pair, Pairs};
 /// A set of atoms, or a map from atoms to atoms. A column of one value holds a set of one.
 #[derive(Debug, Drop)]
 pub enum Datum {
+    /// The elements.
     Set(Atoms),
+    /// The keys and their values.
     Map(Pairs),
 }
 
@@ -106,6 +108,9 @@ impl Datum {
     }
 
     /// An equal datum.
+    ///
+    /// # Errors
+    /// `NoMemory` alone.
     pub fn copy(&self) -> Result<Datum, NoMemory>
         ensures equal { IfOk result (λ d. d ≡ self.now) }
         ensures ordered { IsOrdered self.now }

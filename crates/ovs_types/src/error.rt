@@ -26,8 +26,8 @@ impl<T: Drop> From<AllocFailed<T>> for NoMemory {
 #[error("not a UUID of 36 characters")]
 pub struct BadId;
 
-/// Why a JSON value is no datum of a column. The variants stand in the order in which they are
-/// looked for; `WrongKind` and `NotInteger` are found together, from left to right.
+/// Why a JSON value is no datum of a column. The faults stand in the order in which they are looked
+/// for; `WrongKind` and `NotInteger` are found together, from left to right.
 #[derive(Clone, Copy, Debug, PartialEq, Eq, Error)]
 pub enum DatumError {
     /// A list that begins with "set" or "map" and isn't the form of the column's sets or maps, or
@@ -46,7 +46,7 @@ pub enum DatumError {
     /// More or fewer elements than a column of one element admits.
     #[error("too few or too many elements")]
     WrongCount,
-    /// Memory ran out.
+    /// Memory ran out, at any time: whether the value has a fault is not said.
     #[error("out of memory")]
     NoMemory,
 }

@@ -19,12 +19,17 @@ use std::marker::Model;
 /// A key and its value, in the order of keys and then of values.
 #[derive(Debug, Drop, PartialEq, Eq, PartialOrd, Ord)]
 pub struct Pair {
+    /// What the map has a value at.
     pub key: Atom,
+    /// The value there.
     pub value: Atom,
 }
 
 impl Pair {
     /// An equal pair.
+    ///
+    /// # Errors
+    /// `NoMemory` alone.
     pub fn copy(&self) -> Result<Pair, NoMemory>
         ensures equal { IfOk result (λ p. p ≡ self.now) }
     {
@@ -105,6 +110,9 @@ impl Pairs {
     }
 
     /// The map of one pair.
+    ///
+    /// # Errors
+    /// `NoMemory` alone.
     pub fn one(alloc: Global, pair: Pair) -> Result<Pairs, NoMemory>
         ensures one { IfOk result (λ a. a ≡ pair ∷ []) }
     {
@@ -129,6 +137,9 @@ impl Pairs {
     }
 
     /// An equal map.
+    ///
+    /// # Errors
+    /// `NoMemory` alone.
     pub fn copy(&self) -> Result<Pairs, NoMemory>
         ensures equal { IfOk result (λ a. a ≡ self.now) }
         ensures ordered { IsOrdered (Map self.now) }

@@ -45,8 +45,10 @@ impl RowId {
         self.value
     }
 
-    /// Reads 36 characters with hexadecimal digits in either case (RFC 7047 section 5.1). `BadId`
-    /// for every other text.
+    /// Reads 36 characters with hexadecimal digits in either case (RFC 7047 section 5.1).
+    ///
+    /// # Errors
+    /// `BadId` for every other text.
     pub fn read(text: &str) -> Result<RowId, BadId>
         ensures value { result_ok result ≡ read_id text.now }
     {
@@ -62,6 +64,9 @@ impl RowId {
     }
 
     /// The 36 characters as a string.
+    ///
+    /// # Errors
+    /// `NoMemory` alone.
     pub fn to_text(&self, alloc: Global) -> Result<String, NoMemory>
         ensures text { IfOk result (λ t. string_bytes t ≡ id_text self.now) }
         ensures again { IfOk result (λ t. read_id (string_bytes t) ≡ Some self.now) }

@@ -12,7 +12,8 @@ use thiserror::Error;
 /// stand in the value, the answer is the one that is first in this order.
 #[derive(Clone, Copy, Debug, PartialEq, Eq, Error)]
 pub enum SchemaError {
-    /// A part that has to be there is absent, or a part is not of the JSON type or not the word that it has to be.
+    /// A part that has to be there is absent, or a part other than "min" and "max" is not of the JSON
+    /// type or not the word that it has to be.
     #[error("not of a schema's shape")]
     BadShape,
     /// The name of the database is no `<id>`, or that of a table or a column is none or begins with `_`.
@@ -22,7 +23,7 @@ pub enum SchemaError {
     #[error("a column of reals")]
     Real,
     /// A "min" other than 0 and 1, or a "max" other than "unlimited" and the integers from 1 to
-    /// 2^64 - 1.
+    /// 2^64 - 1, of whatever JSON type.
     #[error("bounds that are not offered")]
     BadBounds,
     /// Memory ran out; nothing is said of the value.

@@ -70,6 +70,26 @@ fn fault(alloc: Global, column: &Column, text: &str) -> Result<Option<DatumError
     Ok(Datum::read(alloc, &value, column).err())
 }
 
+fn atom(alloc: Global, kind: AtomKind, text: &str) -> Result<Atom, Fail> {
+    let value = Value::from_str(alloc, text)?;
+    Ok(Atom::read(alloc, &value, kind)?)
+}
+
+#[test]
+fn atoms_of_the_kinds(rt: HostRuntime) -> Result<(), Fail> {
+    let alloc = rt.alloc();
+    assert!(rt; atom(alloc, AtomKind::Integer, "-7")? == Atom::Integer(-7));
+    assert!(rt; atom(alloc, AtomKind::Boolean, "true")? == Atom::Boolean(true));
+    let name = Atom::String(Text::new(alloc, "p1")?);
+    assert!(rt; atom(alloc, AtomKind::String, "\"p1\"")? == name);
+    let id = "[\"uuid\",\"00000000-0000-0000-0000-00000000000A\"]";
+    assert!(rt; atom(alloc, AtomKind::Uuid, id)? == Atom::Uuid(RowId::from_value(10)));
+    let text = Value::from_str(alloc, "\"7\"")?;
+    let refused = Atom::read(alloc, &text, AtomKind::Integer).err();
+    assert_eq!(rt; refused, Some(DatumError::WrongKind));
+    Ok(())
+}
+
 #[test]
 fn a_written_datum_reads_back(rt: HostRuntime) -> Result<(), Fail> {
     let alloc = rt.alloc();

@@ -19,6 +19,9 @@ use std::alloc::Global;
 
 impl Atom {
     /// The value that it is written as: a number, a boolean, a text or `["uuid", text]`.
+    ///
+    /// # Errors
+    /// `NoMemory` alone.
     pub fn to_json(&self, alloc: Global) -> Result<Value, NoMemory>
         ensures value { IfOk result (λ v. view v ≡ atom_json self.now) }
         // It stands for this atom.
@@ -32,6 +35,9 @@ impl Atom {
 impl Datum {
     /// The value that it is written as: exactly one element of a set as itself, every other set as
     /// `["set", [..]]`, a map as `["map", [[key, value]..]]`; elements and keys ascend.
+    ///
+    /// # Errors
+    /// `NoMemory` alone.
     pub fn to_json(&self, alloc: Global) -> Result<Value, NoMemory>
         ensures value { IfOk result (λ v. view v ≡ datum_json self.now) }
         // It stands for this datum in each column of which it is a datum.
