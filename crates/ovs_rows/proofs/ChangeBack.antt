@@ -4,6 +4,7 @@ use Rattle.std.specs.Prelude.{fold, option_map, IfOk, slice_get, ◌==◌, is_so
 use Rattle.std.specs.List.{AllByRecursion, enumerate_from, filter_map, cons_option}
 use Rattle.std.specs.List.Sorted.{IsStrictlySortedBy}
 use Rattle.std.specs.FinMap.{get, insert, empty, entries, is_sorted, get-empty, get-entries, entries_sorted, contains_key, same_map}
+use Rattle.std.specs.FinSet as set
 use Rattle.std.proofs.lemmas.Bool.{cases_order, eqb-true, eq-eqb, ne_eqb}
 use Rattle.std.proofs.lemmas.Bool.Decides.{nat_tests}
 use Rattle.serde_json.specs.Data.{Data, object, no_members}
@@ -37,7 +38,7 @@ use Rattle.ovs_rows.proofs.Writings.{filter_kept}
 -- ---- the rows of a table are read
 
 abbrev only_actions : Actions → NamedRows
-only_actions m = record { actions = m; untouched = empty }
+only_actions m = record { actions = m; untouched = set.empty }
 
 -- what reading needs to know of a row
 record IsReadable (number : ℕ) (columns : List NamedColumn) (e : Entry) : Type 0 where
@@ -48,10 +49,10 @@ record IsReadable (number : ℕ) (columns : List NamedColumn) (e : Entry) : Type
   stays : is_idle e.1 ≡ false
 
 not_named : (m : Actions) (p : Place) → get m p ≡ None → is_named (only_actions m) p ≡ false
-not_named m p none = ap (λ (o : Option Action). is_some o || contains_key (empty {X = Action} {R = place_cmp}) p) none ∙ ap is_some (get-empty place_cmp p)
+not_named m p none = ap (λ (o : Option Action). is_some o || set.contains (set.empty {R = place_cmp}) p) none ∙ set.contains-empty place_cmp p
 
 with_one : (m : Actions) (p : Place) (a : Action) → is_idle a ≡ false → only_actions (insert m p a) ≡ with_row (only_actions m) p a
-with_one m p a stays = sym (ap (λ b. cond b (record { actions = m; untouched = insert empty p a }) (record { actions = insert m p a; untouched = empty })) stays)
+with_one m p a stays = sym (ap (λ b. cond b (record { actions = m; untouched = set.insert set.empty p }) (record { actions = insert m p a; untouched = set.empty })) stays)
 
 module _ (number : ℕ) (columns : List NamedColumn) where
   ids_before : (id : ℕ) (es : List Entry) → id < 2 ^ 128 → IsLeast id es → AllByRecursion (IsReadable number columns) es → IsFirst (id_text id) (map (update_member columns) es)

@@ -2,6 +2,7 @@
 use Rattle.std.proofs.Common.{◌≡◌, ℕ, zero, suc, List, [], ◌∷◌, ◌++◌, map, Bool, true, false, true≢false, cond, ◌||◌, Option, Some, None, refl, sym, ap, subst, ◌∙◌, ◌⊎◌, inl, inr, arith}
 use Rattle.std.specs.Prelude.{Decides, is_some, ◌↔◌}
 use Rattle.std.specs.FinMap.{get, insert, get-empty, get-insert, same_map}
+use Rattle.std.specs.FinSet as set
 use Rattle.std.specs.List.{AllByRecursion, Contains, flat_map, IsDistinct}
 use Rattle.std.specs.Ordering.{eq_by_cmp}
 use Rattle.std.specs.Cmp.{eq_by_cmp_equiv}
@@ -128,18 +129,18 @@ same_decides p q = (same_place p q, λ same. ap (is_same p) (sym same) ∙ itsel
 
 named_by : (rows : NamedRows) (q : Place) (b : Action) (p : Place) (idle : Bool) → is_idle b ≡ idle → is_named (with_row rows q b) p ≡ (is_same p q || is_named rows p)
 named_by rows q b p true idle =
-    ap (λ t. is_named (cond t (record { actions = rows.actions; untouched = insert rows.untouched q b }) (record { actions = insert rows.actions q b; untouched = rows.untouched })) p) idle
-    ∙ ap (λ (o : Option Action). is_some (get rows.actions p) || is_some o) (get-insert place_total rows.untouched q b p)
-    ∙ untouched_by (is_some (get rows.actions p)) (get rows.untouched p) (is_same p q)
+    ap (λ t. is_named (cond t (record { actions = rows.actions; untouched = set.insert rows.untouched q }) (record { actions = insert rows.actions q b; untouched = rows.untouched })) p) idle
+    ∙ ap (λ y. is_some (get rows.actions p) || y) (set.contains-insert place_total rows.untouched q p)
+    ∙ untouched_by (is_some (get rows.actions p)) (set.contains rows.untouched p) (is_same p q)
   where
-    untouched_by : (x : Bool) (o : Option Action) (here : Bool) → (x || is_some (cond here (Some b) o)) ≡ (here || (x || is_some o))
-    untouched_by true o true = refl
-    untouched_by false o true = refl
-    untouched_by x o false = refl
+    untouched_by : (x y here : Bool) → (x || (here || y)) ≡ (here || (x || y))
+    untouched_by true y true = refl
+    untouched_by false y true = refl
+    untouched_by x y false = refl
 named_by rows q b p false idle =
-    ap (λ t. is_named (cond t (record { actions = rows.actions; untouched = insert rows.untouched q b }) (record { actions = insert rows.actions q b; untouched = rows.untouched })) p) idle
-    ∙ ap (λ (o : Option Action). is_some o || is_some (get rows.untouched p)) (get-insert place_total rows.actions q b p)
-    ∙ actions_by (get rows.actions p) (is_some (get rows.untouched p)) (is_same p q)
+    ap (λ t. is_named (cond t (record { actions = rows.actions; untouched = set.insert rows.untouched q }) (record { actions = insert rows.actions q b; untouched = rows.untouched })) p) idle
+    ∙ ap (λ (o : Option Action). is_some o || set.contains rows.untouched p) (get-insert place_total rows.actions q b p)
+    ∙ actions_by (get rows.actions p) (set.contains rows.untouched p) (is_same p q)
   where
     actions_by : (o : Option Action) (y : Bool) (here : Bool) → (is_some (cond here (Some b) o) || y) ≡ (here || (is_some o || y))
     actions_by o y true = refl
@@ -191,7 +192,10 @@ new_from rows (u ∷ us) distinct all = (all.0, new_from (with_row rows u.0 u.1)
 
 all_unnamed : (us : List Update) → AreUnnamed no_rows_named us
 all_unnamed [] = tt
-all_unnamed (u ∷ us) = (ap (λ (o : Option Action). is_some o || is_some o) (get-empty place_cmp u.0), all_unnamed us)
+all_unnamed (u ∷ us) = (
+  ap (λ (o : Option Action). is_some o || set.contains (set.empty {R = place_cmp}) u.0) (get-empty place_cmp u.0) ∙ set.contains-empty place_cmp u.0,
+  all_unnamed us,
+)
 
 -- ---- the actions that the updates leave
 

@@ -3,7 +3,8 @@ use Rattle.std.proofs.Common.{◌≡◌, Bool, true, false, true≢false, cond, 
 use Rattle.std.specs.Prelude.{is_some, ◌||◌}
 use Rattle.std.specs.Ordering.{eq_by_cmp, is_eq}
 use Rattle.std.specs.Cmp.{Equal-is, tied_itself}
-use Rattle.std.specs.FinMap.{get, insert, get-insert, contains_key}
+use Rattle.std.specs.FinMap.{get, insert, get-insert}
+use Rattle.std.specs.FinSet as set
 use Rattle.ovs_rows.specs.declared.change.Action.{Action}
 use Rattle.ovs_rows.specs.declared.place.Place.{Place}
 use Rattle.ovs_rows.specs.declared.reading.NamedRows.{NamedRows}
@@ -48,7 +49,7 @@ action_there rows q b idle =
     ∙ get-insert place_total rows.actions q b q ∙ ap (λ t. cond t (Some b) (get rows.actions q)) (itself q)
 
 named_if : (rows : NamedRows) (p : Place) (a : Action) → get rows.actions p ≡ Some a → is_named rows p ≡ true
-named_if rows p a e = ap (λ (o : Option Action). is_some o || contains_key rows.untouched p) e
+named_if rows p a e = ap (λ (o : Option Action). is_some o || set.contains rows.untouched p) e
 
 other_place : (m : Actions) (q : Place) (b : Action) (p : Place) (a : Action) (t : Bool) → eq_by_cmp place_cmp p q ≡ t → (p ≡ q → ⊥) → get m p ≡ Some a → cond t (Some b) (get m p) ≡ Some a
 other_place m q b p a true at apart e = absurd (apart (same_place p q at))

@@ -1,6 +1,7 @@
 -- The changes that JSON values stand for, with the first fault of those that stand for none.
 use Rattle.std.specs.Prelude.{ℕ, List, Bool, ◌||◌, Option, Some, None, Ok, Err, if◌then◌else◌, codes}
 use Rattle.std.specs.FinMap.{empty, contains_key, insert}
+use Rattle.std.specs.FinSet as set
 use Rattle.std.specs.Option.{ok_or}
 use Rattle.serde_json.specs.Data.{Data, Members}
 use Rattle.serde_json.specs.Find as json
@@ -50,16 +51,16 @@ read_action columns d =
 -- ---- the rows that are named
 
 abbrev pub no_rows_named : NamedRows
-no_rows_named = record { actions = empty; untouched = empty }
+no_rows_named = record { actions = empty; untouched = set.empty }
 
 -- whether a row was named, also where nothing becomes of it
 abbrev pub is_named : NamedRows → Place → Bool
-is_named rows p = contains_key rows.actions p || contains_key rows.untouched p
+is_named rows p = contains_key rows.actions p || set.contains rows.untouched p
 
 abbrev pub with_row : NamedRows → Place → Action → NamedRows
 with_row rows p a =
     if is_idle a
-    then record { actions = rows.actions; untouched = insert rows.untouched p a }
+    then record { actions = rows.actions; untouched = set.insert rows.untouched p }
     else record { actions = insert rows.actions p a; untouched = rows.untouched }
 
 -- a row is named once, and that is looked at before its update

@@ -26,11 +26,7 @@ fn read_datum(alloc: Global, value: &Value, column: &Column) -> Result<Datum, Ch
     match Datum::read(alloc, value, column) {
         Ok(datum) => Ok(datum),
         Err(DatumError::NoMemory) => Err(ChangeError::NoMemory),
-        Err(DatumError::WrongShape) => Err(ChangeError::Datum(DatumError::WrongShape)),
-        Err(DatumError::WrongKind) => Err(ChangeError::Datum(DatumError::WrongKind)),
-        Err(DatumError::NotInteger) => Err(ChangeError::Datum(DatumError::NotInteger)),
-        Err(DatumError::Duplicate) => Err(ChangeError::Datum(DatumError::Duplicate)),
-        Err(DatumError::WrongCount) => Err(ChangeError::Datum(DatumError::WrongCount)),
+        Err(fault) => Err(ChangeError::Datum(fault)),
     }
 }
 
@@ -64,14 +60,12 @@ fn read_cell(
     ensures exact { Gives (λ v. v.items) result (read_cell purpose columns.now cells.items name.now (view value.now)) }
     ensures length { IfOk result (λ v. length v.items ≡ length columns.now) }
 {
-    match column_named(columns, name) {
-        Some((number, column)) => {
-            let datum = read_datum(alloc, value, &column)?;
-            cells[number] = kept(purpose, &column, datum);
-            Ok(cells)
-        }
-        None => Err(ChangeError::NoColumn),
-    }
+    let Some((number, column)) = column_named(columns, name) else {
+        return Err(ChangeError::NoColumn);
+    };
+    let datum = read_datum(alloc, value, &column)?;
+    cells[number] = kept(purpose, &column, datum);
+    Ok(cells)
 }
 
 fn no_cells(alloc: Global, columns: &[NamedColumn]) -> Result<Vec<Option<Datum>>, NoMemory>

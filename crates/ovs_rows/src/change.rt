@@ -1,7 +1,7 @@
 //! Changes: what becomes of rows, each named at most once.
 
 ghost use Rattle.std.specs.Prelude.{◌≡◌, ◌↔◌, IfOk, IsTrue};
-ghost use Rattle.std.specs.FinMap.{empty, insert, get, entries};
+ghost use Rattle.std.specs.FinMap.{empty, insert, get, contains_key, entries};
 ghost use Rattle.std.specs.Option.{option_copied};
 
 use crate::place::Place;
@@ -130,6 +130,13 @@ impl Actions {
         ensures value { option_copied result ≡ get self.now place }
     {
         self.actions.get(&place)
+    }
+
+    /// Whether an action stands at a place.
+    pub(crate) fn has(&self, place: &Place) -> bool
+        ensures value { result ≡ contains_key self.now place.now }
+    {
+        self.get(*place).is_some()
     }
 
     // In the order of their places.

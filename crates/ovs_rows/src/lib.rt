@@ -10,6 +10,7 @@ mod database;
 mod differing;
 mod error;
 mod place;
+mod places;
 mod placing;
 mod reading;
 mod row;

@@ -1,7 +1,6 @@
 //! Changes out of JSON.
 
 ghost use Rattle.std.specs.Prelude.{◌≡◌, IfOk, Ok, is_none};
-ghost use Rattle.std.specs.FinMap.{contains_key};
 ghost use Rattle.std.specs.List.{list_all};
 ghost use Rattle.serde_json.specs.View.{view, members_view};
 ghost use Rattle.ovs_types.specs.Members.{read_each};
@@ -15,6 +14,7 @@ use crate::cells::{Purpose, data_of, read_cells};
 use crate::change::{Action, Actions, Change, Edits};
 use crate::error::ChangeError;
 use crate::place::Place;
+use crate::places::Places;
 use crate::row::Columns;
 use ovs_types::{Datum, NamedColumn, NoMemory, RowId, Schema, Table, table_named};
 use serde_json::{Map, Value};
@@ -23,25 +23,21 @@ use std::alloc::Global;
 fn read_insert(alloc: Global, columns: &[NamedColumn], value: &Value) -> Result<Action, ChangeError>
     ensures exact { Gives (λ a. a) result (read_insert columns.now (view value.now)) }
 {
-    match value.as_object() {
-        Some(row) => {
-            let cells = read_cells(alloc, Purpose::Whole, columns, row)?;
-            Ok(Action::Insert(Columns::new(data_of(alloc, columns, cells)?)))
-        }
-        None => Err(ChangeError::BadKind),
-    }
+    let Some(row) = value.as_object() else {
+        return Err(ChangeError::BadKind);
+    };
+    let cells = read_cells(alloc, Purpose::Whole, columns, row)?;
+    Ok(Action::Insert(Columns::new(data_of(alloc, columns, cells)?)))
 }
 
 fn read_modify(alloc: Global, columns: &[NamedColumn], value: &Value) -> Result<Action, ChangeError>
     ensures exact { Gives (λ a. a) result (read_modify columns.now (view value.now)) }
 {
-    match value.as_object() {
-        Some(row) => {
-            let cells = read_cells(alloc, Purpose::Differences, columns, row)?;
-            Ok(Action::Modify(Edits::new(cells)))
-        }
-        None => Err(ChangeError::BadKind),
-    }
+    let Some(row) = value.as_object() else {
+        return Err(ChangeError::BadKind);
+    };
+    let cells = read_cells(alloc, Purpose::Differences, columns, row)?;
+    Ok(Action::Modify(Edits::new(cells)))
 }
 
 // What a row update makes of its row. It has exactly one of the four members.
@@ -79,12 +75,6 @@ fn is_idle(action: &Action) -> bool
     }
 }
 
-fn has_action(actions: &Actions, place: &Place) -> bool
-    ensures value { result ≡ contains_key actions.now place.now }
-{
-    actions.get(*place).is_some()
-}
-
 /// The rows that a change has named so far.
 #[derive(Drop)]
 pub(crate) struct NamedRows {
@@ -92,7 +82,7 @@ pub(crate) struct NamedRows {
     pub(crate) actions: Actions,
     /// Those that were named by a modification of no column. Nothing becomes of them, and none may
     /// be named again.
-    pub(crate) untouched: Actions,
+    pub(crate) untouched: Places,
 }
 
 impl NamedRows {
@@ -101,14 +91,14 @@ impl NamedRows {
     {
         NamedRows {
             actions: Actions::new(alloc),
-            untouched: Actions::new(alloc),
+            untouched: Places::new(alloc),
         }
     }
 
-    fn has(&self, place: Place) -> bool
-        ensures value { result ≡ is_named self.now place }
+    fn has(&self, place: &Place) -> bool
+        ensures value { result ≡ is_named self.now place.now }
     {
-        has_action(&self.actions, &place) || has_action(&self.untouched, &place)
+        self.actions.has(place) || self.untouched.contains(place)
     }
 
     fn with(self, place: Place, action: Action) -> Result<NamedRows, NoMemory>
@@ -118,7 +108,7 @@ impl NamedRows {
         if is_idle(&action) {
             Ok(NamedRows {
                 actions,
-                untouched: untouched.with(place, action)?,
+                untouched: untouched.with(place)?,
             })
         } else {
             Ok(NamedRows {
@@ -140,18 +130,15 @@ fn read_row(
 ) -> Result<NamedRows, ChangeError>
     ensures exact { Gives (λ r. r) result (read_row table columns.now rows name.now (view value.now)) }
 {
-    match RowId::read(name) {
-        Ok(id) => {
-            let place = Place { table, id };
-            if rows.has(place) {
-                Err(ChangeError::BadRowId)
-            } else {
-                let action = read_action(alloc, columns, value)?;
-                Ok(rows.with(place, action)?)
-            }
-        }
-        Err(_) => Err(ChangeError::BadRowId),
+    let Ok(id) = RowId::read(name) else {
+        return Err(ChangeError::BadRowId);
+    };
+    let place = Place { table, id };
+    if rows.has(&place) {
+        return Err(ChangeError::BadRowId);
     }
+    let action = read_action(alloc, columns, value)?;
+    Ok(rows.with(place, action)?)
 }
 
 fn read_rows(
@@ -178,13 +165,13 @@ fn read_table(
 ) -> Result<NamedRows, ChangeError>
     ensures exact { Gives (λ r. r) result (read_table tables.now rows name.now (view value.now)) }
 {
-    match table_named(tables, name) {
-        Some((number, table)) => match value.as_object() {
-            Some(members) => read_rows(alloc, number, table.columns.as_slice(), rows, members),
-            None => Err(ChangeError::BadKind),
-        },
-        None => Err(ChangeError::NoTable),
-    }
+    let Some((number, table)) = table_named(tables, name) else {
+        return Err(ChangeError::NoTable);
+    };
+    let Some(members) = value.as_object() else {
+        return Err(ChangeError::BadKind);
+    };
+    read_rows(alloc, number, table.columns.as_slice(), rows, members)
 }
 
 fn read_tables(
@@ -204,13 +191,11 @@ fn read_tables(
 fn change_of(alloc: Global, value: &Value, tables: &[Table]) -> Result<Change, ChangeError>
     ensures exact { Gives (λ c. c) result (read_change tables.now (view value.now)) }
 {
-    match value.as_object() {
-        Some(members) => {
-            let rows = read_tables(alloc, tables, members)?;
-            Ok(Change::new(alloc, rows.actions)?)
-        }
-        None => Err(ChangeError::BadKind),
-    }
+    let Some(members) = value.as_object() else {
+        return Err(ChangeError::BadKind);
+    };
+    let rows = read_tables(alloc, tables, members)?;
+    Ok(Change::new(alloc, rows.actions)?)
 }
 
 impl Change {
@@ -251,8 +236,8 @@ impl Change {
 }
 
 /// A change is one value for all its spellings: two JSON values that are read, and say the same of each row, are read as
-/// equal changes. In this sense `["set",[1,2]]` and `["set",[2,1]]`, a column at its default and none, upper and lower
-/// case in a row's id, and "initial" and "insert" say the same.
+/// equal changes. In this sense `["set",[1,2]]` and `["set",[2,1]]`, upper and lower case in a row's id, "initial" and
+/// "insert", and in an inserted row a column at its default and none say the same.
 pub fn one_change_for_all_spellings()
     ensures law { OneValueForAllSpellings }
 {}
