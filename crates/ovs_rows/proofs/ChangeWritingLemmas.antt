@@ -1,5 +1,5 @@
 -- Changes written member by member.
-use Rattle.std.proofs.Common.{◌≡◌, ℕ, ◌<◌, ◌≤◌, ◌+◌, List, [], ◌∷◌, map, drop, length, get_or, Bool, true, false, ◌==◌, Option, Some, None, refl, sym, ap, subst, ◌∙◌, arith}
+use Rattle.std.proofs.Common.{◌≡◌, ℕ, ◌<◌, ◌≤◌, ◌+◌, List, [], ◌∷◌, map, drop, length, get_or, Bool, true, false, ◌==◌, Option, Some, None, refl, sym, ap, subst, ◌∙◌, ◌⊎◌, arith}
 use Rattle.std.specs.Prelude.{fold, IfSome, option_map, String, string_bytes, IfOk, Result, Ok, Err, ◌^◌}
 use Rattle.std.specs.declared.alloc.Global.{Global}
 use Rattle.std.specs.List.{zip, enumerate_from, filter_map, cons_option, AllByRecursion}
@@ -28,7 +28,7 @@ use Rattle.ovs_rows.specs.Place.{place_total, place_exact}
 use Rattle.ovs_rows.specs.Writing.{with_member, object_of}
 use Rattle.ovs_rows.proofs.Maps.{All-entries}
 use Rattle.ovs_rows.proofs.PlacingSteps.{drop-at}
-use Rattle.ovs_rows.proofs.Writings.{filter_kept, none, put_no_float, fold_no_float}
+use Rattle.ovs_rows.proofs.Writings.{zip_empty, filter_kept, none, put_no_float, fold_no_float}
 
 -- one more member, if there is one
 one_more : (ms : Members) (o : Option (List ℕ × Data)) (ns : List (List ℕ × Data)) → fold with_member ms (cons_option o ns) ≡ fold with_member (with_some ms o) ns
@@ -37,23 +37,12 @@ one_more ms (Some m) ns = refl
 
 -- ---- the columns of a row
 
-module _ {X : Type 0} (cell : NamedColumn → X → Option Datum) (cs : List NamedColumn) (xs : List X) (i : ℕ) where
-  pub cells_next : (c : NamedColumn) (x : X) (ms next all : Members) → i < length cs → i < length xs → c ≡ get_or cs i c → x ≡ get_or xs i x → next ≡ with_some ms (cell_member c (cell c x))
-      → fold with_member ms (cell_members cell (drop i cs) (drop i xs)) ≡ all → fold with_member next (cell_members cell (drop (i + 1) cs) (drop (i + 1) xs)) ≡ all
-  cells_next c x ms next all lt within is_c is_x step whole =
-      ap (λ (ns : Members). fold with_member ns (cell_members cell (drop (i + 1) cs) (drop (i + 1) xs))) step
-      ∙ sym (one_more ms (cell_member c (cell c x)) (cell_members cell (drop (i + 1) cs) (drop (i + 1) xs)))
-      ∙ rw (drop-at cs i c lt is_c, drop-at xs i x within is_x) at whole
+module _ {X : Type 0} (cell : NamedColumn → X → Option Datum) (cs : List NamedColumn) (xs : List X) where
+  pub cells_end : (ms all : Members) → (cs ≡ []) ⊎ (xs ≡ []) → fold with_member ms (cell_members cell cs xs) ≡ all → ms ≡ all
+  cells_end ms all done whole = rw (zip_empty cs xs done) at whole
 
-  pub cells_end : (ms all : Members) → length cs ≤ i → fold with_member ms (cell_members cell (drop i cs) (drop i xs)) ≡ all → ms ≡ all
-  cells_end ms all done whole = rw (drop_of_length-le cs done) at whole
-
-  pub spelled_next : (c : NamedColumn) (x : X) → i < length cs → i < length xs → c ≡ get_or cs i c → x ≡ get_or xs i x → IfSome (cell c x) IsSpelled
-      → (AreSpelled cell (drop i cs) (drop i xs) → AreSpelled cell cs xs) → AreSpelled cell (drop (i + 1) cs) (drop (i + 1) xs) → AreSpelled cell cs xs
-  spelled_next c x lt within is_c is_x one all rest = all (rw (drop-at cs i c lt is_c, drop-at xs i x within is_x) (one, rest))
-
-  pub spelled_end : length cs ≤ i → (AreSpelled cell (drop i cs) (drop i xs) → AreSpelled cell cs xs) → AreSpelled cell cs xs
-  spelled_end done all = all (rw (drop_of_length-le cs done) tt)
+  pub spelled_end : (cs ≡ []) ⊎ (xs ≡ []) → AreSpelled cell cs xs
+  spelled_end done = rw (zip_empty cs xs done) tt
 
 -- ---- the rows of a table
 

@@ -1,57 +1,47 @@
--- The data of a row, edited one after the other.
-use Rattle.std.proofs.Common.{◌≡◌, ℕ, zero, suc, ◌<◌, ◌+◌, List, [], ◌∷◌, ◌++◌, drop, length, get_or, Option, refl, sym, ap, ◌∙◌, append_assoc, arith}
-use Rattle.std.specs.Prelude.{IfSome}
-use Rattle.std.specs.List.{AllZip}
+-- The data of a row, edited one after the other: nothing is left where one of the three lists is at its end.
+use Rattle.std.proofs.Common.{◌≡◌, List, [], ◌∷◌, ◌++◌, Option, None, refl, sym, ap, ◌∙◌, ◌⊎◌, inl, inr}
+use Rattle.std.specs.declared.iter.Zip.{Zip}
+use Rattle.std.specs.Iterator.Adapters.{zip_first, zip_second}
+use Rattle.std.specs.Slice.Iter.{iter_rest}
+use Rattle.std.proofs.Common.{Iter}
+use Rattle.std.proofs.iter.Yields.{fronts}
+use Rattle.std.proofs.lemmas.Iterator.{zips}
+use Rattle.std.proofs.lemmas.List.{append-nil, nil_from_length}
+use Rattle.std.proofs.lemmas.Slice.Zip.{either_empty_from_Zip}
 use Rattle.ovs_types.specs.declared.datum.Datum.{Datum}
 use Rattle.ovs_types.specs.declared.schema.NamedColumn.{NamedColumn}
-use Rattle.ovs_types.specs.Datum.{IsDatumOf}
-use Rattle.ovs_rows.specs.Row.{AreDataOf}
-use Rattle.ovs_rows.specs.Change.{AreEditsOf}
-use Rattle.ovs_rows.specs.After.{edited_datum, edited}
-use Rattle.ovs_rows.specs.DatabaseDifference.{edit_between, edits_between}
-use Rattle.ovs_rows.proofs.Data.{datum_of_edit}
-use Rattle.ovs_rows.proofs.PlacingSteps.{drop-at}
+use Rattle.ovs_rows.specs.After.{edited}
+use Rattle.ovs_rows.specs.DatabaseDifference.{edits_between}
 
-zip_at : {A B : Type 0} (R : A → B → Type 0) (xs : List A) (ys : List B) (i : ℕ) (x : A) (y : B) → AllZip R xs ys → i < length xs → R (get_or xs i x) (get_or ys i y)
-zip_at R [] ys i x y h lt = absurd (omega arith)
-zip_at R (a ∷ xs) [] i x y h lt = absurd h
-zip_at R (a ∷ xs) (b ∷ ys) zero x y h lt = h.0
-zip_at R (a ∷ xs) (b ∷ ys) (suc i) x y h lt = zip_at R xs ys i x y h.1 (omega arith)
+-- one of three lists is empty
+abbrev pub IsAnyEmpty : {X Y Z : Type 0} → List X → List Y → List Z → Type 0
+IsAnyEmpty xs ys zs = ((xs ≡ []) ⊎ (ys ≡ [])) ⊎ (zs ≡ [])
 
-pub zip_length : {A B : Type 0} (R : A → B → Type 0) (xs : List A) (ys : List B) → AllZip R xs ys → length ys ≡ length xs
-zip_length R [] [] h = refl
-zip_length R [] (y ∷ ys) h = absurd h
-zip_length R (x ∷ xs) [] h = absurd h
-zip_length R (x ∷ xs) (y ∷ ys) h = ap suc (zip_length R xs ys h.1)
+module _ {A B C : Type 0} where
+  -- a loop over three slices ends where one of them does
+  pub any_empty : (s t : Zip (Zip (Iter A) (Iter B)) (Iter C)) → zips (zips fronts fronts) fronts s None t
+      → IsAnyEmpty (iter_rest (zip_first (zip_first s))) (iter_rest (zip_second (zip_first s))) (iter_rest (zip_second s))
+  any_empty s t (inl two) = inl (either_empty_from_Zip (zip_first s) two.0 None refl two.1)
+  any_empty s t (inr one) = inr (nil_from_length _ one.1.0)
 
--- ---- a datum of a row
+none_edited : (cs : List NamedColumn) (es : List (Option Datum)) (xs : List Datum) → IsAnyEmpty cs es xs → edited cs es xs ≡ []
+none_edited [] es xs done = refl
+none_edited (c ∷ cs) [] xs done = refl
+none_edited (c ∷ cs) (e ∷ es) [] done = refl
+none_edited (c ∷ cs) (e ∷ es) (x ∷ xs) (inl (inl is)) = absurd cc
+none_edited (c ∷ cs) (e ∷ es) (x ∷ xs) (inl (inr is)) = absurd cc
+none_edited (c ∷ cs) (e ∷ es) (x ∷ xs) (inr is) = absurd cc
 
-module _ (cs : List NamedColumn) (xs : List Datum) (k : AreDataOf cs xs) (i : ℕ) (lt : i < length cs) where
-  pub datum_within : i < length xs
-  datum_within = let long : length xs ≡ length cs = zip_length _ cs xs k in omega arith
+pub edited_end : (cs : List NamedColumn) (es : List (Option Datum)) (xs out all : List Datum) → IsAnyEmpty cs es xs → out ++ edited cs es xs ≡ all → out ≡ all
+edited_end cs es xs out all done whole = sym (append-nil out) ∙ ap (λ ys. out ++ ys) (sym (none_edited cs es xs done)) ∙ whole
 
-  pub datum_at : (c : NamedColumn) (x : Datum) → x ≡ get_or xs i x → IsDatumOf (get_or cs i c).column x
-  datum_at c x is = let at : IsDatumOf (get_or cs i c).column (get_or xs i x) = zip_at _ cs xs i c x k lt in rw is at
+none_between : (cs : List NamedColumn) (xs ys : List Datum) → IsAnyEmpty cs xs ys → edits_between cs xs ys ≡ []
+none_between [] xs ys done = refl
+none_between (c ∷ cs) [] ys done = refl
+none_between (c ∷ cs) (x ∷ xs) [] done = refl
+none_between (c ∷ cs) (x ∷ xs) (y ∷ ys) (inl (inl is)) = absurd cc
+none_between (c ∷ cs) (x ∷ xs) (y ∷ ys) (inl (inr is)) = absurd cc
+none_between (c ∷ cs) (x ∷ xs) (y ∷ ys) (inr is) = absurd cc
 
--- ---- edits carried out
-
-module _ (cs : List NamedColumn) (es : List (Option Datum)) (xs : List Datum) (h : AreEditsOf cs es) (k : AreDataOf cs xs) (i : ℕ) (lt : i < length cs) where
-  pub edit_within : i < length es
-  edit_within = let long : length es ≡ length cs = zip_length _ cs es h in omega arith
-
-  pub edit_at : (c : NamedColumn) (e : Option Datum) → e ≡ get_or es i e → IfSome e (IsDatumOf (get_or cs i c).column)
-  edit_at c e is = let at : IfSome (get_or es i e) (IsDatumOf (get_or cs i c).column) = datum_of_edit (get_or cs i c).column (get_or es i e) (zip_at _ cs es i c e h lt) in rw is at
-
-  pub edited_next : (c : NamedColumn) (e : Option Datum) (x y : Datum) (out all : List Datum) → c ≡ get_or cs i c → e ≡ get_or es i e → x ≡ get_or xs i x → y ≡ edited_datum (get_or cs i c).column e x
-      → out ++ edited (drop i cs) (drop i es) (drop i xs) ≡ all → (out ++ y ∷ []) ++ edited (drop (i + 1) cs) (drop (i + 1) es) (drop (i + 1) xs) ≡ all
-  edited_next c e x y out all is_c is_e is_x is_y whole =
-      rw (append_assoc, is_y ∙ ap (λ (d : NamedColumn). edited_datum d.column e x) (sym is_c)) (rw (drop-at cs i c lt is_c, drop-at es i e edit_within is_e, drop-at xs i x (datum_within cs xs k i lt) is_x) at whole)
-
--- ---- edits found
-
-module _ (cs : List NamedColumn) (xs ys : List Datum) (h : AreDataOf cs xs) (k : AreDataOf cs ys) (i : ℕ) (lt : i < length cs) where
-  pub edits_next : (c : NamedColumn) (x y : Datum) (e : Option Datum) (out all : List (Option Datum)) → c ≡ get_or cs i c → x ≡ get_or xs i x → y ≡ get_or ys i y → e ≡ edit_between (get_or cs i c).column x y
-      → out ++ edits_between (drop i cs) (drop i xs) (drop i ys) ≡ all → (out ++ e ∷ []) ++ edits_between (drop (i + 1) cs) (drop (i + 1) xs) (drop (i + 1) ys) ≡ all
-  edits_next c x y e out all is_c is_x is_y is_e whole =
-      rw (append_assoc, is_e ∙ ap (λ (d : NamedColumn). edit_between d.column x y) (sym is_c))
-      (rw (drop-at cs i c lt is_c, drop-at xs i x (datum_within cs xs h i lt) is_x, drop-at ys i y (datum_within cs ys k i lt) is_y) at whole)
+pub between_end : (cs : List NamedColumn) (xs ys : List Datum) (out all : List (Option Datum)) → IsAnyEmpty cs xs ys → out ++ edits_between cs xs ys ≡ all → out ≡ all
+between_end cs xs ys out all done whole = sym (append-nil out) ∙ ap (λ es. out ++ es) (sym (none_between cs xs ys done)) ∙ whole

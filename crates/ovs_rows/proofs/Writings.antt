@@ -1,5 +1,5 @@
 -- Databases written member by member.
-use Rattle.std.proofs.Common.{◌≡◌, ℕ, ◌<◌, ◌≤◌, ◌+◌, List, [], ◌∷◌, map, drop, length, get_or, Bool, true, false, cond, ◌&&◌, ◌||◌, true≢false, Some, refl, sym, ap, subst, ◌∙◌, arith}
+use Rattle.std.proofs.Common.{◌≡◌, ℕ, ◌<◌, ◌≤◌, ◌+◌, List, [], ◌∷◌, map, drop, length, get_or, Bool, true, false, cond, ◌&&◌, ◌||◌, true≢false, Some, refl, sym, ap, subst, ◌∙◌, ◌⊎◌, inl, inr, arith}
 use Rattle.std.specs.Prelude.{fold, filter, not, ◌==◌}
 use Rattle.std.specs.List.{zip, enumerate_from, AllByRecursion}
 use Rattle.std.specs.declared.cmp.Ordering.{Ordering}
@@ -32,14 +32,13 @@ use Rattle.ovs_rows.proofs.PlacingSteps.{drop-at}
 
 -- ---- the columns of a row
 
-module _ (cs : List NamedColumn) (xs : List Datum) (i : ℕ) where
-  pub columns_next : (c : NamedColumn) (x : Datum) (ms next all : Members) → i < length cs → i < length xs → c ≡ get_or cs i c → x ≡ get_or xs i x
-      → next ≡ put c.name (datum_json x) ms → fold with_member ms (map column_member (zip (drop i cs) (drop i xs))) ≡ all → fold with_member next (map column_member (zip (drop (i + 1) cs) (drop (i + 1) xs))) ≡ all
-  columns_next c x ms next all lt within is_c is_x step whole =
-      ap (λ ns. fold with_member ns (map column_member (zip (drop (i + 1) cs) (drop (i + 1) xs)))) step ∙ rw (drop-at cs i c lt is_c, drop-at xs i x within is_x) at whole
+pub zip_empty : {X Y : Type 0} (xs : List X) (ys : List Y) → (xs ≡ []) ⊎ (ys ≡ []) → zip xs ys ≡ []
+zip_empty xs ys (inl none) = rw none refl
+zip_empty [] ys (inr none) = refl
+zip_empty (x ∷ xs) ys (inr none) = rw none refl
 
-  pub columns_end : (ms all : Members) → length cs ≤ i → fold with_member ms (map column_member (zip (drop i cs) (drop i xs))) ≡ all → ms ≡ all
-  columns_end ms all done whole = rw (drop_of_length-le cs done) at whole
+pub columns_end : (cs : List NamedColumn) (xs : List Datum) (ms all : Members) → (cs ≡ []) ⊎ (xs ≡ []) → fold with_member ms (map column_member (zip cs xs)) ≡ all → ms ≡ all
+columns_end cs xs ms all done whole = rw (zip_empty cs xs done) at whole
 
 -- ---- the rows of a table
 

@@ -55,8 +55,8 @@ fn edited(
     ensures value { IfOk result (λ c. c ≡ edited columns.now edits.now old.now) }
 {
     let mut items = Vec::with_capacity(alloc, columns.len())?;
-    for number in 0..columns.len() {
-        items.push(edited_datum(&columns[number].column, &edits[number], &old[number])?)?;
+    for ((named, edit), old) in columns.iter().zip(edits).zip(old) {
+        items.push(edited_datum(&named.column, edit, old)?)?;
     }
     Ok(Columns::new(items))
 }

@@ -61,8 +61,8 @@ fn insert_json(alloc: Global, columns: &[NamedColumn], made: &[Datum]) -> Result
     ensures spelled { IfOk result (λ v. AreSpelled beside_default columns.now made.now) }
 {
     let mut members = Map::new(alloc);
-    for (number, named) in columns.iter().enumerate() {
-        let cell = beside_default(alloc, named, &made[number])?;
+    for (named, datum) in columns.iter().zip(made) {
+        let cell = beside_default(alloc, named, datum)?;
         put_cell(alloc, &mut members, named, cell)?;
     }
     Ok(Value::Object(members))
@@ -79,8 +79,8 @@ fn modify_json(
     ensures spelled { IfOk result (λ v. AreSpelled as_edited columns.now edits.now) }
 {
     let mut members = Map::new(alloc);
-    for (number, named) in columns.iter().enumerate() {
-        put_cell(alloc, &mut members, named, edits[number].as_ref())?;
+    for (named, edit) in columns.iter().zip(edits) {
+        put_cell(alloc, &mut members, named, edit.as_ref())?;
     }
     Ok(Value::Object(members))
 }

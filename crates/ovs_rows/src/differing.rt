@@ -45,8 +45,8 @@ fn edits_between(
     ensures value { IfOk result (λ e. e ≡ edits_between columns.now old.now new.now) }
 {
     let mut edits = Vec::with_capacity(alloc, columns.len())?;
-    for number in 0..columns.len() {
-        edits.push(edit_between(&columns[number].column, &old[number], &new[number])?)?;
+    for ((named, old), new) in columns.iter().zip(old).zip(new) {
+        edits.push(edit_between(&named.column, old, new)?)?;
     }
     Ok(Edits::new(edits))
 }

@@ -47,10 +47,9 @@ fn row_json(alloc: Global, columns: &[NamedColumn], row: &Row) -> Result<Value, 
     let mut members = Map::new(alloc);
     let version = version_json(alloc, row.version)?;
     put(alloc, &mut members, "_version", version)?;
-    let values = row.columns.as_slice();
-    for (number, named) in columns.iter().enumerate() {
-        let datum = values[number].to_json(alloc)?;
-        put(alloc, &mut members, named.name.as_str(), datum)?;
+    for (named, datum) in columns.iter().zip(row.columns.as_slice()) {
+        let value = datum.to_json(alloc)?;
+        put(alloc, &mut members, named.name.as_str(), value)?;
     }
     Ok(Value::Object(members))
 }

@@ -1,4 +1,4 @@
-use Rattle.std.proofs.Common.{◌≡◌, drop}
+use Rattle.std.proofs.Common.{◌≡◌}
 use Rattle.std.specs.Prelude.{fold}
 use Rattle.serde_json.specs.Data.{no_members}
 use Rattle.serde_json.specs.View.{members_view}
@@ -7,8 +7,8 @@ use Rattle.ovs_rows.specs.Writing.{with_member}
 use Rattle.ovs_rows.proofs.change_writing.insert_json.Given as goal
 
 -- the columns that are left, put to the members now; if they stand for what was written of them, all do
-abbrev pub invariant-loop-number : goal.invariant-loop-number
-invariant-loop-number l = record {
-  whole : fold with_member (members_view l.members.entries) (cell_members beside_default (drop l.number l.columns) (drop l.number l.made)) ≡ fold with_member no_members (cell_members beside_default l.columns l.made);
-  spelled : AreSpelled beside_default (drop l.number l.columns) (drop l.number l.made) → AreSpelled beside_default l.columns l.made;
+abbrev pub invariant-loop-named : goal.invariant-loop-named
+invariant-loop-named l = record {
+  whole : fold with_member (members_view l.members.entries) (cell_members beside_default l.named-iterator.a.rest.now l.named-iterator.b.rest.now) ≡ fold with_member no_members (cell_members beside_default l.columns l.made);
+  spelled : AreSpelled beside_default l.named-iterator.a.rest.now l.named-iterator.b.rest.now → AreSpelled beside_default l.columns l.made;
 }
