@@ -15,7 +15,7 @@ use std::sync::Arc;
 /// What becomes of a row's data: for each column of its table, in the order of the columns' names, nothing or the
 /// difference to the new datum.
 #[derive(Drop)]
-pub struct Edits {
+pub(crate) struct Edits {
     items: Vec<Option<Datum>>,
 }
 
@@ -44,7 +44,7 @@ impl Edits {
     }
 
     /// A difference or nothing for each column, in the order of the columns' names.
-    pub fn as_slice(&self) -> &[Option<Datum>]
+    pub(crate) fn as_slice(&self) -> &[Option<Datum>]
         ensures value { result.now ≡ self.now }
     {
         &self.items
@@ -53,7 +53,7 @@ impl Edits {
 
 /// What becomes of one row (RFC 7047 section 4.1.6, as ovsdb-server's `update2` writes it).
 #[derive(Drop)]
-pub enum Action {
+pub(crate) enum Action {
     /// The row is new and has these data.
     Insert(Columns),
     /// The row goes.
@@ -155,7 +155,8 @@ impl Actions {
     }
 }
 
-/// A change of a database: what becomes of its rows. It is shared, not copied.
+/// A change of a database: what becomes of its rows, as ovsdb-server's `update2` tells it (ovsdb-server(7)). It is
+/// shared, not copied.
 #[derive(Drop)]
 pub struct Change {
     actions: Arc<Actions>,
@@ -204,6 +205,9 @@ impl Clone for Change {
     ghost is_clone = { λ c d. d ≡ c };
 
     /// The same change once more. No action is copied.
+    ///
+    /// # Errors
+    /// `AllocError` alone.
     fn clone(&self) -> Result<Change, AllocError> {
         Ok(Change {
             actions: self.actions.clone()?,

@@ -47,6 +47,9 @@ impl Model for Database {
 
 impl Database {
     /// A database of this schema without rows.
+    ///
+    /// # Errors
+    /// `NoMemory` alone.
     pub fn empty(alloc: Global, schema: &Schema) -> Result<Database, NoMemory>
         ensures value { IfOk result (λ d. d ≡ record { schema = schema.now; rows = no_rows }) }
     {
@@ -72,7 +75,7 @@ impl Database {
         &self.rows
     }
 
-    /// The row at a place.
+    /// The row at a place, or `None` where none stands.
     pub fn row(&self, place: Place) -> Option<&Row>
         ensures value { option_copied result ≡ get self.now.rows place }
     {

@@ -161,7 +161,8 @@ impl Database {
     /// inserted, rows that only the first has are deleted, and rows that both have are modified in the columns that
     /// differ. Versions are not compared. Equal rows give no action.
     ///
-    /// Fails only where memory runs out.
+    /// # Errors
+    /// `NoMemory` alone.
     pub fn diff(alloc: Global, old: &Database, new: &Database) -> Result<Change, NoMemory>
         requires same_tables { old.now.schema.description.tables ≡ new.now.schema.description.tables }
         ensures value { IfOk result (λ c. c ≡ database_difference old.now.schema.description.tables old.now.rows new.now.rows) }

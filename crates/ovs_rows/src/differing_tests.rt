@@ -41,6 +41,18 @@ fn stepped(rt: HostRuntime, schema: &Schema, start: &str, step: &str) -> Result<
     Ok(database)
 }
 
+// A copy of what the second change tells.
+fn told(rt: HostRuntime, schema: &Schema, start: &str, step: &str) -> Result<Applied, Fail> {
+    let mut database = started(rt, schema, start)?;
+    let change = read(rt, schema, step)?;
+    let applied = database.apply(
+        rt.alloc(),
+        &change,
+        TxnId::read("bbbbbbbb-bbbb-4bbb-8bbb-bbbbbbbbbbbb")?,
+    )?;
+    Ok(applied.copy()?)
+}
+
 // Whether the difference to the database after the step is this change.
 fn differs_by(rt: HostRuntime, start: &str, step: &str, want: &str) -> Result<bool, Fail> {
     let schema = Schema::read(rt.alloc(), &Value::from_str(rt.alloc(), NET)?)?;
@@ -128,6 +140,21 @@ fn differences_lead_to_the_second(rt: HostRuntime) -> Result<(), Fail> {
             after_difference(rt, PORTS, step)?.as_str(),
             after_step(rt, PORTS, step)?.as_str()
         );
+    }
+    Ok(())
+}
+
+#[test]
+fn what_applying_tells_is_copied(rt: HostRuntime) -> Result<(), Fail> {
+    let schema = Schema::read(rt.alloc(), &Value::from_str(rt.alloc(), NET)?)?;
+    let [.., (step, _)] = STEPS;
+    let applied = told(rt, &schema, PORTS, step)?;
+    assert_eq!(rt; applied.rows().len(), 3);
+    // One row is inserted, one deleted and one modified.
+    let there = [(false, true), (true, false), (true, true)];
+    for (touched, (before, after)) in applied.rows().iter().zip(there) {
+        assert_eq!(rt; touched.before.is_some(), before);
+        assert_eq!(rt; touched.after.is_some(), after);
     }
     Ok(())
 }

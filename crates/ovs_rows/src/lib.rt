@@ -19,7 +19,7 @@ mod theorems;
 mod writing;
 
 pub use applied::{Applied, Touched};
-pub use change::{Action, Change, Edits};
+pub use change::Change;
 pub use database::Database;
 pub use error::{ApplyError, ChangeError};
 pub use place::Place;

@@ -203,7 +203,7 @@ impl Change {
     /// and `monitor_cond_since` answer (ovsdb-server(7), after the `<table-updates>` of RFC 7047 section 4.1.6).
     ///
     /// The change is in its normal form, so that equal changes are one value:
-    /// - "initial" and "insert" are both [`Action::Insert`]; columns that they omit have their defaults.
+    /// - "initial" and "insert" are both insertions; columns that they omit have their defaults.
     /// - In a "modify" an empty difference is dropped. The new value of a column with "max" 1 is no difference, and is
     ///   kept also where it is empty.
     /// - Nothing becomes of a row whose "modify" leaves no column, and nothing of a table without rows.

@@ -92,6 +92,9 @@ impl Database {
     /// The database as an object: every table by name, also one without rows, as an object of its rows by the 36
     /// lower-case characters of their ids; each row as an object of all its columns by name, and of `_version` as
     /// `["uuid", id]`. Data are written as in RFC 7047 section 5.1; names ascend by their bytes.
+    ///
+    /// # Errors
+    /// `NoMemory` alone.
     pub fn to_json(&self, alloc: Global) -> Result<Value, NoMemory>
         ensures value { IfOk result (λ v. view v ≡ database_json self.now) }
         ensures whole { IfOk result (λ v. has_float (view v) ≡ false) }
