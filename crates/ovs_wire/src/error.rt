@@ -27,7 +27,8 @@ pub enum FrameError {
     /// A message nests deeper than [`MAX_NESTING`](crate::MAX_NESTING).
     #[error("a message nested too deep")]
     TooDeep,
-    /// A message is longer than [`MAX_MESSAGE_BYTES`](crate::MAX_MESSAGE_BYTES).
+    /// A message is longer than [`MAX_MESSAGE_BYTES`](crate::MAX_MESSAGE_BYTES). Where the byte that is one too many
+    /// also nests too deep, the fault is `TooDeep`.
     #[error("a message too long")]
     TooLong,
     /// Memory ran out.
@@ -35,10 +36,33 @@ pub enum FrameError {
     NoMemory,
 }
 
+impl From<AllocError> for FrameError {
+    ghost use Rattle.std.specs.Prelude.{◌≡◌};
+    ghost use Rattle.ovs_wire.specs.declared.error.FrameError.TheVariants as faults;
+
+    ghost from_gives = { λ _ e. e ≡ faults.NoMemory };
+
+    fn from(_error: AllocError) -> FrameError {
+        FrameError::NoMemory
+    }
+}
+
+impl From<NoMemory> for FrameError {
+    ghost use Rattle.std.specs.Prelude.{◌≡◌};
+    ghost use Rattle.ovs_wire.specs.declared.error.FrameError.TheVariants as faults;
+
+    ghost from_gives = { λ _ e. e ≡ faults.NoMemory };
+
+    fn from(_error: NoMemory) -> FrameError {
+        FrameError::NoMemory
+    }
+}
+
 /// Why bytes are no message.
 #[derive(Clone, Copy, Debug, PartialEq, Eq, Error)]
 pub enum MessageError {
-    /// The bytes are no JSON text in UTF-8 (RFC 8259), or nest deeper than 127.
+    /// `serde_json` reads no value from the bytes: they are no JSON text in UTF-8 (RFC 8259), nest deeper than 127, or
+    /// have a number too large for a double or an escaped surrogate without its pair.
     #[error("no JSON")]
     NotJson,
     /// The JSON is no request, reply or notification (JSON-RPC 1.0, RFC 7047 section 4).
@@ -47,4 +71,26 @@ pub enum MessageError {
     /// Memory ran out.
     #[error("out of memory")]
     NoMemory,
+}
+
+impl From<NoMemory> for MessageError {
+    ghost use Rattle.std.specs.Prelude.{◌≡◌};
+    ghost use Rattle.ovs_wire.specs.declared.error.MessageError.TheVariants as faults;
+
+    ghost from_gives = { λ _ e. e ≡ faults.NoMemory };
+
+    fn from(_error: NoMemory) -> MessageError {
+        MessageError::NoMemory
+    }
+}
+
+impl From<AllocError> for MessageError {
+    ghost use Rattle.std.specs.Prelude.{◌≡◌};
+    ghost use Rattle.ovs_wire.specs.declared.error.MessageError.TheVariants as faults;
+
+    ghost from_gives = { λ _ e. e ≡ faults.NoMemory };
+
+    fn from(_error: AllocError) -> MessageError {
+        MessageError::NoMemory
+    }
 }

@@ -5,7 +5,7 @@ use std::alloc::Global;
 use std::marker::Model;
 
 /// The bytes of one whole message, which contracts see as their list.
-#[derive(Drop)]
+#[derive(Debug, Drop)]
 pub(crate) struct Frame {
     bytes: Vec<u8>,
 }

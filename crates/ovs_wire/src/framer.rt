@@ -1,4 +1,4 @@
-ghost use Rattle.std.specs.Prelude.{◌≡◌, ◌++◌, [], IfSome, OnOk, OnErr};
+ghost use Rattle.std.specs.Prelude.{◌≡◌, ◌≤◌, ◌++◌, [], length, take, IfSome, OnOk, OnErr};
 ghost use Rattle.ovs_wire.specs.Frames.{Fault};
 ghost use Rattle.ovs_wire.specs.Framing.{IsNew, Feeds, Takes, Answers};
 
@@ -13,8 +13,8 @@ use std::marker::Model;
 // The room, in bytes, that is kept for the next message once one is whole.
 const SPARE_ROOM: usize = 4096;
 
-// Puts the messages that were found behind those that wait. Where none waits, the room of those that did is given
-// back.
+// Puts the messages that were found behind those that wait. A queue less than a quarter full gives back all its room but
+// for twice its length, so that few messages are moved for each that is taken.
 fn queue(waiting: &mut VecDeque<Frame>, mut found: VecDeque<Frame>) -> Result<(), NoMemory>
     ensures ok { OnOk result (waiting.new.items ≡ waiting.old.items ++ found.items) }
     ensures err { OnErr result (waiting.new.items ≡ waiting.old.items) }
@@ -24,7 +24,20 @@ fn queue(waiting: &mut VecDeque<Frame>, mut found: VecDeque<Frame>) -> Result<()
         return Ok(());
     }
     waiting.append(&mut found)?;
+    if waiting.len() < waiting.capacity() / 4 {
+        waiting.shrink_to(2 * waiting.len());
+    }
     Ok(())
+}
+
+// Drops what stands behind the first `held` bytes, and its room. What doubling takes is kept, so that a feed that is
+// tried again with short pieces doesn't move the held bytes each time.
+fn cut_back(rest: &mut Vec<u8>, held: usize)
+    requires { held ≤ length rest.old.items }
+    ensures value { rest.new.items ≡ take held rest.old.items }
+{
+    rest.truncate(held);
+    rest.shrink_to(SPARE_ROOM.max(2 * held));
 }
 
 /// Splits a stream of bytes into JSON objects with white space between them, as they come over a connection
@@ -33,9 +46,10 @@ fn queue(waiting: &mut VecDeque<Frame>, mut found: VecDeque<Frame>) -> Result<()
 /// The stream comes in pieces, cut anywhere. A contract sees the messages that are whole and wait, and then the
 /// rest, of which more bytes may make a message, or the stream's first fault.
 ///
-/// Each byte is looked at once. A message that waits has a buffer of its own length, and the rest one whose room is
-/// given back when a message is whole. The room of the queue of messages stays until a feed finds none waiting.
-#[derive(Drop)]
+/// Each byte is looked at once. A message that waits has a buffer of its own length, and the rest one of 4,096 bytes or
+/// twice its length at most, also after `NoMemory`. The queue has room for about four times the messages at most that
+/// waited after the last piece, and for none once all are taken.
+#[derive(Debug, Drop)]
 pub struct Framer {
     waiting: VecDeque<Frame>,
     rest: Vec<u8>,
@@ -85,16 +99,17 @@ impl Framer {
         }
         let alloc = *self.rest.allocator();
         let held = self.rest.len();
-        if self.rest.extend_from_slice(piece).is_err() {
-            return Err(FrameError::NoMemory);
-        }
-        let Ok(scanned) = scan(alloc, &self.rest, held, self.place) else {
-            self.rest.truncate(held);
-            return Err(FrameError::NoMemory);
+        self.rest.extend_from_slice(piece)?;
+        let scanned = match scan(alloc, &self.rest, held, self.place) {
+            Ok(scanned) => scanned,
+            Err(error) => {
+                cut_back(&mut self.rest, held);
+                return Err(error.into());
+            }
         };
-        if queue(&mut self.waiting, scanned.found).is_err() {
-            self.rest.truncate(held);
-            return Err(FrameError::NoMemory);
+        if let Err(error) = queue(&mut self.waiting, scanned.found) {
+            cut_back(&mut self.rest, held);
+            return Err(error.into());
         }
         match scanned.fault {
             Some(fault) => {
@@ -120,6 +135,10 @@ impl Framer {
         ensures some { IfSome result (λ message. Takes self.old message.items self.new) }
         ensures none { result ≡ None → (self.old.waiting ≡ []) × (self.new ≡ self.old) }
     {
-        self.waiting.pop_front().map(Frame::into_bytes)
+        let message = self.waiting.pop_front().map(Frame::into_bytes);
+        if self.waiting.is_empty() {
+            self.waiting.shrink_to_fit();
+        }
+        message
     }
 }

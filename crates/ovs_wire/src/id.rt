@@ -7,7 +7,7 @@ use serde_json::Value;
 use std::marker::Model;
 
 /// The id of a request and of its reply: any JSON value but null (JSON-RPC 1.0; RFC 7047 section 4.1).
-#[derive(Drop)]
+#[derive(Debug, Drop)]
 pub struct Id {
     value: Value,
 }

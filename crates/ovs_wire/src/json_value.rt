@@ -6,7 +6,7 @@ use serde_json::Value;
 use std::marker::Model;
 
 /// A JSON value, which contracts see as its data.
-#[derive(Drop)]
+#[derive(Debug, Drop)]
 pub struct Json {
     value: Value,
 }

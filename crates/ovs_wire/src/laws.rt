@@ -71,9 +71,7 @@ pub fn read_back(alloc: Global, message: Message) -> Result<Message, MessageErro
     ensures same { depth (json message) ≤ max_depth → IfOk result (λ m. m ≡ message) }
     ensures memory { depth (json message) ≤ max_depth → IfErr result (λ e. e ≡ MessageError.NoMemory) }
 {
-    let Ok(bytes) = message.write(alloc) else {
-        return Err(MessageError::NoMemory);
-    };
+    let bytes = message.write(alloc)?;
     let again = Message::read(alloc, &bytes)?;
     Ok(again)
 }

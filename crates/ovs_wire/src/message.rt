@@ -15,7 +15,7 @@ use serde_json::{Value, json};
 use std::alloc::{AllocError, Global};
 
 /// A message of JSON-RPC 1.0 (RFC 7047 section 4).
-#[derive(Drop)]
+#[derive(Debug, Drop)]
 pub enum Message {
     /// It asks for a reply, which bears its id.
     Request {
@@ -43,7 +43,8 @@ impl Message {
 
     /// The message that a text spells. Members that it doesn't know are ignored.
     ///
-    /// - `NotJson`: the bytes are no JSON text in UTF-8, or nest deeper than 127.
+    /// - `NotJson`: `serde_json` reads no value from the bytes: they are no JSON text in UTF-8, nest deeper than 127, or
+    ///   have a number too large for a double or an escaped surrogate without its pair.
     /// - `BadShape`: the JSON is no message.
     /// - `NoMemory`: memory ran out, perhaps before a fault was found.
     #[tactic(auto, using(crate::proofs::Lists::items_again, crate::proofs::Lists::list_again))]
@@ -64,7 +65,7 @@ impl Message {
     }
 
     /// The message as compact JSON text, its members in ascending order of their names. It reads back as this
-    /// message, where that nests at most 127 deep. `NoMemory` is its only error.
+    /// message, where that nests at most 127 deep. `NoMemory` is its only error, after which the message is gone too.
     #[tactic(auto, using(crate::proofs::Texts::message_is_object))]
     pub fn write(self, alloc: Global) -> Result<Vec<u8>, NoMemory>
         ensures utf8 { IfOk result (λ b. IsUtf8 b.items) }

@@ -6,7 +6,7 @@ use serde_json::Value;
 use std::marker::Model;
 
 /// The params of a request or a notification (RFC 7047 section 4.1), which contracts see as a list of JSON data.
-#[derive(Drop)]
+#[derive(Debug, Drop)]
 pub struct Params {
     values: Vec<Value>,
 }

@@ -5,7 +5,7 @@ use crate::limits::MAX_NESTING;
 
 /// What the bytes of a message before a place say about it: whether it lies in a string, there right after a
 /// backslash that escapes, and how many objects and arrays are open.
-#[derive(Clone, Copy)]
+#[derive(Clone, Copy, Debug)]
 pub(crate) struct Place {
     pub quoted: bool,
     pub escaped: bool,
