@@ -5,7 +5,7 @@ use Rattle.std.proofs.lemmas.Bool.{cases_lt, cases_order}
 use Rattle.ovs_wire.specs.declared.error.FrameError.{FrameError}
 use Rattle.ovs_wire.specs.declared.error.FrameError.TheVariants.{NotObject, TooDeep, TooLong}
 use Rattle.ovs_wire.specs.declared.limits.TheConstants.{MAX_MESSAGE_BYTES, MAX_NESTING}
-use Rattle.ovs_wire.specs.Place.{depth}
+use Rattle.ovs_wire.specs.Depth.{depth}
 use Rattle.ovs_wire.specs.Frames.{IsSpace, IsUnfinished, Breaks, Ending, Rest, Fault, AreFrames}
 use Rattle.ovs_wire.proofs.Cuts.{cut, fault_on, only_rest, only_fault, only_space, only_object, nothing}
 use Rattle.ovs_wire.proofs.NextByte.{unfinished_more, object_whole, faulty, unfinished_now, deeper}

@@ -2,18 +2,16 @@
 use Rattle.std.proofs.Common.{◌≡◌, ℕ, ◌+◌, ◌-◌, ◌<◌, ◌≤◌, List, [], ◌∷◌, ◌++◌, length, take, drop, get_or, slice_index, refl, ap, sym, ◌∙◌, subst, arith, ⊎_elim, length-append}
 use Rattle.std.proofs.lemmas.List.{take_more, take-append-le, take_all, drop-append-le, take-append-drop, length-take-le, drop-take, append-nil, drop_all, length-take}
 use Rattle.std.proofs.Math.Seq.{take-length}
-use Rattle.std.proofs.lemmas.List.Sums.{fold-append}
 use Rattle.std.proofs.lemmas.Bool.{cases_lt}
 use Rattle.ovs_wire.specs.declared.error.FrameError.{FrameError}
 use Rattle.ovs_wire.specs.declared.limits.TheConstants.{MAX_MESSAGE_BYTES, MAX_NESTING}
 use Rattle.std.proofs.lemmas.Grind.{common_steps}
 use Rattle.ovs_wire.specs.declared.place.Place.{Place}
-use Rattle.ovs_wire.specs.Place.{depth, past, start, place_after}
+use Rattle.ovs_wire.specs.Depth.{depth}
+use Rattle.ovs_wire.specs.Place.{place_after}
+use Rattle.ovs_wire.proofs.Depths.{by_one}
 use Rattle.ovs_wire.specs.Frames.{IsSpace, IsObject, IsUnfinished, HasFault, Breaks, Ending, Rest, Fault, AreFrames}
 use Rattle.ovs_wire.proofs.Cuts.{cut, fault_on, only_rest, only_fault, only_space, only_object}
-
-pub place_after-more : (u : List ℕ) (b : ℕ) → place_after (u ++ b ∷ []) ≡ past (place_after u) b
-place_after-more u b = fold-append past start u (b ∷ [])
 
 -- a property of the beginnings of a list, at one more byte
 front_more : (P : List ℕ → Type 0) (u : List ℕ) (b k : ℕ) → (k ≤ length u → P (take k u)) → P (u ++ b ∷ [])
@@ -119,21 +117,19 @@ stands_space bytes i start found p s lt same blank =
       place = s.place ∙ ap place_after here ∙ ap place_after (sym none);
     }
 
--- what the next byte makes of what stands there
-now_more : (bytes : List ℕ) (i start : ℕ) (found : List (List ℕ)) (p q : Place) → Stands bytes i start found p
-    → q ≡ past p (get_or bytes i 0) → q ≡ place_after (drop start (take i bytes) ++ get_or bytes i 0 ∷ [])
-now_more bytes i start found p q s next = next ∙ ap (λ a. past a (get_or bytes i 0)) s.place ∙ sym
-    (place_after-more (drop start (take i bytes)) (get_or bytes i 0))
+-- what this byte makes of each place
+abbrev pub Next : Place → ℕ → Place → Type 0
+Next p b q = (before : List ℕ) → p ≡ place_after before → q ≡ place_after (before ++ b ∷ [])
 
 pub stands_more : (bytes : List ℕ) (i start : ℕ) (found : List (List ℕ)) (p q : Place)
     → Stands bytes i start found p → i < length bytes → (i - start ≡ 0 → get_or bytes i 0 ≡ 123)
-    → q ≡ past p (get_or bytes i 0) → 0 < q.depth → q.depth ≤ MAX_NESTING → i - start < MAX_MESSAGE_BYTES
+    → Next p (get_or bytes i 0) q → 0 < q.depth → q.depth ≤ MAX_NESTING → i - start < MAX_MESSAGE_BYTES
     → Stands bytes (i + 1) start found q
 stands_more bytes i start found p q s lt head next deep low short =
     let u = drop start (take i bytes) in
     let b = get_or bytes i 0 in
     let len = length_current bytes start i s.within (omega arith) in
-    let now = now_more bytes i start found p q s next in
+    let now = next u s.place in
     let d : q.depth ≡ depth (u ++ b ∷ []) = ap (λ a. a.depth) now in
     let is = unfinished_more u b (unfinished_now (take i bytes) found u s.frames)
     (λ none. head (omega (arith, none, len))) (omega (arith, d, deep)) (omega (arith, d, low))
@@ -150,13 +146,13 @@ stands_more bytes i start found p q s lt head next deep low short =
 
 pub stands_whole : (bytes : List ℕ) (i start : ℕ) (found : List (List ℕ)) (p q : Place) (o : List ℕ)
     → Stands bytes i start found p → i < length bytes → (i - start ≡ 0 → get_or bytes i 0 ≡ 123)
-    → q ≡ past p (get_or bytes i 0) → q.depth ≡ 0 → i - start < MAX_MESSAGE_BYTES
+    → Next p (get_or bytes i 0) q → q.depth ≡ 0 → i - start < MAX_MESSAGE_BYTES
     → o ≡ drop start (take (i + 1) bytes) → Stands bytes (i + 1) (i + 1) (found ++ o ∷ []) (place_after [])
 stands_whole bytes i start found p q o s lt head next deep short whole =
     let u = drop start (take i bytes) in
     let b = get_or bytes i 0 in
     let len = length_current bytes start i s.within (omega arith) in
-    let now = now_more bytes i start found p q s next in
+    let now = next u s.place in
     let d : q.depth ≡ depth (u ++ b ∷ []) = ap (λ a. a.depth) now in
     let is = object_whole u b (unfinished_now (take i bytes) found u s.frames)
     (λ none. head (omega (arith, none, len))) (sym d ∙ deep) (omega (arith, len, short)) in
@@ -184,26 +180,17 @@ stands_fault bytes i start found p f s lt breaks =
     more bytes i found [] u (Fault f) lt s.frames (only_fault (u ++ b ∷ []) f h) in
     fault_now bytes (i + 1) found f (simp append-nil at frames)
 
--- at most one deeper
-pub past_by_one : (a : Place) (b : ℕ) → (past a b).depth ≤ a.depth + 1
-past_by_one a b = grind (arith, common_steps)
-
 pub nests_now : (u : List ℕ) → IsUnfinished u → depth u ≤ MAX_NESTING
 nests_now u is = subst (λ (l : List ℕ). depth l ≤ MAX_NESTING) (take-length u) (is.nests (length u))
 
-some_before : (u : List ℕ) (b : ℕ) → depth (u ++ b ∷ []) ≤ depth u + 1 → MAX_NESTING < depth (u ++ b ∷ [])
-    → 0 < length u
-some_before [] b by_one deep = absurd (omega (arith, by_one, deep))
-some_before (a ∷ u) b by_one deep = omega arith
+some_before : (u : List ℕ) (b : ℕ) → MAX_NESTING < depth (u ++ b ∷ []) → 0 < length u
+some_before [] b deep = absurd (omega (arith, by_one [] b, deep))
+some_before (a ∷ u) b deep = omega arith
 
 -- only place_after a byte, and one too many
 pub deeper : (u : List ℕ) (b : ℕ) → IsUnfinished u → MAX_NESTING < depth (u ++ b ∷ [])
     → (0 < length u) × (depth (u ++ b ∷ []) ≡ MAX_NESTING + 1)
-deeper u b is deep =
-    let by_one : depth (u ++ b ∷ []) ≤ depth u + 1 =
-    subst (λ (a : Place). a.depth ≤ depth u + 1) (sym (place_after-more u b))
-    (past_by_one (place_after u) b) in
-    (some_before u b by_one deep, omega (arith, by_one, nests_now u is, deep))
+deeper u b is deep = (some_before u b deep, omega (arith, by_one u b, nests_now u is, deep))
 
 pub stands_last : (bytes : List ℕ) (i start : ℕ) (found : List (List ℕ)) (p : Place)
     → Stands bytes i start found p → length bytes ≤ i

@@ -1,5 +1,5 @@
 -- What is written for JSON is one object of a stream.
-use Rattle.std.proofs.Common.{◌≡◌, ℕ, zero, suc, ◌+◌, ◌-◌, ◌/◌, ◌%◌, ◌<◌, ◌≤◌, ◌==◌, ◌||◌, nat_lt, Bool, true, false, cond, max, List, [], ◌∷◌, ◌++◌, length, take, fold, pos, negsuc, refl, ap, sym, ◌∙◌, subst, arith}
+use Rattle.std.proofs.Common.{◌≡◌, ℕ, zero, suc, ◌+◌, ◌-◌, ◌/◌, ◌%◌, ◌<◌, ◌≤◌, ◌==◌, ◌||◌, nat_lt, Bool, true, false, cond, max, List, [], ◌∷◌, ◌++◌, length, take, pos, negsuc, refl, ap, sym, ◌∙◌, subst, arith}
 use Rattle.std.proofs.Common.{⊎_elim}
 use Rattle.std.proofs.lemmas.Bool.{ne_eqb, lt-ltb, le-ltb, ltb-true, ltb-false, eqb-true, or_from, or_parts, cases_lt}
 use Rattle.std.proofs.Math.Nat.{mod-lt, le-max_left, le-max_right}
@@ -11,9 +11,9 @@ use Rattle.json.specs.Print.{quoted, escape, escape_byte, escape_letter}
 use Rattle.serde_json.specs.Data.{Data, null, boolean, number, string, array, object, Items, no_items, item, Members, no_members, member, Num, unsigned, negative, float}
 use Rattle.serde_json.specs.Data as serde
 use Rattle.serde_json.specs.Written.{compact_text, items_text, members_text, number_text, comma_if, has_float, items_have_float, members_have_float}
-use Rattle.ovs_wire.specs.declared.place.Place.{Place}
 use Rattle.ovs_wire.specs.declared.limits.TheConstants.{MAX_MESSAGE_BYTES, MAX_NESTING}
-use Rattle.ovs_wire.specs.Place.{at, past, is_opener, is_closer, depth}
+use Rattle.ovs_wire.specs.Depth.{Outside, Inside, is_opener, is_closer, depth}
+use Rattle.ovs_wire.proofs.Depths.{Spot, spot, past, walk, depth_is}
 use Rattle.ovs_wire.specs.Frames.{IsObject}
 use Rattle.ovs_wire.specs.declared.message.Message.{Message}
 use Rattle.ovs_wire.specs.declared.message.Message.TheVariants.{Request, Reply, Notice}
@@ -21,47 +21,43 @@ use Rattle.ovs_wire.specs.Message.{json}
 use Rattle.serde_json.specs.View.{items_of}
 use Rattle.std.proofs.Common.{codes}
 
--- the place after the text, from a place
-abbrev walk : Place → List ℕ → Place
-walk p text = fold past p text
-
 -- every place before the text's end is at least `low` and at most `high` deep
-abbrev Stays : ℕ → ℕ → Place → List ℕ → Type 0
+abbrev Stays : ℕ → ℕ → Spot → List ℕ → Type 0
 Stays low high p [] = Unit {0}
-Stays low high p (b ∷ text) = (low ≤ p.depth) × (p.depth ≤ high) × Stays low high (past p b) text
+Stays low high p (b ∷ text) = (low ≤ p.level) × (p.level ≤ high) × Stays low high (past p b) text
 
 -- outside strings, this deep
-abbrev outside : ℕ → Place
-outside depth = at false false depth
+abbrev outside : ℕ → Spot
+outside level = spot Outside level
 
 -- in a string, this deep
-abbrev in_string : ℕ → Place
-in_string depth = at true false depth
+abbrev in_string : ℕ → Spot
+in_string level = spot Inside level
 
 -- the text leads from p to q so
-record Leads (low high : ℕ) (p q : Place) (text : List ℕ) : Type 0 where
+record Leads (low high : ℕ) (p q : Spot) (text : List ℕ) : Type 0 where
   stays : Stays low high p text
   ends : walk p text ≡ q
 
-stays_append : (low high : ℕ) (p : Place) (a b : List ℕ) → Stays low high p a → Stays low high (walk p a) b
+stays_append : (low high : ℕ) (p : Spot) (a b : List ℕ) → Stays low high p a → Stays low high (walk p a) b
     → Stays low high p (a ++ b)
 stays_append low high p [] b s t = t
 stays_append low high p (x ∷ a) b s t = (s.0, s.1, stays_append low high (past p x) a b s.2 t)
 
-leads_append : (low high : ℕ) (p q r : Place) (a b : List ℕ) → Leads low high p q a → Leads low high q r b
+leads_append : (low high : ℕ) (p q r : Spot) (a b : List ℕ) → Leads low high p q a → Leads low high q r b
     → Leads low high p r (a ++ b)
 leads_append low high p q r a b s t = record {
-  stays = stays_append low high p a b s.stays (subst (λ (x : Place). Stays low high x b) (sym s.ends) t.stays);
+  stays = stays_append low high p a b s.stays (subst (λ (x : Spot). Stays low high x b) (sym s.ends) t.stays);
   ends = fold-append past p a b ∙ ap (λ x. walk x b) s.ends ∙ t.ends;
 }
 
-stays_wider : (low high low' high' : ℕ) (p : Place) (a : List ℕ) → low' ≤ low → high ≤ high'
+stays_wider : (low high low' high' : ℕ) (p : Spot) (a : List ℕ) → low' ≤ low → high ≤ high'
     → Stays low high p a → Stays low' high' p a
 stays_wider low high low' high' p [] l h s = tt
 stays_wider low high low' high' p (x ∷ a) l h s =
     (omega (arith, s.0), omega (arith, s.1), stays_wider low high low' high' (past p x) a l h s.2)
 
-leads_wider : (low high low' high' : ℕ) (p q : Place) (a : List ℕ) → low' ≤ low → high ≤ high'
+leads_wider : (low high low' high' : ℕ) (p q : Spot) (a : List ℕ) → low' ≤ low → high ≤ high'
     → Leads low high p q a → Leads low' high' p q a
 leads_wider low high low' high' p q a l h s =
     record { stays = stays_wider low high low' high' p a l h s.stays; ends = s.ends }
@@ -84,7 +80,7 @@ leads_plain n (b ∷ text) p =
     let more = leads_plain n text p.1 in
     let same = past_one n b p.0 in
     record {
-      stays = (omega arith, omega arith, subst (λ (x : Place). Stays n n x text) (sym same) more.stays);
+      stays = (omega arith, omega arith, subst (λ (x : Spot). Stays n n x text) (sym same) more.stays);
       ends = ap (λ x. walk x text) same ∙ more.ends;
     }
 
@@ -136,7 +132,7 @@ leads_free : (n b : ℕ) (text : List ℕ) → IsFree b → Leads n n (in_string
 leads_free n b text p more =
     let same = past_free n b p in
     record {
-      stays = (omega arith, omega arith, subst (λ (x : Place). Stays n n x text) (sym same) more.stays);
+      stays = (omega arith, omega arith, subst (λ (x : Spot). Stays n n x text) (sym same) more.stays);
       ends = ap (λ x. walk x text) same ∙ more.ends;
     }
 
@@ -218,7 +214,7 @@ leads_opened n high b text opens inner =
       stays = (
         omega arith,
         omega arith,
-        subst (λ (x : Place). Stays n (n + suc high) x text) (sym opens)
+        subst (λ (x : Spot). Stays n (n + suc high) x text) (sym opens)
             wide.stays,
       );
       ends = ap (λ x. walk x text) opens ∙ wide.ends;
@@ -313,8 +309,8 @@ mutual
 
 -- ---- objects of a stream
 
-stays_at : (low high : ℕ) (p : Place) (text : List ℕ) (k : ℕ) → Stays low high p text → k < length text
-    → (low ≤ (walk p (take k text)).depth) × ((walk p (take k text)).depth ≤ high)
+stays_at : (low high : ℕ) (p : Spot) (text : List ℕ) (k : ℕ) → Stays low high p text → k < length text
+    → (low ≤ (walk p (take k text)).level) × ((walk p (take k text)).level ≤ high)
 stays_at low high p [] k s lt = absurd (omega arith)
 stays_at low high p (b ∷ text) zero s lt = (s.0, s.1)
 stays_at low high p (b ∷ text) (suc k) s lt = stays_at low high (past p b) text k s.2 (omega arith)
@@ -323,15 +319,22 @@ stays_at low high p (b ∷ text) (suc k) s lt = stays_at low high (past p b) tex
 inside_at : (high : ℕ) (text : List ℕ) (k : ℕ) → Stays 1 high (outside 1) text → 0 < k
     → k < length (123 ∷ text) → 0 < depth (take k (123 ∷ text))
 inside_at high text zero s more lt = absurd (omega arith)
-inside_at high text (suc k) s more lt = let deep =
-    (stays_at 1 high (outside 1) text k s (omega arith)).0 in omega (arith, deep)
+inside_at high text (suc k) s more lt =
+    let deep = (stays_at 1 high (outside 1) text k s (omega arith)).0 in
+    let same : (walk (outside 1) (take k text)).level ≡ depth (take (suc k) (123 ∷ text)) =
+    depth_is (take (suc k) (123 ∷ text)) in
+    omega (arith, deep, same)
 
 nests_at : (high : ℕ) (text : List ℕ) (k : ℕ) → Leads 0 high (outside 0) (outside 0) text
     → depth (take k text) ≤ high
 nests_at high text k s = ⊎_elim
-    (λ (lt : k < length text). (stays_at 0 high (outside 0) text k s.stays lt).1)
+    (λ (lt : k < length text). omega (
+      arith,
+      depth_is (take k text),
+      (stays_at 0 high (outside 0) text k s.stays lt).1,
+    ))
     (λ (le : length text ≤ k). subst (λ (l : List ℕ). depth l ≤ high) (sym (take_all k text le))
-    (omega (arith, ap (λ (p : Place). p.depth) s.ends)))
+    (omega (arith, depth_is text, ap (λ (p : Spot). p.level) s.ends)))
     (cases_lt k (length text))
 
 -- what an object's text is
@@ -342,7 +345,7 @@ text_is_object ms fine nests fits =
     let whole = leads_value (object ms) 0 fine in
     record {
       begins = (omega arith, refl);
-      ends = ap (λ (p : Place). p.depth) whole.ends;
+      ends = sym (depth_is (compact_text (object ms))) ∙ ap (λ (p : Spot). p.level) whole.ends;
       inside = λ k more lt. inside_at (1 + serde.members_depth ms) (members_text false ms) k inner.stays more
           lt;
       nests = λ k. let low = nests_at (0 + serde.depth (object ms)) (compact_text (object ms)) k whole in omega

@@ -6,7 +6,7 @@ use Rattle.std.proofs.lemmas.List.Elements.{All-head, All-tail}
 use Rattle.ovs_wire.specs.declared.error.FrameError.{FrameError}
 use Rattle.ovs_wire.specs.declared.error.FrameError.TheVariants.{NotObject, TooDeep, TooLong, NoMemory}
 use Rattle.ovs_wire.specs.declared.limits.TheConstants.{MAX_MESSAGE_BYTES, MAX_NESTING}
-use Rattle.ovs_wire.specs.Place.{depth}
+use Rattle.ovs_wire.specs.Depth.{depth}
 use Rattle.ovs_wire.specs.Frames.{IsSpace, IsObject, IsUnfinished, HasFault, Breaks, Part, Space, Object, IsPart, bytes_of, joined, objects, Ending, Rest, Fault, EndsAs, AreFrames}
 
 -- of two beginnings of one list the shorter is a beginning of the longer

@@ -3,7 +3,7 @@ use Rattle.std.specs.Prelude.{◌≡◌, ℕ, ◌+◌, ◌<◌, ◌≤◌, ◌�
 use Rattle.ovs_wire.specs.declared.error.FrameError.{FrameError}
 use Rattle.ovs_wire.specs.declared.error.FrameError.TheVariants.{NotObject, TooDeep, TooLong, NoMemory}
 use Rattle.ovs_wire.specs.declared.limits.TheConstants.{MAX_MESSAGE_BYTES, MAX_NESTING}
-use Rattle.ovs_wire.specs.Place.{depth}
+use Rattle.ovs_wire.specs.Depth.{depth}
 
 -- space, tab, CR or LF
 abbrev pub IsSpace : ℕ → Type 0

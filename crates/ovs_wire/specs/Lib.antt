@@ -1,3 +1,4 @@
+pub mod Depth
 pub mod Place
 pub mod Frames
 pub mod Framing

@@ -1,5 +1,5 @@
-ghost use Rattle.std.specs.Prelude.{◌≡◌, ◌≤◌};
-ghost use Rattle.ovs_wire.specs.Place.{start, past};
+ghost use Rattle.std.specs.Prelude.{◌≡◌, ◌≤◌, ◌++◌, ◌∷◌, ℕ, List, []};
+ghost use Rattle.ovs_wire.specs.Place.{place_after};
 
 use crate::limits::MAX_NESTING;
 
@@ -15,7 +15,7 @@ pub(crate) struct Place {
 impl Place {
     /// The place before the first byte of a message.
     pub fn start() -> Place
-        ensures value { result ≡ start }
+        ensures value { result ≡ place_after [] }
     {
         Place {
             quoted: false,
@@ -27,7 +27,7 @@ impl Place {
     /// The place after one more byte.
     pub fn past(self, byte: u8) -> Place
         requires { self.depth ≤ MAX_NESTING }
-        ensures value { result ≡ past self byte }
+        ensures value { (before : List ℕ) → self ≡ place_after before → result ≡ place_after (before ++ byte ∷ []) }
     {
         let Place {
             quoted,

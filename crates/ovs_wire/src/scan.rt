@@ -1,5 +1,5 @@
-ghost use Rattle.std.specs.Prelude.{◌≡◌, ◌≤◌, ◌<◌, ◌↔◌, ℕ, List, length, take, drop, IsTrue, IfOk, IfErr, OnOk};
-ghost use Rattle.ovs_wire.specs.Place.{past, place_after};
+ghost use Rattle.std.specs.Prelude.{◌≡◌, ◌≤◌, ◌<◌, ◌↔◌, ◌++◌, ◌∷◌, [], ℕ, List, length, take, drop, IsTrue, IfOk, IfErr, OnOk};
+ghost use Rattle.ovs_wire.specs.Place.{place_after};
 ghost use Rattle.ovs_wire.specs.Frames.{AreFrames, Breaks, IsSpace, IsUnfinished};
 ghost use Rattle.ovs_wire.specs.Framing.{ending_of};
 
@@ -30,7 +30,8 @@ fn is_space(byte: u8) -> bool
 fn go_on(place: Place, len: usize, byte: u8) -> Result<Place, FrameError>
     requires nests { place.depth ≤ MAX_NESTING }
     requires no_space { len ≡ 0 → IsSpace byte → ⊥ }
-    ensures place { IfOk result (λ next. next ≡ past place byte) }
+    ensures place { IfOk result (λ next. (before : List ℕ) → place ≡ place_after before
+        → next ≡ place_after (before ++ byte ∷ [])) }
     ensures nests { IfOk result (λ next. next.depth ≤ MAX_NESTING) }
     ensures opens { OnOk result (len ≡ 0 → byte ≡ 123) }
     ensures fits { OnOk result (len < MAX_MESSAGE_BYTES) }
