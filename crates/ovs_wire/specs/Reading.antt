@@ -1,5 +1,5 @@
 -- The message that JSON spells, as a function.
-use Rattle.std.specs.Prelude.{ℕ, List, [], ◌∷◌, Option, Some, None, codes, cond, is_none, ◌&&◌, option_map}
+use Rattle.std.specs.Prelude.{ℕ, List, [], ◌∷◌, Option, Some, None, codes, if◌then◌else◌, is_none, ◌&&◌, option_map}
 use Rattle.serde_json.specs.Data.{Data, string, array, Items, no_items, item}
 use Rattle.serde_json.specs.Find.{get}
 use Rattle.ovs_wire.specs.Named.{named}
@@ -22,8 +22,8 @@ called method (Some d) id = None
 called method None id = None
 
 abbrev pub replied : Option Data → Option Data → Data → Option Message
-replied result error id = cond (is_none result && is_none error) None
-    (option_map (Reply (or_null result) (or_null error)) (named id))
+replied result error id = if is_none result && is_none error then None
+    else option_map (Reply (or_null result) (or_null error)) (named id)
 
 -- by the member "method"
 abbrev pub message_by : Option Data → Data → Option Message

@@ -48,21 +48,11 @@ impl Params {
     }
 
     /// Equal params, or `NoMemory` where memory ran out.
+    #[tactic(auto, using(crate::proofs::Lists::copies_view))]
     pub fn copy(&self) -> Result<Params, NoMemory>
         ensures value { IfOk result (λ p. p ≡ self.now) }
     {
-        let values = copied(&self.values)?;
+        let values = self.values.clone()?;
         Ok(Params { values })
     }
-}
-
-fn copied(values: &Vec<Value>) -> Result<Vec<Value>, NoMemory>
-    ensures value { IfOk result (λ v. map view v.items ≡ map view values.now.items) }
-{
-    let mut copies = Vec::with_capacity(*values.allocator(), values.len())?;
-    for value in values {
-        let copy = value.clone()?;
-        copies.push(copy)?;
-    }
-    Ok(copies)
 }
