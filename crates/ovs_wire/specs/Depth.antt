@@ -1,4 +1,4 @@
--- Strings and depth of JSON text. The bytes: 34 is a quote, 91 and 93 are [ and ], 92 is a backslash, 123 and 125 are { and }.
+-- Strings and depth of JSON text. The bytes: 34 is a quote, 92 a backslash, 91 and 93 are [ and ], 123 and 125 { and }.
 use Rattle.std.specs.Prelude.{ℕ, ◌+◌, ◌-◌, ◌==◌, ◌||◌, if◌then◌else◌, Bool, List, [], ◌∷◌, fold}
 
 -- where a byte stands: outside strings, inside one, or inside one and escaped by the backslash before it

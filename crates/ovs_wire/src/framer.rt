@@ -2,6 +2,9 @@ ghost use Rattle.std.specs.Prelude.{◌≡◌, ◌≤◌, ◌++◌, [], length, 
 ghost use Rattle.ovs_wire.specs.Frames.{Fault};
 ghost use Rattle.ovs_wire.specs.Framing.{IsNew, Feeds, Takes, Answers};
 
+#[cfg(test)]
+mod room_tests;
+
 use crate::error::{FrameError, NoMemory};
 use crate::frame::Frame;
 use crate::place::Place;
@@ -13,8 +16,8 @@ use std::marker::Model;
 // The room, in bytes, that is kept for the next message once one is whole.
 const SPARE_ROOM: usize = 4096;
 
-// Puts the messages that were found behind those that wait. A queue less than a quarter full gives back all its room but
-// for twice its length, so that few messages are moved for each that is taken.
+// Puts the messages that were found behind those that wait. A queue less than a quarter full keeps room for twice its
+// length alone, so that few messages are moved for each that is taken.
 fn queue(waiting: &mut VecDeque<Frame>, mut found: VecDeque<Frame>) -> Result<(), NoMemory>
     ensures ok { OnOk result (waiting.new.items ≡ waiting.old.items ++ found.items) }
     ensures err { OnErr result (waiting.new.items ≡ waiting.old.items) }

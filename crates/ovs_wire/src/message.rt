@@ -43,8 +43,8 @@ impl Message {
 
     /// The message that a text spells. Members that it doesn't know are ignored.
     ///
-    /// - `NotJson`: `serde_json` reads no value from the bytes: they are no JSON text in UTF-8, nest deeper than 127, or
-    ///   have a number too large for a double or an escaped surrogate without its pair.
+    /// - `NotJson`: `serde_json` reads no value from the bytes: they are no JSON text in UTF-8, nest deeper than 127,
+    ///   or have a number too large for a double or an escaped surrogate without its pair.
     /// - `BadShape`: the JSON is no message.
     /// - `NoMemory`: memory ran out, perhaps before a fault was found.
     #[tactic(auto, using(crate::proofs::Lists::items_again, crate::proofs::Lists::list_again))]
