@@ -132,17 +132,10 @@ fn updates_json(
     ensures value { IfOk result (λ o. option_map view o ≡ updates_json table.now.columns (actions_in number change.now)) }
     ensures spelled { IfOk result (λ o. IsSpelledTable change.now (number, table.now)) }
 {
-    let first = Place {
-        table: number,
-        id: RowId::zero(),
-    };
-    let next = Place {
-        table: number + 1,
-        id: RowId::zero(),
-    };
+    let places = Place::first(number)..Place::first(number + 1);
     let columns = table.columns.as_slice();
     let mut members = Map::new(alloc);
-    for (place, action) in change.as_map().range(first..next) {
+    for (place, action) in change.as_map().range(places) {
         let update = action_json(alloc, columns, action)?;
         let name = id_text(alloc, place.id.value())?;
         put(alloc, &mut members, name.as_str(), update)?;

@@ -60,16 +60,9 @@ fn table_json(alloc: Global, rows: &RowMap, number: usize, table: &Table) -> Res
     requires rows { (p : Place) (r : Row) → get rows.now p ≡ Some r → p.table ≡ number → AreDataOf table.now.columns r.columns }
     ensures value { IfOk result (λ v. view v ≡ table_json rows.now (number, table.now)) }
 {
-    let first = Place {
-        table: number,
-        id: RowId::zero(),
-    };
-    let next = Place {
-        table: number + 1,
-        id: RowId::zero(),
-    };
+    let places = Place::first(number)..Place::first(number + 1);
     let mut members = Map::new(alloc);
-    for (place, row) in rows.as_map().range(first..next) {
+    for (place, row) in rows.as_map().range(places) {
         let row = row_json(alloc, table.columns.as_slice(), row)?;
         put(alloc, &mut members, place.id.to_text(alloc)?.as_str(), row)?;
     }

@@ -15,7 +15,7 @@ use Rattle.ovs_rows.proofs.change_writing.updates_json.Goals as goal
 pub loop-place-init : goal.loop-place-init
 loop-place-init c =
     let items : c.into_iter-place-iterator.result ≡ actions_in c.args.number c.args.change.now
-    = c.into_iter-place-iterator.ensures.into_iter_gives ∙ rw (c.zero.ensures.zero, c.zero-2.ensures.zero) at (c.range-place-items.ensures.between tt)
+    = c.into_iter-place-iterator.ensures.into_iter_gives ∙ rw (c.first.ensures.value, c.first-2.ensures.value) at (c.range-place-items.ensures.between tt)
     ∙ ap (entries_between place_cmp (Included (record { table = c.args.number; id = 0 })) (Excluded (record { table = c.args.number + 1; id = 0 }))) c.as_map.ensures.value
     ∙ entries_between_table c.args.number (entries c.args.change.now) in
     updates_start c.args.table.now.columns c.args.change.now c.args.number c.requires.actions c.into_iter-place-iterator.result (members_view c.new-members.result.entries) items (ap members_view c.new-members.ensures.empty)
