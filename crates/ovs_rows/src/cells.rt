@@ -7,7 +7,7 @@ ghost use Rattle.ovs_rows.specs.Faults.{Gives, in_change};
 ghost use Rattle.ovs_rows.specs.Cells.{kept, read_cell, no_cells, read_cells, value_or_default, data_of};
 
 use crate::error::ChangeError;
-use ovs_types::{Column, Datum, DatumError, NamedColumn, NoMemory, column_named};
+use ovs_types::{Column, Datum, DatumError, NamedColumn, NamedColumns, NoMemory};
 use serde_json::{Map, Value};
 use std::alloc::Global;
 
@@ -51,7 +51,7 @@ fn kept(purpose: Purpose, column: &Column, datum: Datum) -> Option<Datum>
 fn read_cell(
     alloc: Global,
     purpose: Purpose,
-    columns: &[NamedColumn],
+    columns: &NamedColumns,
     mut cells: Vec<Option<Datum>>,
     name: &str,
     value: &Value,
@@ -60,7 +60,7 @@ fn read_cell(
     ensures exact { Gives (λ v. v.items) result (read_cell purpose columns.now cells.items name.now (view value.now)) }
     ensures length { IfOk result (λ v. length v.items ≡ length columns.now) }
 {
-    let Some((number, column)) = column_named(columns, name) else {
+    let Some((number, column)) = columns.find(name) else {
         return Err(ChangeError::NoColumn);
     };
     let datum = read_datum(alloc, value, &column)?;
@@ -82,12 +82,12 @@ fn no_cells(alloc: Global, columns: &[NamedColumn]) -> Result<Vec<Option<Datum>>
 pub(crate) fn read_cells(
     alloc: Global,
     purpose: Purpose,
-    columns: &[NamedColumn],
+    columns: &NamedColumns,
     members: &Map<String, Value>,
 ) -> Result<Vec<Option<Datum>>, ChangeError>
     ensures exact { Gives (λ v. v.items) result (read_cells purpose columns.now (members_view members.now.entries)) }
 {
-    let mut cells = no_cells(alloc, columns)?;
+    let mut cells = no_cells(alloc, columns.as_slice())?;
     for (name, value) in members.iter() {
         cells = read_cell(alloc, purpose, columns, cells, name.as_str(), value)?;
     }

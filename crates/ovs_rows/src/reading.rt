@@ -16,21 +16,21 @@ use crate::error::ChangeError;
 use crate::place::Place;
 use crate::places::Places;
 use crate::row::Columns;
-use ovs_types::{Datum, NamedColumn, NoMemory, RowId, Schema, Table, table_named};
+use ovs_types::{Datum, NamedColumns, NoMemory, RowId, Schema};
 use serde_json::{Map, Value};
 use std::alloc::Global;
 
-fn read_insert(alloc: Global, columns: &[NamedColumn], value: &Value) -> Result<Action, ChangeError>
+fn read_insert(alloc: Global, columns: &NamedColumns, value: &Value) -> Result<Action, ChangeError>
     ensures exact { Gives (λ a. a) result (read_insert columns.now (view value.now)) }
 {
     let Some(row) = value.as_object() else {
         return Err(ChangeError::BadKind);
     };
     let cells = read_cells(alloc, Purpose::Whole, columns, row)?;
-    Ok(Action::Insert(Columns::new(data_of(alloc, columns, cells)?)))
+    Ok(Action::Insert(Columns::new(data_of(alloc, columns.as_slice(), cells)?)))
 }
 
-fn read_modify(alloc: Global, columns: &[NamedColumn], value: &Value) -> Result<Action, ChangeError>
+fn read_modify(alloc: Global, columns: &NamedColumns, value: &Value) -> Result<Action, ChangeError>
     ensures exact { Gives (λ a. a) result (read_modify columns.now (view value.now)) }
 {
     let Some(row) = value.as_object() else {
@@ -41,7 +41,7 @@ fn read_modify(alloc: Global, columns: &[NamedColumn], value: &Value) -> Result<
 }
 
 // What a row update makes of its row. It has exactly one of the four members.
-fn read_action(alloc: Global, columns: &[NamedColumn], value: &Value) -> Result<Action, ChangeError>
+fn read_action(alloc: Global, columns: &NamedColumns, value: &Value) -> Result<Action, ChangeError>
     ensures exact { Gives (λ a. a) result (read_action columns.now (view value.now)) }
 {
     match (
@@ -123,7 +123,7 @@ impl NamedRows {
 fn read_row(
     alloc: Global,
     table: usize,
-    columns: &[NamedColumn],
+    columns: &NamedColumns,
     rows: NamedRows,
     name: &str,
     value: &Value,
@@ -144,7 +144,7 @@ fn read_row(
 fn read_rows(
     alloc: Global,
     table: usize,
-    columns: &[NamedColumn],
+    columns: &NamedColumns,
     mut rows: NamedRows,
     members: &Map<String, Value>,
 ) -> Result<NamedRows, ChangeError>
@@ -158,43 +158,43 @@ fn read_rows(
 
 fn read_table(
     alloc: Global,
-    tables: &[Table],
+    schema: &Schema,
     rows: NamedRows,
     name: &str,
     value: &Value,
 ) -> Result<NamedRows, ChangeError>
-    ensures exact { Gives (λ r. r) result (read_table tables.now rows name.now (view value.now)) }
+    ensures exact { Gives (λ r. r) result (read_table schema.now.description.tables rows name.now (view value.now)) }
 {
-    let Some((number, table)) = table_named(tables, name) else {
+    let Some((number, table)) = schema.table(name) else {
         return Err(ChangeError::NoTable);
     };
     let Some(members) = value.as_object() else {
         return Err(ChangeError::BadKind);
     };
-    read_rows(alloc, number, table.columns.as_slice(), rows, members)
+    read_rows(alloc, number, &table.columns, rows, members)
 }
 
 fn read_tables(
     alloc: Global,
-    tables: &[Table],
+    schema: &Schema,
     members: &Map<String, Value>,
 ) -> Result<NamedRows, ChangeError>
-    ensures exact { Gives (λ r. r) result (read_tables tables.now (members_view members.now.entries)) }
+    ensures exact { Gives (λ r. r) result (read_tables schema.now.description.tables (members_view members.now.entries)) }
 {
     let mut rows = NamedRows::new(alloc);
     for (name, value) in members.iter() {
-        rows = read_table(alloc, tables, rows, name.as_str(), value)?;
+        rows = read_table(alloc, schema, rows, name.as_str(), value)?;
     }
     Ok(rows)
 }
 
-fn change_of(alloc: Global, value: &Value, tables: &[Table]) -> Result<Change, ChangeError>
-    ensures exact { Gives (λ c. c) result (read_change tables.now (view value.now)) }
+fn change_of(alloc: Global, value: &Value, schema: &Schema) -> Result<Change, ChangeError>
+    ensures exact { Gives (λ c. c) result (read_change schema.now.description.tables (view value.now)) }
 {
     let Some(members) = value.as_object() else {
         return Err(ChangeError::BadKind);
     };
-    let rows = read_tables(alloc, tables, members)?;
+    let rows = read_tables(alloc, schema, members)?;
     Ok(Change::new(alloc, rows.actions)?)
 }
 
@@ -231,7 +231,7 @@ impl Change {
         // It is a change of rows of the schema's tables.
         ensures tables { IfOk result (IsChangeOf schema.now.description.tables) }
     {
-        change_of(alloc, value, schema.tables())
+        change_of(alloc, value, schema)
     }
 }
 

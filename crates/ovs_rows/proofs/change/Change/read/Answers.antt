@@ -11,19 +11,19 @@ pub returns-clause-found : goal.returns-clause-found
 returns-clause-found c =
     let tables = c.args.schema.now.description.tables in
     let d = view c.args.value.now in
-    of_read (Spells tables d) tables d (found tables d) c.change_of.result (rw c.tables.ensures.all at c.change_of.ensures.exact)
+    of_read (Spells tables d) tables d (found tables d) c.change_of.result c.change_of.ensures.exact
 
 pub returns-clause-only : goal.returns-clause-only
-returns-clause-only c = is_only c.args.schema.now.description.tables (view c.args.value.now) c.change_of.result (rw c.tables.ensures.all at c.change_of.ensures.exact)
+returns-clause-only c = is_only c.args.schema.now.description.tables (view c.args.value.now) c.change_of.result c.change_of.ensures.exact
 
 pub returns-clause-tables : goal.returns-clause-tables
 returns-clause-tables c =
     let tables = c.args.schema.now.description.tables in
     let d = view c.args.value.now in
-    of_read (IsChangeOf tables) tables d (λ x read. of_tables tables d x (found tables d x read)) c.change_of.result (rw c.tables.ensures.all at c.change_of.ensures.exact)
+    of_read (IsChangeOf tables) tables d (λ x read. of_tables tables d x (found tables d x read)) c.change_of.result c.change_of.ensures.exact
 
 pub returns-clause-meaning : goal.returns-clause-meaning
 returns-clause-meaning c =
     let tables = c.args.schema.now.description.tables in
     let d = view c.args.value.now in
-    of_read (Means tables d) tables d (λ x read. means tables d x (found tables d x read)) c.change_of.result (rw c.tables.ensures.all at c.change_of.ensures.exact)
+    of_read (Means tables d) tables d (λ x read. means tables d x (found tables d x read)) c.change_of.result c.change_of.ensures.exact
