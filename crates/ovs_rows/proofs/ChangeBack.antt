@@ -3,7 +3,7 @@ use Rattle.std.proofs.Common.{◌≡◌, ℕ, suc, ◌+◌, ◌<◌, ◌^◌, Li
 use Rattle.std.specs.Prelude.{fold, option_map, IfOk, slice_get, ◌==◌, is_some, ◌||◌}
 use Rattle.std.specs.List.{AllByRecursion, enumerate_from, filter_map, cons_option}
 use Rattle.std.specs.List.Sorted.{IsStrictlySortedBy}
-use Rattle.std.specs.FinMap.{get, insert, empty, entries, is_sorted, get-empty, get-entries, entries_sorted, contains_key, same_map}
+use Rattle.std.specs.FinMap.{get, insert, empty, entries, is_sorted, get-empty, get-entries, entries_sorted, same_map}
 use Rattle.std.specs.FinSet as set
 use Rattle.std.proofs.lemmas.Bool.{cases_order, eqb-true, eq-eqb, ne_eqb}
 use Rattle.std.proofs.lemmas.Bool.Decides.{nat_tests}

@@ -23,7 +23,7 @@ use Rattle.ovs_rows.specs.declared.place.Place.{Place}
 use Rattle.ovs_rows.specs.declared.change.Action.{Action}
 use Rattle.ovs_rows.specs.declared.change.Action.TheVariants.{Insert, Delete, Modify}
 use Rattle.ovs_rows.specs.Change.{Actions, IsActionOf}
-use Rattle.ovs_rows.specs.ChangeWriting.{beside_default, as_edited, insert_json, modify_json, cell_member, cell_members, with_some, action_json, actions_in, update_member, updates_json, table_update, change_json, IsSpelled, AreSpelled, IsSpelledUpdate, IsSpelledTable}
+use Rattle.ovs_rows.specs.ChangeWriting.{beside_default, as_edited, insert_json, modify_json, cell_member, cell_members, with_some, action_json, actions_in, update_member, updates_json, table_update, change_json, AreSpelled, IsSpelledUpdate, IsSpelledTable}
 use Rattle.ovs_rows.specs.Place.{place_total, place_exact}
 use Rattle.ovs_rows.specs.Writing.{with_member, object_of}
 use Rattle.ovs_rows.proofs.Maps.{All-entries}

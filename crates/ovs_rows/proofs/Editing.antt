@@ -1,9 +1,8 @@
 -- The data of a row, edited one after the other: nothing is left where one of the three lists is at its end.
-use Rattle.std.proofs.Common.{◌≡◌, List, [], ◌∷◌, ◌++◌, Option, None, refl, sym, ap, ◌∙◌, ◌⊎◌, inl, inr}
+use Rattle.std.proofs.Common.{◌≡◌, List, [], ◌∷◌, ◌++◌, Iter, Option, None, refl, sym, ap, ◌∙◌, ◌⊎◌, inl, inr}
 use Rattle.std.specs.declared.iter.Zip.{Zip}
 use Rattle.std.specs.Iterator.Adapters.{zip_first, zip_second}
 use Rattle.std.specs.Slice.Iter.{iter_rest}
-use Rattle.std.proofs.Common.{Iter}
 use Rattle.std.proofs.iter.Yields.{fronts}
 use Rattle.std.proofs.lemmas.Iterator.{zips}
 use Rattle.std.proofs.lemmas.List.{append-nil, nil_from_length}

@@ -20,7 +20,6 @@ use Rattle.ovs_types.specs.declared.datum.Datum.{Datum}
 use Rattle.ovs_types.specs.declared.schema.NamedColumn.{NamedColumn}
 use Rattle.ovs_types.specs.declared.schema.Table.{Table}
 use Rattle.ovs_types.specs.Id.{id_text}
-use Rattle.ovs_types.specs.Writing.{datum_json}
 use Rattle.ovs_types.proofs.Writings.{has_float-datum}
 use Rattle.ovs_rows.specs.declared.place.Place.{Place}
 use Rattle.ovs_rows.specs.declared.row.Row.{Row}

@@ -57,6 +57,7 @@ no_rows_named = record { actions = empty; untouched = set.empty }
 abbrev pub is_named : NamedRows → Place → Bool
 is_named rows p = contains_key rows.actions p || set.contains rows.untouched p
 
+-- with one row more: its action, or its place alone where nothing becomes of it
 abbrev pub with_row : NamedRows → Place → Action → NamedRows
 with_row rows p a =
     if is_idle a
