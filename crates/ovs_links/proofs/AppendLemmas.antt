@@ -1,6 +1,6 @@
 -- A link that is folded and was never parked.
 use Rattle.std.proofs.Common.{◌≡◌, ℕ, ◌<◌, true, List, [], ◌∷◌, ◌++◌, length, sym, ◌∙◌, ap, subst, arith, Some, None, Option, refl}
-use Rattle.std.proofs.lemmas.List.{append-nil}
+use Rattle.std.proofs.lemmas.List.Sorted.{IsPermutation-to_front}
 use Rattle.std.specs.Ordering.{nat_cmp}
 use Rattle.std.specs.FinMap.{FinMap, insert, len}
 use Rattle.ovs_types.specs.declared.txn_id.TxnId.{TxnId}
@@ -17,9 +17,9 @@ use Rattle.ovs_links.specs.declared.link.Link.{Link}
 use Rattle.ovs_links.specs.declared.answer.Settled.TheVariants.{Done}
 use Rattle.ovs_links.specs.declared.scan.Beside.{Beside}
 use Rattle.ovs_links.specs.declared.scan.Beside.TheVariants.{Id}
-use Rattle.ovs_links.proofs.SetLemmas.{get-from_links, len-from_links, find_key_is, same_links_moved}
+use Rattle.ovs_links.proofs.SetLemmas.{get-from_links, len-from_links, find_key_is}
 use Rattle.ovs_links.proofs.BesideLemmas.{none_by_id}
-use Rattle.ovs_links.proofs.KeptLemmas.{kept_moved, kept_rows}
+use Rattle.ovs_links.proofs.KeptLemmas.{kept_rows, kept_step, links_step}
 use Rattle.ovs_links.proofs.TakeLemmas.{none_id, kept_push, links_push}
 
 -- a prev that no held link has isn't found
@@ -71,11 +71,11 @@ pushed chain parked f l k n = kept_push chain parked f l k n.none_prev n.none_id
 pub kept_append : (chain parked : List Link) (f : FoldedValue) (l : Link) → IsKept chain parked f
     → IsNext chain parked f l → IsKept (chain ++ l ∷ []) parked (folded_with f l)
 kept_append chain parked f l k n =
-    subst (λ (x : List Link). IsKept (chain ++ l ∷ []) x (folded_with f l)) (append-nil parked) (kept_moved chain parked l [] f (pushed chain parked f l k n) n.next n.fit)
+    kept_step chain (parked ++ l ∷ []) parked l f (IsPermutation-to_front parked l) (pushed chain parked f l k n) n.next n.fit
 
 pub links_append : (chain parked : List Link) (f : FoldedValue) (l : Link) → IsKept chain parked f
     → IsNext chain parked f l
     → from_links ((chain ++ l ∷ []) ++ parked) ≡ insert (from_links (chain ++ parked)) l.prev l
 links_append chain parked f l k n =
-    ap (λ (x : List Link). from_links ((chain ++ l ∷ []) ++ x)) (sym (append-nil parked))
-    ∙ same_links_moved chain parked l [] (pushed chain parked f l k n).prevs ∙ links_push chain parked l n.none_prev
+    links_step chain (parked ++ l ∷ []) parked l f (IsPermutation-to_front parked l) (pushed chain parked f l k n)
+    ∙ links_push chain parked l n.none_prev

@@ -1,25 +1,37 @@
 -- Chains of a consistent set of links.
-use Rattle.std.proofs.Common.{◌≡◌, ℕ, zero, suc, ◌-◌, ◌<◌, ◌≤◌, true, List, [], ◌∷◌, ◌++◌, length, get_or, take, refl, sym, ◌∙◌, ap, subst, arith, ⊎_elim, length-append, append_assoc}
+use Rattle.std.proofs.Common.{◌≡◌, ℕ, zero, suc, ◌-◌, ◌<◌, ◌≤◌, true, List, [], ◌∷◌, ◌++◌, length, get_or, take, refl, sym, ◌∙◌, ap, subst, arith, ⊎_elim, length-append, append_assoc, Some}
 use Rattle.std.proofs.lemmas.List.{append-nil}
 use Rattle.std.proofs.lemmas.Bool.{cases_lt}
+use Rattle.std.specs.Ordering.{nat_cmp}
+use Rattle.std.specs.FinMap.{FinMap, get}
 use Rattle.ovs_types.specs.declared.schema.Table.{Table}
 use Rattle.ovs_rows.specs.Row.{Rows}
 use Rattle.ovs_rows.specs.After.{fits, after}
 use Rattle.ovs_links.specs.Link.{IsStart}
-use Rattle.ovs_links.specs.Sets.{AllOf, IsConsistent}
+use Rattle.ovs_links.specs.Sets.{AllOf, IsConsistent, Holds}
 use Rattle.ovs_links.specs.Chains.{JoinUp, head_after, rows_after, IsChain, IsLongestChain, IsPrefixOf}
 use Rattle.ovs_links.specs.Steps.{step_of, steps_of}
 use Rattle.ovs_links.specs.Kept.{IsSound}
 use Rattle.ovs_links.specs.declared.link.Link.{Link}
 
+-- links of the set that share prev are the same
+abbrev pub IsByPrev : (Link → Type 0) → Type 0
+IsByPrev S = (l m : Link) → S l → S m → l.prev ≡ m.prev → l ≡ m
+
+pub holds_by_prev : (m : FinMap nat_cmp Link) → IsByPrev (Holds m)
+holds_by_prev m l k a b e = same_Some l k (sym a ∙ ap (λ (p : ℕ). get m p) e ∙ b)
+  where
+    same_Some : (l k : Link) → Some l ≡ Some k → l ≡ k
+    same_Some l k e = cc
+
 -- of two chains from one place, the shorter is a prefix of the longer
-pub chain_prefix : (S : Link → Type 0) → IsConsistent S
+pub chain_prefix : (S : Link → Type 0) → IsByPrev S
     → (ts : List Table) (from : ℕ) (rows : Rows) (ms ls : List Link) → AllOf S ms → AllOf S ls
     → JoinUp ts from rows ms → JoinUp ts from rows ls → length ms ≤ length ls → IsPrefixOf ms ls
 chain_prefix S k ts from rows [] ls a b j h n = (ls, refl)
 chain_prefix S k ts from rows (m ∷ ms) [] a b j h n = absurd (omega arith)
 chain_prefix S k ts from rows (m ∷ ms) (l ∷ ls) a b j h n =
-    let same : m ≡ l = k.by_prev m l a.0 b.0 (j.0 ∙ sym h.0) in
+    let same : m ≡ l = k m l a.0 b.0 (j.0 ∙ sym h.0) in
     let P : Link → Type 0 = λ x. JoinUp ts x.id (after ts rows x.change x.id) ls in
     let t = chain_prefix S k ts m.id (after ts rows m.change m.id) ms ls a.1 b.1 j.2 (subst P (sym same) h.2) (omega arith) in
     (t.0, ap (λ (x : List Link). m ∷ x) t.1 ∙ ap (λ (x : Link). x ∷ ls) same)
@@ -85,7 +97,7 @@ pub prefix_push : (xs ys : List Link) (l : Link) → IsPrefixOf xs ys → IsPref
 prefix_push xs ys l p = (p.0 ++ l ∷ [], sym (append_assoc xs p.0 (l ∷ [])) ∙ ap (λ (x : List Link). x ++ l ∷ []) p.1)
 
 -- a chain is longest where no link of the set follows it and fits
-pub longest_from_no_next : (S : Link → Type 0) → IsConsistent S
+pub longest_from_no_next : (S : Link → Type 0) → IsByPrev S
     → (ts : List Table) (start : ℕ) (opening : Rows) (ls : List Link) → IsChain ts start opening S ls
     → ((l : Link) → S l → l.prev ≡ head_after start ls → fits (rows_after ts opening ls) l.change ≡ true → ⊥)
     → IsLongestChain ts start opening S ls
@@ -104,7 +116,7 @@ longest_from_no_next S k ts start opening ls c none =
         absurd (none l (AllOf-right S ls (l ∷ rest) m).0 n.0 n.1)
 
 -- there is one longest chain
-pub longest_unique : (S : Link → Type 0) → IsConsistent S
+pub longest_unique : (S : Link → Type 0) → IsByPrev S
     → (ts : List Table) (start : ℕ) (opening : Rows) (ls ms : List Link) → IsLongestChain ts start opening S ls
     → IsLongestChain ts start opening S ms → ls ≡ ms
 longest_unique S k ts start opening ls ms c d =
@@ -134,14 +146,14 @@ JoinUp-first : (ts : List Table) (from : ℕ) (rows : Rows) (ls : List Link) (d 
 JoinUp-first ts from rows [] d n j = absurd (omega arith)
 JoinUp-first ts from rows (l ∷ ls) d n j = j.0
 
-JoinUp-at : (ts : List Table) (from : ℕ) (rows : Rows) (ls : List Link) (d : Link) (k : ℕ) → suc k < length ls
+pub JoinUp-at : (ts : List Table) (from : ℕ) (rows : Rows) (ls : List Link) (d : Link) (k : ℕ) → suc k < length ls
     → JoinUp ts from rows ls → (get_or ls (suc k) d).prev ≡ (get_or ls k d).id
 JoinUp-at ts from rows [] d k n j = absurd (omega arith)
 JoinUp-at ts from rows (l ∷ ls) d zero n j = JoinUp-first ts l.id (after ts rows l.change l.id) ls d (omega arith) j.2
 JoinUp-at ts from rows (l ∷ ls) d (suc k) n j = JoinUp-at ts l.id (after ts rows l.change l.id) ls d k (omega arith) j.2
 
 -- no id stands as the prev of the same link or of an earlier one
-no_way_back : (S : Link → Type 0) → IsConsistent S → (ts : List Table) (start : ℕ) (opening : Rows) → IsStart start
+pub no_way_back : (S : Link → Type 0) → IsConsistent S → (ts : List Table) (start : ℕ) (opening : Rows) → IsStart start
     → (ls : List Link) → AllOf S ls → AllOf IsSound ls → JoinUp ts start opening ls → (d : Link) (i j : ℕ) → i ≤ j
     → j < length ls → (get_or ls j d).id ≡ (get_or ls i d).prev → ⊥
 no_way_back S k ts start opening below ls a s h d zero j le lt e =

@@ -117,7 +117,7 @@ no_longer ts start opening h k ms a j = ⊎_elim (λ (n : length (links_of ts st
     longer : length (links_of ts start opening h) < length ms → length ms ≤ length (links_of ts start opening h)
     longer n =
         let all = links_of ts start opening h in
-        let t = chain_prefix (Among all) (history_consistent ts start opening h k.below k.history) ts start opening all ms (all_among all) a (history_joins ts start opening h k.history.commits) j (omega arith) in
+        let t = chain_prefix (Among all) (history_consistent ts start opening h k.below k.history).by_prev ts start opening all ms (all_among all) a (history_joins ts start opening h k.history.commits) j (omega arith) in
         by_rest t.0 t.1 n
 
 length-take : (n : ℕ) (ls : List Link) → n ≤ length ls → length (take n ls) ≡ n
@@ -142,7 +142,7 @@ history_prefix : (ts : List Table) (start : ℕ) (opening : Rows) (h : List Comm
     → take (length ms) (links_of ts start opening h) ≡ ms
 history_prefix ts start opening h ms k a j =
     let all = links_of ts start opening h in
-    let t = chain_prefix (Among all) (history_consistent ts start opening h k.below k.history) ts start opening ms all a (all_among all) j (history_joins ts start opening h k.history.commits) (no_longer ts start opening h k ms a j) in
+    let t = chain_prefix (Among all) (history_consistent ts start opening h k.below k.history).by_prev ts start opening ms all a (all_among all) j (history_joins ts start opening h k.history.commits) (no_longer ts start opening h k ms a j) in
     ap (λ (x : List Link). take (length ms) x) (sym t.1) ∙ take_at ms t.0 (length ms) refl
 
 -- a longest chain of a history's links is as long as the set has all of the history

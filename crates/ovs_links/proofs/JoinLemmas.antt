@@ -27,7 +27,7 @@ get-join s t q =
     get-from_entries nat_cmp_total (entries s ++ entries t) q ∙ find-append q (entries s) (entries t)
     ∙ ap (λ (o : Option Link). option_or o (entry.find nat_cmp q (entries t))) (sym (get-entries s q)) ∙ ap (λ (o : Option Link). option_or (get s q) o) (sym (get-entries t q))
 
-same_links : (s t : Links) → ((q : ℕ) → get s q ≡ get t q) → s ≡ t
+pub same_links : (s t : Links) → ((q : ℕ) → get s q ≡ get t q) → s ≡ t
 same_links s t h = same_map nat_cmp_total nat_cmp-IsAntisymmetric s t h
 
 or_assoc : (a b c : Option Link) → option_or (option_or a b) c ≡ option_or a (option_or b c)
@@ -180,7 +180,7 @@ len_append (x ∷ xs) ys =
     at_least true n = omega arith
     at_least false n = omega arith
 
-len_join_right : (s t : Links) → len t ≤ len (join s t)
+pub len_join_right : (s t : Links) → len t ≤ len (join s t)
 len_join_right s t = subst (λ (x : Links). len x ≤ len (join s t)) (from_entries_itself t) (len_append (entries s) (entries t))
 
 -- ---- both groupings of three

@@ -1,8 +1,8 @@
 -- The lists of a store, and one more folded or parked link.
-use Rattle.std.proofs.Common.{◌≡◌, ◌≢◌, ℕ, zero, suc, ◌<◌, true, false, eqb, List, [], ◌∷◌, ◌++◌, length, get_or, take, drop, remove, refl, sym, ◌∙◌, ap, subst, arith, ⊎_elim, length-append, Some, None, Option, cond}
-use Rattle.std.proofs.lemmas.List.{take-append-drop}
+use Rattle.std.proofs.Common.{◌≡◌, ℕ, ◌<◌, ◌≤◌, true, false, eqb, List, [], ◌∷◌, ◌++◌, length, get_or, refl, sym, ◌∙◌, ap, subst, arith, length-append, append_assoc, Some, None, Option}
+use Rattle.std.proofs.lemmas.List.Sorted.{length_permutation, IsPermutation-append_right}
 use Rattle.std.proofs.lemmas.List.Folds.{find-append}
-use Rattle.std.proofs.lemmas.Bool.{cases_eq, eq-eqb, ne_eqb}
+use Rattle.std.specs.List.Sorted.{IsPermutation}
 use Rattle.std.specs.Option.{option_or}
 use Rattle.ovs_types.specs.declared.schema.Schema.{Schema}
 use Rattle.ovs_rows.specs.Row.{Rows, no_rows}
@@ -10,15 +10,16 @@ use Rattle.ovs_rows.specs.After.{fits}
 use Rattle.ovs_links.specs.Sets.{AllOf, Holds, IsConsistent, IsOfTables}
 use Rattle.ovs_links.specs.Chains.{IsChain, head_after, rows_after}
 use Rattle.ovs_links.specs.Steps.{FoldedValue, folded_of, folded_with, step_of, steps_of}
-use Rattle.ovs_links.specs.Store.{IsStore, IsChainOf, rows_of}
-use Rattle.ovs_links.specs.Kept.{IsKept, IsSound, stored_of, from_links, find_prev}
+use Rattle.ovs_links.specs.Store.{IsStore, IsChainOf, max_links, rows_of}
+use Rattle.ovs_links.specs.Kept.{IsKept, IsSound, stored_of, from_links, find_prev, count_key}
 use Rattle.ovs_links.specs.Answers.{SettlesAs}
 use Rattle.ovs_links.specs.declared.link.Link.{Link}
 use Rattle.ovs_links.specs.declared.step.Step.{Step}
 use Rattle.ovs_links.specs.declared.answer.Settled.{Settled}
 use Rattle.ovs_links.specs.declared.answer.Settled.TheVariants.{Done, Stuck}
-use Rattle.ovs_links.proofs.ChainLemmas.{AllOf-append, AllOf-left, AllOf-right, AllOf-weaker, AllOf-at, JoinUp-append, rows_after-append, steps_of-push, chain_prefix, none_follows, longest_from_no_next}
-use Rattle.ovs_links.proofs.SetLemmas.{In, get-from_links, len-from_links, count_moved, same_links_moved, In_consistent, AllOf_In, find_key_is}
+use Rattle.ovs_links.proofs.ChainLemmas.{AllOf-append, AllOf-left, AllOf-right, AllOf-weaker, AllOf-at, JoinUp-append, rows_after-append, steps_of-push, chain_prefix, none_follows, longest_from_no_next, holds_by_prev}
+use Rattle.ovs_links.proofs.SetLemmas.{In, get-from_links, len-from_links, In_consistent, AllOf_In, find_key_is, place_of, AllOf-found}
+use Rattle.ovs_links.proofs.ShuffleLemmas.{AllOf-shuffled, count_shuffled, links_shuffled}
 
 not_Some : (x : Link) → Some x ≡ None → ⊥
 not_Some x e = cc
@@ -39,49 +40,50 @@ pub kept_rows : (chain parked : List Link) (f : FoldedValue) → IsKept chain pa
     → f.database.rows ≡ rows_of (stored_of chain parked f)
 kept_rows chain parked f k = ap (λ (x : FoldedValue). x.database.rows) k.folded
 
-pub kept_moved : (a b : List Link) (l : Link) (c : List Link) (f : FoldedValue) → IsKept a (b ++ l ∷ c) f
-    → l.prev ≡ head_after 0 a → fits f.database.rows l.change ≡ true
-    → IsKept (a ++ l ∷ []) (b ++ c) (folded_with f l)
-kept_moved a b l c f k e fit =
-    let ts = f.database.schema.description.tables in
-    let fits_there : fits (rows_after ts no_rows a) l.change ≡ true = subst (λ (x : Rows). fits x l.change ≡ true) (kept_rows a (b ++ l ∷ c) f k) fit in
+-- the parked links in another order
+kept_shuffled : (chain xs ys : List Link) (f : FoldedValue) → IsPermutation xs ys → IsKept chain xs f
+    → IsKept chain ys f
+kept_shuffled chain xs ys f s k =
+    let all = IsPermutation-append_right chain xs ys s in
     record {
-      prevs = λ p. let h = k.prevs p in omega (arith, count_moved (λ l. l.prev) p a b l c);
-      ids = λ p. let h = k.ids p in omega (arith, count_moved (λ l. l.id) p a b l c);
-      sound = all_moved IsSound k.sound;
-      changes = all_moved (IsOfTables ts) k.changes;
-      joined = JoinUp-append ts 0 no_rows a (l ∷ []) k.joined (e, fits_there, tt);
-      folded = ap (λ (x : FoldedValue). folded_with x l) k.folded ∙ folded_of-push f.database.schema a l;
-      few = let h = k.few in simp length-append (omega (arith, simp length-append at h));
+      prevs = λ p. omega (arith, k.prevs p, count_shuffled (λ l. l.prev) p (chain ++ xs) (chain ++ ys) all);
+      ids = λ i. omega (arith, k.ids i, count_shuffled (λ l. l.id) i (chain ++ xs) (chain ++ ys) all);
+      sound = AllOf-shuffled IsSound (chain ++ xs) (chain ++ ys) all k.sound;
+      changes = AllOf-shuffled (IsOfTables f.database.schema.description.tables) (chain ++ xs) (chain ++ ys) all k.changes;
+      joined = k.joined;
+      folded = k.folded;
+      few = omega (arith, k.few, length_permutation (chain ++ xs) (chain ++ ys) all);
     }
-  where
-    all_moved : (S : Link → Type 0) → AllOf S (a ++ (b ++ l ∷ c)) → AllOf S ((a ++ l ∷ []) ++ (b ++ c))
-    all_moved S s =
-        let sb = AllOf-right S a (b ++ l ∷ c) s in
-        AllOf-append S (a ++ l ∷ []) (b ++ c) (AllOf-append S a (l ∷ []) (AllOf-left S a (b ++ l ∷ c) s) ((AllOf-right S b (l ∷ c) sb).0, tt)) (AllOf-append S b c (AllOf-left S b (l ∷ c) sb) (AllOf-right S b (l ∷ c) sb).1)
 
-split_at_place : (xs : List Link) (k : ℕ) (d : Link) → k < length xs → take k xs ++ get_or xs k d ∷ drop (suc k) xs ≡ xs
-split_at_place xs k d lt = ap (λ (t : List Link). take k xs ++ t) (sym (drop_more_suc xs k d lt)) ∙ take-append-drop k xs
-  where
-    drop_more_suc : (xs : List Link) (k : ℕ) (d : Link) → k < length xs → drop k xs ≡ get_or xs k d ∷ drop (suc k) xs
-    drop_more_suc [] k d lt = absurd (omega arith)
-    drop_more_suc (x ∷ xs) zero d lt = refl
-    drop_more_suc (x ∷ xs) (suc k) d lt = drop_more_suc xs k d (omega arith)
+-- the first parked link goes to the end of the chain
+kept_folded : (chain : List Link) (l : Link) (rest : List Link) (f : FoldedValue) → IsKept chain (l ∷ rest) f
+    → l.prev ≡ head_after 0 chain → fits f.database.rows l.change ≡ true
+    → IsKept (chain ++ l ∷ []) rest (folded_with f l)
+kept_folded chain l rest f k e fit =
+    let ts = f.database.schema.description.tables in
+    let a : chain ++ (l ∷ rest) ≡ (chain ++ l ∷ []) ++ rest = sym (append_assoc chain (l ∷ []) rest) in
+    let fits_there : fits (rows_after ts no_rows chain) l.change ≡ true = subst (λ (x : Rows). fits x l.change ≡ true) (kept_rows chain (l ∷ rest) f k) fit in
+    record {
+      prevs = subst (λ (x : List Link). (p : ℕ) → count_key (λ l. l.prev) p x ≤ 1) a k.prevs;
+      ids = subst (λ (x : List Link). (i : ℕ) → count_key (λ l. l.id) i x ≤ 1) a k.ids;
+      sound = subst (λ (x : List Link). AllOf IsSound x) a k.sound;
+      changes = subst (λ (x : List Link). AllOf (IsOfTables ts) x) a k.changes;
+      joined = JoinUp-append ts 0 no_rows chain (l ∷ []) k.joined (e, fits_there, tt);
+      folded = ap (λ (x : FoldedValue). folded_with x l) k.folded ∙ folded_of-push f.database.schema chain l;
+      few = subst (λ (x : List Link). length x ≤ max_links) a k.few;
+    }
 
-pub kept_step : (chain parked : List Link) (f : FoldedValue) (k : ℕ) (d : Link) → IsKept chain parked f
-    → k < length parked → (get_or parked k d).prev ≡ head_after 0 chain
-    → fits f.database.rows (get_or parked k d).change ≡ true
-    → IsKept (chain ++ get_or parked k d ∷ []) (remove parked k) (folded_with f (get_or parked k d))
-kept_step chain parked f k d h lt e fit =
-    kept_moved chain (take k parked) (get_or parked k d) (drop (suc k) parked) f (subst (λ (x : List Link). IsKept chain x f) (sym (split_at_place parked k d lt)) h) e fit
+-- a parked link goes to the end of the chain, and the rest may change places
+pub kept_step : (chain parked rest : List Link) (l : Link) (f : FoldedValue) → IsPermutation parked (l ∷ rest)
+    → IsKept chain parked f → l.prev ≡ head_after 0 chain → fits f.database.rows l.change ≡ true
+    → IsKept (chain ++ l ∷ []) rest (folded_with f l)
+kept_step chain parked rest l f s k e fit = kept_folded chain l rest f (kept_shuffled chain parked (l ∷ rest) f s k) e fit
 
-pub links_step : (chain parked : List Link) (f : FoldedValue) (k : ℕ) (d : Link) → IsKept chain parked f
-    → k < length parked
-    → from_links ((chain ++ get_or parked k d ∷ []) ++ remove parked k) ≡ from_links (chain ++ parked)
-links_step chain parked f k d h lt =
-    let s = split_at_place parked k d lt in
-    let g : IsKept chain (take k parked ++ get_or parked k d ∷ drop (suc k) parked) f = subst (λ (x : List Link). IsKept chain x f) (sym s) h in
-    same_links_moved chain (take k parked) (get_or parked k d) (drop (suc k) parked) g.prevs ∙ ap (λ (x : List Link). from_links (chain ++ x)) s
+pub links_step : (chain parked rest : List Link) (l : Link) (f : FoldedValue) → IsPermutation parked (l ∷ rest)
+    → IsKept chain parked f → from_links ((chain ++ l ∷ []) ++ rest) ≡ from_links (chain ++ parked)
+links_step chain parked rest l f s k =
+    ap from_links (append_assoc chain (l ∷ []) rest)
+    ∙ links_shuffled (chain ++ parked) (chain ++ l ∷ rest) (IsPermutation-append_right chain parked (l ∷ rest) s) k.prevs
 
 -- a parked link is of the tables
 pub kept_change : (chain parked : List Link) (f : FoldedValue) (k : ℕ) (d : Link) → IsKept chain parked f
@@ -91,13 +93,6 @@ kept_change chain parked f k d h lt =
     AllOf-at (IsOfTables ts) parked d k lt (AllOf-right (IsOfTables ts) chain parked h.changes)
 
 -- ---- the end
-
-place_of : (p : ℕ) (xs : List Link) (l d : Link) → find_prev p xs ≡ Some l
-    → (i : ℕ) × (i < length xs) × (get_or xs i d ≡ l)
-place_of p [] l d e = absurd (not_Some l (sym e))
-place_of p (x ∷ xs) l d e =
-    ⊎_elim (λ (s : x.prev ≡ p). let t : Some x ≡ Some l = sym (ap (λ b. cond b (Some x) (find_prev p xs)) (eq-eqb x.prev p s)) ∙ e in (0, omega arith, cc))
-    (λ (s : x.prev ≢ p). let t = place_of p xs l d (sym (ap (λ b. cond b (Some x) (find_prev p xs)) (ne_eqb x.prev p s)) ∙ e) in (suc t.0, omega arith, t.2)) (cases_eq x.prev p)
 
 kept_members : (chain parked : List Link) (f : FoldedValue) → IsKept chain parked f → AllOf (In (chain ++ parked)) chain
 kept_members chain parked f k = AllOf-left (In (chain ++ parked)) chain parked (AllOf_In (chain ++ parked) k.prevs)
@@ -166,11 +161,6 @@ kept_held chain parked f k =
       by_id = λ l m a b e. c.by_id l m (held_in ls l a) (held_in ls m b) e;
     }
 
-pub AllOf-found : (S : Link → Type 0) (p : ℕ) (ls : List Link) (l : Link) → AllOf S ls → find_prev p ls ≡ Some l → S l
-AllOf-found S p ls l a e =
-    let t = place_of p ls l l e in
-    subst S t.2 (AllOf-at S ls l t.0 t.1 a)
-
 pub kept_store : (chain parked : List Link) (f : FoldedValue) → IsKept chain parked f
     → IsStore (stored_of chain parked f)
 kept_store chain parked f k =
@@ -184,15 +174,15 @@ kept_store chain parked f k =
       changes = λ l a. AllOf-found (IsOfTables ts) l.prev ls l k.changes (held_in ls l a);
       few = let h = k.few in omega (arith, len-from_links ls k.prevs);
       chain = c;
-      prefix = λ ms long. chain_prefix S (kept_held chain parked f k) ts 0 no_rows chain ms c.members long.chain.members c.joined long.chain.joined (long.longest chain c);
+      prefix = λ ms long. chain_prefix S (holds_by_prev (from_links ls)) ts 0 no_rows chain ms c.members long.chain.members c.joined long.chain.joined (long.longest chain c);
     }
 
 pub settles_longest : (chain parked : List Link) (f : FoldedValue) (s : Settled) → IsKept chain parked f
     → SettlesAs (stored_of chain parked f) s → IsChainOf (stored_of chain parked f) chain
-settles_longest chain parked f Done k h = longest_from_no_next (Holds (from_links (chain ++ parked))) (kept_held chain parked f k) f.database.schema.description.tables 0 no_rows chain (kept_chain chain parked f k) (λ l a e fit. h l a e)
+settles_longest chain parked f Done k h = longest_from_no_next (Holds (from_links (chain ++ parked))) (holds_by_prev (from_links (chain ++ parked))) f.database.schema.description.tables 0 no_rows chain (kept_chain chain parked f k) (λ l a e fit. h l a e)
 settles_longest chain parked f (Stuck id) k h =
-    longest_from_no_next (Holds (from_links (chain ++ parked))) (kept_held chain parked f k) f.database.schema.description.tables 0 no_rows chain (kept_chain chain parked f k)
-    (λ l a e fit. let same : l ≡ h.0 = (kept_held chain parked f k).by_prev l h.0 a h.1 (e ∙ sym h.2) in
+    longest_from_no_next (Holds (from_links (chain ++ parked))) (holds_by_prev (from_links (chain ++ parked))) f.database.schema.description.tables 0 no_rows chain (kept_chain chain parked f k)
+    (λ l a e fit. let same : l ≡ h.0 = holds_by_prev (from_links (chain ++ parked)) l h.0 a h.1 (e ∙ sym h.2) in
     true_false (sym fit ∙ ap (λ (x : Link). fits (rows_after f.database.schema.description.tables no_rows chain) x.change) same ∙ h.4))
   where
     true_false : true ≡ false → ⊥

@@ -1,5 +1,6 @@
 pub mod ChainLemmas
 pub mod SetLemmas
+pub mod ShuffleLemmas
 pub mod HistoryLemmas
 pub mod BesideLemmas
 pub mod KeptLemmas
@@ -9,3 +10,4 @@ pub mod RunLemmas
 pub mod JoinLemmas
 pub mod AppendLemmas
 pub mod MergeLemmas
+pub mod LongestLemmas

@@ -21,9 +21,9 @@ use Rattle.ovs_links.specs.declared.answer.By.TheVariants.{Prev, Id}
 use Rattle.ovs_links.specs.declared.answer.MergeError.TheVariants.{Fork}
 use Rattle.ovs_links.specs.declared.merging.Contradiction.{Contradiction}
 use Rattle.ovs_links.proofs.ChainLemmas.{AllOf-append, AllOf-weaker}
-use Rattle.ovs_links.proofs.SetLemmas.{In, find_past, count_past, count_none, count-append, get-from_links, len-from_links, found_left, found_right, none_found, In_consistent, AllOf_In}
+use Rattle.ovs_links.proofs.SetLemmas.{In, find_past, count_past, count_none, count-append, get-from_links, len-from_links, found_left, found_right, none_found, In_consistent, AllOf_In, AllOf-found}
 use Rattle.ovs_links.proofs.HistoryLemmas.{no_fork}
-use Rattle.ovs_links.proofs.KeptLemmas.{in_held, held_in, AllOf-found}
+use Rattle.ovs_links.proofs.KeptLemmas.{in_held, held_in}
 use Rattle.ovs_links.proofs.TakeLemmas.{fork_by_prev, none_prev, fork_by_id}
 use Rattle.ovs_links.proofs.RunLemmas.{among_before, among_last}
 

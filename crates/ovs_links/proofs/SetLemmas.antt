@@ -1,5 +1,5 @@
 -- Lists of links as maps from prev.
-use Rattle.std.proofs.Common.{◌≡◌, ◌≢◌, ℕ, ◌+◌, ◌≤◌, false, Bool, cond, eqb, List, [], ◌∷◌, ◌++◌, length, refl, sym, ◌∙◌, ap, subst, arith, ⊎_elim, Some, None, Option, map, find, is_some}
+use Rattle.std.proofs.Common.{◌≡◌, ◌≢◌, ℕ, suc, ◌+◌, ◌<◌, ◌≤◌, false, cond, eqb, List, [], ◌∷◌, ◌++◌, length, get_or, refl, sym, ◌∙◌, ap, subst, arith, ⊎_elim, Some, None, Option, map, find, is_some}
 use Rattle.std.proofs.lemmas.List.{map_push}
 use Rattle.std.proofs.lemmas.List.Folds.{find-append}
 use Rattle.std.proofs.lemmas.Bool.{cases_eq, eq-eqb, ne_eqb}
@@ -7,12 +7,12 @@ use Rattle.std.proofs.lemmas.Bool.Decides.{nat_tests}
 use Rattle.std.specs.Option.{option_or}
 use Rattle.std.specs.Ordering.{nat_cmp, eq_by_cmp}
 use Rattle.std.specs.Cmp.{nat_cmp_total}
-use Rattle.std.specs.FinMap.{get, insert, len, from_entries, get-from_entries, from_entries_push, same_map, nat_cmp-IsAntisymmetric, len-insert, len-empty}
+use Rattle.std.specs.FinMap.{get, insert, len, from_entries, get-from_entries, from_entries_push, nat_cmp-IsAntisymmetric, len-insert, len-empty}
 use Rattle.std.specs.FinMap.Entries as entries
 use Rattle.ovs_links.specs.Sets.{IsConsistent, AllOf}
 use Rattle.ovs_links.specs.Kept.{from_links, find_prev, count_key}
 use Rattle.ovs_links.specs.declared.link.Link.{Link}
-use Rattle.ovs_links.proofs.ChainLemmas.{AllOf-weaker}
+use Rattle.ovs_links.proofs.ChainLemmas.{AllOf-weaker, AllOf-at}
 
 abbrev pub find_key : (Link → ℕ) → ℕ → List Link → Option Link
 find_key f p ls = find (λ (l : Link). eqb (f l) p) ls
@@ -131,63 +131,6 @@ count_one f q l = ⊎_elim (λ (e : f l ≡ q). omega (arith, count_head f l [] 
 pub count_other : (f : Link → ℕ) (q : ℕ) (l : Link) → f l ≢ q → count_key f q (l ∷ []) ≡ 0
 count_other f q l e = count_past f l [] q e
 
--- a link that moves from the parked ones to the end of the chain
-abbrev pub moved_from : List Link → List Link → Link → List Link → List Link
-moved_from a b l c = a ++ (b ++ l ∷ c)
-
-abbrev pub moved_to : List Link → List Link → Link → List Link → List Link
-moved_to a b l c = (a ++ l ∷ []) ++ (b ++ c)
-
-pub count_moved : (f : Link → ℕ) (p : ℕ) (a b : List Link) (l : Link) (c : List Link)
-    → count_key f p (moved_to a b l c) ≡ count_key f p (moved_from a b l c)
-count_moved f p a b l c =
-    omega (arith, count-append f p (a ++ l ∷ []) (b ++ c), count-append f p a (l ∷ []), count-append f p b c, count-append f p a (b ++ l ∷ c), count-append f p b (l ∷ c))
-
-or_skip : (x y z : Option Link) → option_or (option_or x None) (option_or y z) ≡ option_or x (option_or y z)
-or_skip None y z = refl
-or_skip (Some x) y z = refl
-
-find_moved_to : (q : ℕ) (a b : List Link) (l : Link) (c : List Link)
-    → find_prev q (moved_to a b l c) ≡ option_or (option_or (find_prev q a) (find_prev q (l ∷ []))) (option_or (find_prev q b) (find_prev q c))
-find_moved_to q a b l c =
-    let T : Link → Bool = λ (x : Link). eqb x.prev q in
-    find-append T (a ++ l ∷ []) (b ++ c) ∙ ap (λ (o : Option Link). option_or o (find T (b ++ c))) (find-append T a (l ∷ [])) ∙ ap (λ (o : Option Link). option_or (option_or (find T a) (find T (l ∷ []))) o) (find-append T b c)
-
-find_moved_from : (q : ℕ) (a b : List Link) (l : Link) (c : List Link)
-    → find_prev q (moved_from a b l c) ≡ option_or (find_prev q a) (option_or (find_prev q b) (find_prev q (l ∷ c)))
-find_moved_from q a b l c =
-    let T : Link → Bool = λ (x : Link). eqb x.prev q in
-    find-append T a (b ++ l ∷ c) ∙ ap (λ (o : Option Link). option_or (find T a) o) (find-append T b (l ∷ c))
-
-find_moved_past : (q : ℕ) (a b : List Link) (l : Link) (c : List Link) → l.prev ≢ q
-    → find_prev q (moved_to a b l c) ≡ find_prev q (moved_from a b l c)
-find_moved_past q a b l c e =
-    let p = find_past (λ l. l.prev) l [] q e in
-    let r = find_past (λ l. l.prev) l c q e in
-    find_moved_to q a b l c ∙ ap (λ (o : Option Link). option_or (option_or (find_prev q a) o) (option_or (find_prev q b) (find_prev q c))) p
-    ∙ or_skip (find_prev q a) (find_prev q b) (find_prev q c) ∙ ap (λ (o : Option Link). option_or (find_prev q a) (option_or (find_prev q b) o)) (sym r) ∙ sym (find_moved_from q a b l c)
-
-find_moved_here : (q : ℕ) (a b : List Link) (l : Link) (c : List Link) → l.prev ≡ q
-    → count_key (λ l. l.prev) q (moved_from a b l c) ≤ 1
-    → find_prev q (moved_to a b l c) ≡ find_prev q (moved_from a b l c)
-find_moved_here q a b l c e n =
-    let k : count_key (λ l. l.prev) q (moved_from a b l c) ≡ count_key (λ l. l.prev) q a + (count_key (λ l. l.prev) q b + (1 + count_key (λ l. l.prev) q c)) = omega (arith, count-append (λ l. l.prev) q a (b ++ l ∷ c), count-append (λ l. l.prev) q b (l ∷ c), count_head (λ l. l.prev) l c q e) in
-    let na = find_none (λ l. l.prev) q a (omega arith) in
-    let nb = find_none (λ l. l.prev) q b (omega arith) in
-    let p = find_head (λ l. l.prev) l [] q e in
-    let r = find_head (λ l. l.prev) l c q e in
-    find_moved_to q a b l c ∙ ap (λ (o : Option Link). option_or (option_or o (find_prev q (l ∷ []))) (option_or (find_prev q b) (find_prev q c))) na
-    ∙ ap (λ (o : Option Link). option_or o (option_or (find_prev q b) (find_prev q c))) p
-    ∙ sym (find_moved_from q a b l c ∙ ap (λ (o : Option Link). option_or o (option_or (find_prev q b) (find_prev q (l ∷ c)))) na ∙ ap (λ (o : Option Link). option_or o (find_prev q (l ∷ c))) nb ∙ r)
-
-pub same_links_moved : (a b : List Link) (l : Link) (c : List Link)
-    → ((p : ℕ) → count_key (λ l. l.prev) p (moved_from a b l c) ≤ 1)
-    → from_links (moved_to a b l c) ≡ from_links (moved_from a b l c)
-same_links_moved a b l c n = same_map nat_cmp_total nat_cmp-IsAntisymmetric _ _ (λ q. get-from_links (moved_to a b l c) q ∙ same q ∙ sym (get-from_links (moved_from a b l c) q))
-  where
-    same : (q : ℕ) → find_prev q (moved_to a b l c) ≡ find_prev q (moved_from a b l c)
-    same q = ⊎_elim (λ (e : l.prev ≡ q). find_moved_here q a b l c e (n q)) (λ (e : l.prev ≢ q). find_moved_past q a b l c e) (cases_eq l.prev q)
-
 pub len-from_links : (ls : List Link) → ((p : ℕ) → count_key (λ l. l.prev) p ls ≤ 1) → len (from_links ls) ≡ length ls
 len-from_links [] n = len-empty nat_cmp Link
 len-from_links (x ∷ xs) n =
@@ -218,3 +161,17 @@ found_in f p (x ∷ xs) l n e =
 -- no link of the list has a key that isn't found
 pub none_found : (f : Link → ℕ) (xs : List Link) (l : Link) → In xs l → find_key f (f l) xs ≡ None → ⊥
 none_found f xs l a e = let c = count_found (λ l. l.prev) f l.prev xs l a in omega (arith, count_none f (f l) xs e)
+
+-- ---- the place of what is found
+
+pub place_of : (p : ℕ) (xs : List Link) (l d : Link) → find_prev p xs ≡ Some l
+    → (i : ℕ) × (i < length xs) × (get_or xs i d ≡ l)
+place_of p [] l d e = absurd (not_Some l (sym e))
+place_of p (x ∷ xs) l d e =
+    ⊎_elim (λ (s : x.prev ≡ p). let t : Some x ≡ Some l = sym (ap (λ b. cond b (Some x) (find_prev p xs)) (eq-eqb x.prev p s)) ∙ e in (0, omega arith, cc))
+    (λ (s : x.prev ≢ p). let t = place_of p xs l d (sym (ap (λ b. cond b (Some x) (find_prev p xs)) (ne_eqb x.prev p s)) ∙ e) in (suc t.0, omega arith, t.2)) (cases_eq x.prev p)
+
+pub AllOf-found : (S : Link → Type 0) (p : ℕ) (ls : List Link) (l : Link) → AllOf S ls → find_prev p ls ≡ Some l → S l
+AllOf-found S p ls l a e =
+    let t = place_of p ls l l e in
+    subst S t.2 (AllOf-at S ls l t.0 t.1 a)

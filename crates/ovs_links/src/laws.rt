@@ -5,20 +5,28 @@ ghost use Rattle.std.specs.FinMap as map;
 ghost use Rattle.std.specs.Ordering.{nat_cmp};
 ghost use Rattle.ovs_types.specs.declared.schema.Table.{Table};
 ghost use Rattle.ovs_rows.specs.Row.{Rows};
-ghost use Rattle.ovs_links.specs.Link.{IsStart};
+ghost use Rattle.ovs_links.specs.Link.{IsStart, AreEnds};
 ghost use Rattle.ovs_links.specs.Sets.{Holds, Among, AllOf, IsConsistent, IsOfTables};
 ghost use Rattle.ovs_links.specs.Chains.{IsLongestChain, JoinUp, rows_after};
 ghost use Rattle.ovs_links.specs.History.{Commit, IsHistory, links_of, rows_at};
+ghost use Rattle.ovs_links.specs.Join.{IsLinkSet};
 ghost use Rattle.ovs_links.specs.declared.link.Link.{Link};
 
 /// Two sets with the same links have the same longest chain, and the same rows after it.
 pub fn chain_depends_on_the_set_alone()
     ensures same { (tables : List Table) (start : ℕ) (opening : Rows)
         → (s t : map.FinMap nat_cmp Link) (ls ms : List Link)
-        → IsConsistent (Holds s) → ((l : Link) → Holds s l ↔ Holds t l)
+        → ((l : Link) → Holds s l ↔ Holds t l)
         → IsLongestChain tables start opening (Holds s) ls
         → IsLongestChain tables start opening (Holds t) ms
         → (ls ≡ ms) × (rows_after tables opening ls ≡ rows_after tables opening ms) }
+{}
+
+/// A set of links has a longest chain from each start id and each opening database.
+pub fn longest_chain_exists()
+    ensures exists { (tables : List Table) (start : ℕ) (opening : Rows) (s : map.FinMap nat_cmp Link)
+        → IsStart start → IsLinkSet s → ((l : Link) → Holds s l → AreEnds l.prev l.id)
+        → (ls : List Link) × IsLongestChain tables start opening (Holds s) ls }
 {}
 
 /// The links of a history don't contradict each other, and their changes are of its tables.

@@ -16,7 +16,9 @@ mod store;
 pub use answer::{By, FoldError, MergeError, Settled, TakeError, Took};
 pub use folded::Folded;
 pub use joins::{join_associates, join_commutes, join_is_idempotent, join_is_union};
-pub use laws::{chain_depends_on_the_set_alone, history_is_a_chain, history_is_consistent};
+pub use laws::{
+    chain_depends_on_the_set_alone, history_is_a_chain, history_is_consistent, longest_chain_exists,
+};
 pub use link::{BadId, Link};
 pub use run::{fold_all, take_all};
 pub use step::Step;

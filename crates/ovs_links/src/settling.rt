@@ -1,6 +1,7 @@
 //! Folding links: parked ones, and one that was never parked.
 
-ghost use Rattle.std.specs.Prelude.{◌≡◌, ◌<◌, ◌++◌, ◌∷◌, [], IfOk, OnOk, OnErr, remove, slice_index_or, true, vec_len, IfErr};
+ghost use Rattle.std.specs.Prelude.{◌≡◌, ◌<◌, ◌++◌, ◌∷◌, [], IfOk, OnOk, OnErr, ◌+◌, slice_index_or, true, vec_len, IfErr};
+ghost use Rattle.std.specs.List.Sorted.{IsPermutation};
 ghost use Rattle.ovs_rows.specs.After.{fits};
 ghost use Rattle.ovs_links.specs.Sets.{IsOfTables};
 ghost use Rattle.ovs_links.specs.Chains.{IsPrefixOf, head_after};
@@ -17,7 +18,7 @@ use crate::scan::place_of_prev;
 use ovs_types::{NoMemory, TxnId};
 use std::alloc::Global;
 
-/// Moves a parked link to the end of the chain, and folds it.
+/// Moves a parked link to the end of the chain, and folds it. The last parked link takes its place.
 fn fold_one(
     alloc: Global,
     chain: &mut Vec<Link>,
@@ -32,7 +33,9 @@ fn fold_one(
         → IsOfTables folded.old.database.schema.description.tables (slice_index_or parked.old.items k d) }
     ensures chain { OnOk result ((d : Link)
         → chain.new.items ≡ chain.old.items ++ slice_index_or parked.old.items k d ∷ []) }
-    ensures parked { OnOk result (parked.new.items ≡ remove parked.old.items k) }
+    ensures parked { OnOk result ((d : Link)
+        → IsPermutation parked.old.items (slice_index_or parked.old.items k d ∷ parked.new.items)) }
+    ensures fewer { OnOk result (vec_len parked.new + 1 ≡ vec_len parked.old) }
     ensures folded { OnOk result ((d : Link)
         → folded.new ≡ folded_with folded.old (slice_index_or parked.old.items k d)) }
     ensures chain_kept { OnErr result (chain.new.items ≡ chain.old.items) }
@@ -43,7 +46,7 @@ fn fold_one(
         return Err(NoMemory);
     }
     folded.fold(alloc, &parked[k])?;
-    let link = parked.remove(k);
+    let link = parked.swap_remove(k);
     match chain.push(link) {
         Ok(()) => Ok(()),
         Err(_) => unreachable!(),

@@ -64,12 +64,14 @@ fold-preserved c =
     let at = found_at c.fold.head k chain parked c.as_slice.result.now h.head c.as_slice.ensures.value c.in-Some.ensures.found.1 l in
     let prev : (get_or parked k l).prev ≡ head_after 0 chain = find_key_is (λ x. x.prev) (head_after 0 chain) parked (get_or parked k l) at in
     let fit = fits_at true c.database.result.now f.database c.change.result.now l (get_or parked k l) c.if-not-fits.ensures.value c.database.ensures.value c.change.ensures.value same in
-    let kept = kept_step chain parked f k l h.kept k_in prev fit in
+    let moved = done.parked l in
+    let left = c.fold_one.new.parked.items in
+    let kept = kept_step chain parked left (get_or parked k l) f moved h.kept prev fit in
     record {
-      kept = rw (done.chain l, done.parked, done.folded l) kept;
+      kept = rw (done.chain l, done.folded l) kept;
       head = rw (done.chain l) (c.id-id.ensures.value ∙ ap (λ (x : Link). x.id) same ∙ sym (head_after-append 0 chain (get_or parked k l ∷ [])));
       schema = rw (done.folded l) h.schema;
-      links = rw (done.chain l, done.parked) (links_step chain parked f k l h.kept k_in ∙ h.links);
+      links = rw (done.chain l) (links_step chain parked left (get_or parked k l) f moved h.kept ∙ h.links);
       prefix = rw (done.chain l) (prefix_push c.args.chain.now.items chain (get_or parked k l) h.prefix);
     }
 

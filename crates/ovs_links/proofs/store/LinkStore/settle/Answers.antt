@@ -6,8 +6,8 @@ use Rattle.ovs_links.specs.Kept.{stored_of}
 use Rattle.ovs_links.specs.Answers.{SettlesAs, IsSourceChain}
 use Rattle.ovs_links.specs.declared.link.Link.{Link}
 use Rattle.ovs_rows.specs.Row.{no_rows}
-use Rattle.ovs_links.proofs.ChainLemmas.{longest_unique}
-use Rattle.ovs_links.proofs.KeptLemmas.{settles_longest, kept_held}
+use Rattle.ovs_links.proofs.ChainLemmas.{longest_unique, holds_by_prev}
+use Rattle.ovs_links.proofs.KeptLemmas.{settles_longest}
 use Rattle.ovs_links.proofs.HistoryLemmas.{source_chain}
 use Rattle.ovs_links.proofs.store.LinkStore.settle.Goals as goal
 
@@ -24,9 +24,8 @@ returns-clause-only c =
     let parked = c.settle_lists.new.parked.items in
     let f = c.settle_lists.new.folded in
     let s = stored_of chain parked f in
-    let held = kept_held chain parked f c.settle_lists.ensures.kept in
     IfOk-weaker c.settle_lists.result (SettlesAs s) (λ _. (ls : List Link) → IsChainOf s ls → chain ≡ ls)
-    (λ t h ls k. longest_unique (Holds s.links) held (tables_of s) 0 no_rows chain ls (settles_longest chain parked f t c.settle_lists.ensures.kept h) k) c.settle_lists.ensures.settled
+    (λ t h ls k. longest_unique (Holds s.links) (holds_by_prev s.links) (tables_of s) 0 no_rows chain ls (settles_longest chain parked f t c.settle_lists.ensures.kept h) k) c.settle_lists.ensures.settled
 
 pub returns-clause-source : goal.returns-clause-source
 returns-clause-source c =
