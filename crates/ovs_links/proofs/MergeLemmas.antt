@@ -1,6 +1,7 @@
 -- The links of one store added to those of another.
 use Rattle.std.proofs.Common.{◌≡◌, ◌⊎◌, ℕ, ◌+◌, ◌<◌, ◌≤◌, inl, inr, true, false, cond, eqb, List, [], ◌∷◌, ◌++◌, length, refl, sym, ◌∙◌, ap, subst, arith, ⊎_elim, length-append, append_assoc, Option, Some, None, is_none, Err}
 use Rattle.std.proofs.lemmas.Bool.{cases_lt}
+use Rattle.std.proofs.lemmas.List.{append-nil, nil_from_length}
 use Rattle.std.specs.Option.{option_or}
 use Rattle.std.specs.Ordering.{nat_cmp, eq_by_cmp}
 use Rattle.std.specs.Cmp.{nat_cmp_total}
@@ -95,6 +96,12 @@ refutes ls y Id p i n h =
     let t = fork_by_id ls y h.1.0 n h.0 h.1.1 in
     (none_prev ls y h.0, (h.1.0, t.0, t.1, t.2, h.1.2, h.1.3))
 
+-- what refutes a link contradicts it
+refuted : (m : FinMap nat_cmp Link) (y : Link) (by : By) (p i : ℕ) → Refutes m y by p i
+    → (h : Link) × Holds m h × Contradict h y
+refuted m y Prev p i r = (r.0, r.1, r.2)
+refuted m y Id p i r = (r.1.0, r.1.1, r.1.2)
+
 AllOf-among : (S : Link → Type 0) (ls : List Link) (l : Link) → AllOf S ls → Among ls l → S l
 AllOf-among S [] l a h = absurd h
 AllOf-among S (x ∷ xs) l a (inl e) = subst S (sym e) a.0
@@ -109,6 +116,7 @@ least_fork ls ys f prevs ids others h =
       y,
       record {
         other = in_held ys y (AllOf-among (In ys) ys y (AllOf_In ys others) h.0.1);
+        contradicts = refuted (from_links ls) y f.by f.held_prev f.held_id (refutes ls y f.by f.held_prev f.held_id prevs h.0.2.1);
         least = λ x z a b c. ⊎_elim (λ (fit : FitsIn ls z). absurd (no_clash x z (held_in ls x a) fit c)) (λ (le : f.id ≤ z.id). omega (arith, le, h.0.2.0)) (AllOf-found (NotBelow ls f.id) z.prev ys z h.1 (held_in ys z b));
       },
       refutes ls y f.by f.held_prev f.held_id prevs h.0.2.1,
@@ -122,12 +130,8 @@ least_fork ls ys f prevs ids others h =
 pub merge_no_fork : (m t : FinMap nat_cmp Link) (ts : List Table) (by : By) (p i : ℕ)
     → AreOfOneSource ts (Holds m) (Holds t) → MergesAs m t (Err (Fork by p i)) → ⊥
 merge_no_fork m t ts by p i k h =
-    let held = other_held by h.2 in
+    let held = h.1.contradicts in
     no_fork (Holds m) ts h.0 held.0 (k.0, k.1, k.2, k.3 h.0 h.1.other) held.1 held.2
-  where
-    other_held : (by : By) → Refutes m h.0 by p i → (x : Link) × Holds m x × Contradict x h.0
-    other_held Prev r = (r.0, r.1, r.2)
-    other_held Id r = (r.1.0, r.1.1, r.1.2)
 
 -- ---- the new links
 
@@ -285,6 +289,22 @@ too_many chain parked chain2 parked2 f g k n = (
   fits_agree (chain ++ parked) (chain2 ++ parked2) k.mine.ids k.agree,
   omega (arith, n, len_join (chain ++ parked) (chain2 ++ parked2) k.mine.prevs k.theirs.prevs),
 )
+
+-- where no link is new, the union is what is held
+pub join_nothing : (chain parked chain2 parked2 : List Link)
+    → length (new_links (chain ++ parked) (chain2 ++ parked2)) ≡ 0
+    → from_links (chain ++ parked) ≡ join (from_links (chain ++ parked)) (from_links (chain2 ++ parked2))
+join_nothing chain parked chain2 parked2 n =
+    let ls = chain ++ parked in
+    let ys = chain2 ++ parked2 in
+    ap from_links (sym (append-nil ls) ∙ ap (λ (x : List Link). ls ++ x) (sym (nil_from_length (new_links ls ys) n)))
+    ∙ links_new ls ys ∙ sym (join_lists ls ys)
+
+-- and where one is, the union has more
+pub join_grows : (chain parked chain2 parked2 : List Link) (f g : FoldedValue)
+    → AreMergeable chain parked chain2 parked2 f g → 0 < length (new_links (chain ++ parked) (chain2 ++ parked2))
+    → len (from_links (chain ++ parked)) < len (join (from_links (chain ++ parked)) (from_links (chain2 ++ parked2)))
+join_grows chain parked chain2 parked2 f g k n = omega (arith, n, len-from_links (chain ++ parked) k.mine.prevs, len_join (chain ++ parked) (chain2 ++ parked2) k.mine.prevs k.theirs.prevs)
 
 -- a fact of two maps, seen as two stores
 pub on_views : (P : FinMap nat_cmp Link → FinMap nat_cmp Link → Type 0) (a b x y : Stored) → a ≡ x → b ≡ y

@@ -16,14 +16,16 @@ use Rattle.ovs_links.specs.declared.answer.MergeError.TheVariants.{Fork, Full, N
 -- a link of the second set that contradicts one of the first, with the least id of those
 pub record IsLeastFork (m t : FinMap nat_cmp Link) (l : Link) : Type 0 where
   pub other : Holds t l
+  pub contradicts : (h : Link) × Holds m h × Contradict h l
   pub least : (h k : Link) → Holds m h → Holds t k → Contradict h k → l.id ≤ k.id
 
--- what merging answers: two sets have one answer, but for want of memory, which comes last
+-- what merging answers: two sets have one answer, but for want of memory, which comes last, and only where the union
+-- is more
 abbrev pub MergesAs : FinMap nat_cmp Link → FinMap nat_cmp Link → Result (Unit {0}) MergeError → Type 0
 MergesAs m t (Ok u) = AreJoinable m t
 MergesAs m t (Err (Fork by p i)) = (l : Link) × IsLeastFork m t l × Refutes m l by p i
 MergesAs m t (Err Full) = Agree m t × (max_links < len (join m t))
-MergesAs m t (Err NoMemory) = AreJoinable m t
+MergesAs m t (Err NoMemory) = AreJoinable m t × (len m < len (join m t))
 
 -- what merging leaves: the union with the same links folded, or the store as it was
 abbrev pub MergesTo : Stored → Stored → Result (Unit {0}) MergeError → Stored → Type 0

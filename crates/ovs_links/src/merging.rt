@@ -26,8 +26,7 @@ fn contradiction_of(chain: &[Link], parked: &[Link], link: &Link) -> Option<Cont
     ensures found { HasFork (chain.now ++ parked.now) link.now result }
 {
     match beside_link(chain, parked, link) {
-        Beside::Nothing => None,
-        Beside::Same => None,
+        Beside::Nothing | Beside::Same => None,
         Beside::Prev { prev, id } => Some(Contradiction {
             id: link.id(),
             by: By::Prev,
@@ -53,18 +52,16 @@ fn least_with(
     ensures least { (seen : List Link) → HasLeast (chain.now ++ parked.now) seen least
         → HasLeast (chain.now ++ parked.now) (seen ++ link.now ∷ []) result }
 {
-    match contradiction_of(chain, parked, link) {
-        None => least,
-        Some(found) => match least {
-            None => Some(found),
-            Some(before) => {
-                if before.id.value() <= found.id.value() {
-                    Some(before)
-                } else {
-                    Some(found)
-                }
+    match (least, contradiction_of(chain, parked, link)) {
+        (None, found) => found,
+        (Some(before), None) => Some(before),
+        (Some(before), Some(found)) => {
+            if before.id.value() <= found.id.value() {
+                Some(before)
+            } else {
+                Some(found)
             }
-        },
+        }
     }
 }
 

@@ -66,7 +66,7 @@ impl Model for LinkStore {
 }
 
 impl LinkStore {
-    /// A store with no link, over databases of this schema.
+    /// A store with no link, over databases of this schema. `NoMemory` where memory is refused.
     pub fn new(alloc: Global, schema: &Schema) -> Result<LinkStore, NoMemory>
         ensures value { IfOk result (λ s. s ≡ record { schema = schema.now; links = map.empty; folded = [] }) }
     {
@@ -110,7 +110,7 @@ impl LinkStore {
             }
             Beside::Nothing => {}
         }
-        if self.chain.len() + self.parked.len() >= MAX_LINKS {
+        if self.len() >= MAX_LINKS {
             return Err(TakeError::Full { link });
         }
         if let Err(failed) = self.parked.push(link) {
@@ -121,7 +121,8 @@ impl LinkStore {
 
     /// Adds a link that follows the head and fits the database, and folds it. No other link may follow the head, as
     /// after `Done`. In this order of refusals: `Fork` where another held link has its id; `Full` where the store has
-    /// `MAX_LINKS` links; `NoMemory`. A refused link is handed back, and the store is as it was, its database too.
+    /// `MAX_LINKS` links; `NoMemory`. A refused link is handed back, and the store is as it was, its database too. A
+    /// parked link that follows this one stays parked until `settle`.
     pub fn append(&mut self, alloc: Global, link: Link) -> Result<(), TakeError>
         requires of_tables { IsOfTables (tables_of self.old) link }
         requires done { SettlesAs self.old Settled.Done }
@@ -162,13 +163,14 @@ impl LinkStore {
     /// The union: adds all links of another store over the same schema, and folds nothing. In this order of
     /// refusals: `Fork` where a link of the other contradicts a held one; of those links that with the least id
     /// decides, and the held link is named, by prev before id; `Full` where the union has more than `MAX_LINKS`
-    /// links; `NoMemory`. After each refusal the store is as it was.
+    /// links; `NoMemory`, and that only where the union has more links than the store. After each refusal the store is
+    /// as it was.
     pub fn merge(&mut self, other: &LinkStore) -> Result<(), MergeError>
         requires same_schema { tables_of self.old ≡ tables_of other.now }
         ensures answer { MergesAs self.old.links other.now.links result }
         ensures after { MergesTo self.old other.now result self.new }
 
-        // Links of one history never refuse as contradictions.
+        // Links of one history are never refused as contradictions.
         ensures source { AreOfOneSource (tables_of self.old) (Holds self.old.links) (Holds other.now.links)
             → ¬ (IsMergeFork result) }
     {
@@ -185,8 +187,11 @@ impl LinkStore {
             });
         }
         let more = count_new(&self.chain, &self.parked, &other.chain, &other.parked);
-        if self.chain.len() + self.parked.len() + more > MAX_LINKS {
+        if self.len() + more > MAX_LINKS {
             return Err(MergeError::Full);
+        }
+        if more == 0 {
+            return Ok(());
         }
         let added = add_new(
             &self.chain,
@@ -280,13 +285,11 @@ impl LinkStore {
         if id == TxnId::zero() {
             return Some(0);
         }
-        match place_of_id(chain, id) {
-            Some(k) => Some(k + 1),
-            None => None,
-        }
+        let k = place_of_id(chain, id)?;
+        Some(k + 1)
     }
 
-    /// The folded link with this number, counted from 1.
+    /// The folded link with this number, counted from 1. `None` for 0 and past the last.
     pub fn link_at(&self, n: usize) -> Option<&Link>
         ensures value { option_copied result ≡ link_at self.now.folded n }
     {

@@ -22,26 +22,26 @@ returns-then-eq-clause-only c k le e =
     none_taken [] = refl
     none_taken (x ∷ xs) = refl
 
-pub returns-in-Some-clause-found : goal.returns-in-Some-clause-found
-returns-in-Some-clause-found c =
+pub returns-clause-found : goal.returns-clause-found
+returns-clause-found c =
     let s = c.self.inside in
-    let found = rw c.as_slice-chain.ensures.value at c.in-Some.ensures.found in
-    subst (λ (v : Stored). (c.in-Some.k + 1 ≤ length v.folded) × (head_after 0 (take (c.in-Some.k + 1) v.folded) ≡ c.args.id)) c.self.view_is (omega (arith, found.0), head_after-found s.chain.items c.args.id c.in-Some.k found.0 found.1)
+    let found = rw c.as_slice-chain.ensures.value at c.in_ok-k.ensures.found in
+    subst (λ (v : Stored). (c.in_ok-k.k + 1 ≤ length v.folded) × (head_after 0 (take (c.in_ok-k.k + 1) v.folded) ≡ c.args.id)) c.self.view_is (omega (arith, found.0), head_after-found s.chain.items c.args.id c.in_ok-k.k found.0 found.1)
 
-pub returns-in-Some-clause-only : goal.returns-in-Some-clause-only
-returns-in-Some-clause-only c k le e =
+pub returns-clause-only : goal.returns-clause-only
+returns-clause-only c k le e =
     let s = c.self.inside in
     let kept = c.self.invariant.0 in
-    let found = rw c.as_slice-chain.ensures.value at c.in-Some.ensures.found in
+    let found = rw c.as_slice-chain.ensures.value at c.in_ok-k.ensures.found in
     let folded : c.args.self.now.folded ≡ s.chain.items = ap (λ (v : Stored). v.folded) (sym c.self.view_is) in
     let k_in : k ≤ length s.chain.items = subst (λ (ls : List Link). k ≤ length ls) folded le in
     let ends : head_after 0 (take k s.chain.items) ≡ c.args.id = ap (λ (ls : List Link). head_after 0 (take k ls)) (sym folded) ∙ e in
-    ap Some (position_once s.chain.items (c.in-Some.k + 1) k (AllOf-left IsSound s.chain.items s.parked.items kept.sound) (count_left (λ l. l.id) s.chain.items s.parked.items kept.ids) (omega (arith, found.0)) k_in (head_after-found s.chain.items c.args.id c.in-Some.k found.0 found.1 ∙ sym ends))
+    ap Some (position_once s.chain.items (c.in_ok-k.k + 1) k (AllOf-left IsSound s.chain.items s.parked.items kept.sound) (count_left (λ l. l.id) s.chain.items s.parked.items kept.ids) (omega (arith, found.0)) k_in (head_after-found s.chain.items c.args.id c.in_ok-k.k found.0 found.1 ∙ sym ends))
 
-pub returns-in-None-clause-only : goal.returns-in-None-clause-only
-returns-in-None-clause-only c k le e =
+pub returns-in_err-k-clause-only : goal.returns-in_err-k-clause-only
+returns-in_err-k-clause-only c k le e =
     let s = c.self.inside in
-    let none = rw c.as_slice-chain.ensures.value at c.in-None.ensures.found in
+    let none = rw c.as_slice-chain.ensures.value at c.in_err-k.ensures.found in
     let folded : c.args.self.now.folded ≡ s.chain.items = ap (λ (v : Stored). v.folded) (sym c.self.view_is) in
     let k_in : k ≤ length s.chain.items = subst (λ (ls : List Link). k ≤ length ls) folded le in
     let ends : head_after 0 (take k s.chain.items) ≡ c.args.id = ap (λ (ls : List Link). head_after 0 (take k ls)) (sym folded) ∙ e in

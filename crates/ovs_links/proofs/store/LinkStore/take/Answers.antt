@@ -69,7 +69,9 @@ invariant_of-self-2 c =
     let s = c.self.inside in
     let ls = s.chain.items ++ s.parked.items in
     let e = rw (c.deref.ensures.value, c.deref-2.ensures.value) at c.in-Nothing.ensures.found in
-    let few : length ls < max_links = omega (arith, length-append s.chain.items s.parked.items) in
+    let n = len-from_links ls c.self.invariant.0.prevs in
+    let v = ap (λ (v : Stored). len v.links) c.self.view_is in
+    let few : length ls < max_links = omega (arith, n, v) in
     let changes = subst (λ (v : Stored). IsOfTables (tables_of v) c.args.link) (sym c.self.view_is) c.requires.of_tables in
     let k = kept_push s.chain.items s.parked.items s.folded c.args.link c.self.invariant.0 e.0 e.1 c.beside_link.ensures.ends changes few in
     (subst (λ (x : List Link). IsKept s.chain.items x s.folded) (sym c.in_default.ensures.items) k, c.self.invariant.1)
