@@ -15,7 +15,8 @@ use crate::store::LinkStore;
 use ovs_types::{NoMemory, Schema};
 use std::alloc::Global;
 
-/// Takes links in order, up to the first that is refused. Nothing is folded.
+/// Takes links in order, up to the first that is refused, and folds nothing. The error is what `take` answers to that
+/// link. The links before it stay held, those after it are dropped.
 pub fn take_all(store: &mut LinkStore, links: Vec<Link>) -> Result<(), TakeError>
     requires of_tables { AllOf (IsOfTables (tables_of store.old)) links.items }
     ensures links { OnOk result (HoldsBoth store.new.links (Holds store.old.links) links.items) }
@@ -39,8 +40,11 @@ fn fold_into(alloc: Global, store: &mut LinkStore, links: Vec<Link>) -> Result<(
         (IsLongestChain (tables_of store.old) 0 no_rows (Among links.items) store.new.folded) }
     ensures refused { IfErr result (FailsToFold links.items) }
 {
-    if let Err(refused) = take_all(store, links) {
-        return Err(FoldError::Refused(refused));
+    if let Err(error) = take_all(store, links) {
+        return match error {
+            TakeError::NoMemory { .. } => Err(FoldError::NoMemory),
+            refused => Err(FoldError::Refused(refused)),
+        };
     }
     match store.settle(alloc) {
         Ok(_) => Ok(()),
@@ -49,7 +53,8 @@ fn fold_into(alloc: Global, store: &mut LinkStore, links: Vec<Link>) -> Result<(
 }
 
 /// The store of these links, settled. Its chain is the longest of the set of them, so it is the same in whatever
-/// order they come, and however often. `Refused` where a link contradicts one before it, or finds the store full.
+/// order they come, and however often. `Refused` where a link contradicts one before it, or finds the store full;
+/// `NoMemory` where memory is refused.
 pub fn fold_all(alloc: Global, schema: &Schema, links: Vec<Link>) -> Result<LinkStore, FoldError>
     requires of_tables { AllOf (IsOfTables schema.now.description.tables) links.items }
     ensures schema { IfOk result (λ s. s.schema ≡ schema.now) }

@@ -1,12 +1,15 @@
-use Rattle.std.proofs.Common.{◌≡◌, ◌↔◌, inr, sym, subst, ⊎_elim, List, ◌∙◌}
+use Rattle.std.proofs.Common.{◌≡◌, ◌↔◌, inr, refl, sym, subst, ⊎_elim, List, ◌∙◌}
 use Rattle.std.specs.Ordering.{nat_cmp}
 use Rattle.std.specs.FinMap.{FinMap}
 use Rattle.ovs_types.specs.declared.schema.Schema.{Schema}
 use Rattle.ovs_rows.specs.Row.{no_rows}
 use Rattle.ovs_links.specs.Sets.{Among, Holds}
 use Rattle.ovs_links.specs.Chains.{IsLongestChain}
-use Rattle.ovs_links.specs.Runs.{HoldsBoth}
+use Rattle.ovs_links.specs.Runs.{HoldsBoth, IsRefusedAt, FailsToFold}
 use Rattle.ovs_links.specs.declared.link.Link.{Link}
+use Rattle.ovs_links.specs.declared.answer.TakeError.{TakeError}
+use Rattle.ovs_links.specs.declared.answer.TakeError.TheVariants.{Fork, Full, NoMemory}
+use Rattle.ovs_links.specs.declared.answer.FoldError.TheVariants.{Refused}
 use Rattle.ovs_links.proofs.ChainLemmas.{longest_same_set}
 use Rattle.ovs_links.proofs.RunLemmas.{holds_from_nothing}
 use Rattle.ovs_links.proofs.run.fold_into.Goals as goal
@@ -19,10 +22,19 @@ only_list m n ls e h l = (
   λ a. subst (λ (x : FinMap nat_cmp Link). Holds x l) (sym e) ((h l).1 (inr a)),
 )
 
-pub returns-in-Err-clause-refused : goal.returns-in-Err-clause-refused
-returns-in-Err-clause-refused c =
+-- a link is refused for what was held
+fails_to_fold : (ls : List Link) (e : TakeError) → ((l : Link) → e ≡ NoMemory l → ⊥)
+    → (m : FinMap nat_cmp Link) × IsRefusedAt (λ l. ⊥) m ls e → FailsToFold ls (Refused e)
+fails_to_fold ls (Fork l by p i) n r = r
+fails_to_fold ls (Full l) n r = r
+fails_to_fold ls (NoMemory l) n r = n l refl
+
+pub returns-in_default-error-clause-refused : goal.returns-in_default-error-clause-refused
+returns-in_default-error-clause-refused c =
     let at = c.in-Err.ensures.refused in
-    (c.take_all.new.store.links, (at.0, at.1, at.2, at.3, holds_from_nothing c.args.store.now.links c.take_all.new.store.links at.0 c.requires.empty at.4, at.5))
+    let m = c.take_all.new.store.links in
+    fails_to_fold c.args.links.items c.in-Err.error c.in_default-error.not-NoMemory
+    (m, (at.0, at.1, at.2, at.3, holds_from_nothing c.args.store.now.links m at.0 c.requires.empty at.4, at.5))
 
 pub returns-in-Ok-clause-links : goal.returns-in-Ok-clause-links
 returns-in-Ok-clause-links c =
