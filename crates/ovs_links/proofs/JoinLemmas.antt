@@ -5,9 +5,9 @@ use Rattle.std.specs.Ordering.{nat_cmp, eq_by_cmp}
 use Rattle.std.specs.Cmp.{nat_cmp_total}
 use Rattle.std.specs.FinMap.{FinMap, get, len, contains_key, entries, from_entries, get-from_entries, get-entries, same_map, nat_cmp-IsAntisymmetric, len-insert}
 use Rattle.std.specs.FinMap.Entries as entry
-use Rattle.ovs_links.specs.Sets.{Holds}
+use Rattle.ovs_links.specs.Sets.{Holds, IsLinkSet}
 use Rattle.ovs_links.specs.Store.{max_links}
-use Rattle.ovs_links.specs.Join.{IsLinkSet, Agree, AreJoinable, join}
+use Rattle.ovs_links.specs.Join.{Agree, AreJoinable, join}
 use Rattle.ovs_links.specs.declared.link.Link.{Link}
 
 abbrev Links : Type 0

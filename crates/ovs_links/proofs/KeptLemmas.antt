@@ -169,8 +169,11 @@ kept_store chain parked f k =
     let S = Holds (from_links ls) in
     let c = kept_chain chain parked f k in
     record {
-      keyed = λ p l e. find_key_is (λ l. l.prev) p ls l (sym (get-from_links ls p) ∙ e);
-      consistent = kept_held chain parked f k;
+      set = record {
+        keyed = λ p l e. find_key_is (λ l. l.prev) p ls l (sym (get-from_links ls p) ∙ e);
+        consistent = kept_held chain parked f k;
+      };
+      ends = λ l a. AllOf-found IsSound l.prev ls l k.sound (held_in ls l a);
       changes = λ l a. AllOf-found (IsOfTables ts) l.prev ls l k.changes (held_in ls l a);
       few = let h = k.few in omega (arith, len-from_links ls k.prevs);
       chain = c;

@@ -8,9 +8,9 @@ use Rattle.ovs_types.specs.declared.schema.Table.{Table}
 use Rattle.ovs_rows.specs.Row.{Rows}
 use Rattle.ovs_rows.specs.After.{fits}
 use Rattle.ovs_links.specs.Link.{IsStart}
-use Rattle.ovs_links.specs.Sets.{AllOf, Holds}
+use Rattle.ovs_links.specs.Sets.{AllOf, Holds, IsLinkSet}
 use Rattle.ovs_links.specs.Chains.{IsChain, IsLongestChain, head_after, rows_after}
-use Rattle.ovs_links.specs.Join.{IsLinkSet, join}
+use Rattle.ovs_links.specs.Join.{join}
 use Rattle.ovs_links.specs.Kept.{IsSound, from_links, find_prev, count_key}
 use Rattle.ovs_links.specs.declared.link.Link.{Link}
 use Rattle.ovs_links.proofs.ChainLemmas.{AllOf-append, AllOf-weaker, JoinUp-append, JoinUp-at, no_way_back, longest_from_no_next, holds_by_prev}

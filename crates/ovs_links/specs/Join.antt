@@ -1,15 +1,10 @@
 -- The union of two sets of links.
-use Rattle.std.specs.Prelude.{◌≡◌, ◌≤◌, ◌++◌, ℕ, Some}
+use Rattle.std.specs.Prelude.{◌≡◌, ◌≤◌, ◌++◌}
 use Rattle.std.specs.Ordering.{nat_cmp}
-use Rattle.std.specs.FinMap.{FinMap, get, len, entries, from_entries}
-use Rattle.ovs_links.specs.Sets.{Holds, IsConsistent}
+use Rattle.std.specs.FinMap.{FinMap, len, entries, from_entries}
+use Rattle.ovs_links.specs.Sets.{Holds}
 use Rattle.ovs_links.specs.Store.{max_links}
 use Rattle.ovs_links.specs.declared.link.Link.{Link}
-
--- each link stands at its prev, and links that share prev or id are the same
-pub record IsLinkSet (s : FinMap nat_cmp Link) : Type 0 where
-  pub keyed : (prev : ℕ) (l : Link) → get s prev ≡ Some l → l.prev ≡ prev
-  pub consistent : IsConsistent (Holds s)
 
 -- the links of both
 abbrev pub join : FinMap nat_cmp Link → FinMap nat_cmp Link → FinMap nat_cmp Link

@@ -1,11 +1,12 @@
 -- What a store is seen as.
-use Rattle.std.specs.Prelude.{◌≡◌, ℕ, ◌≤◌, List, Option, Some, None, ◌==◌, if◌then◌else◌, ◌-◌, slice_get}
+use Rattle.std.specs.Prelude.{ℕ, ◌≤◌, List, Option, None, ◌==◌, if◌then◌else◌, ◌-◌, slice_get}
 use Rattle.std.specs.Ordering.{nat_cmp}
-use Rattle.std.specs.FinMap.{FinMap, get, len}
+use Rattle.std.specs.FinMap.{FinMap, len}
 use Rattle.ovs_types.specs.declared.schema.Schema.{Schema}
 use Rattle.ovs_types.specs.declared.schema.Table.{Table}
 use Rattle.ovs_rows.specs.Row.{Rows, no_rows}
-use Rattle.ovs_links.specs.Sets.{Holds, IsConsistent, IsOfTables}
+use Rattle.ovs_links.specs.Link.{AreEnds}
+use Rattle.ovs_links.specs.Sets.{Holds, IsLinkSet, IsOfTables}
 use Rattle.ovs_links.specs.Chains.{IsChain, IsLongestChain, IsPrefixOf, rows_after, head_after}
 use Rattle.ovs_links.specs.declared.link.Link.{Link}
 
@@ -40,8 +41,8 @@ link_at ls n = if n == 0 then None else slice_get ls (n - 1)
 
 -- what is so of every store
 pub record IsStore (s : Stored) : Type 0 where
-  pub keyed : (prev : ℕ) (l : Link) → get s.links prev ≡ Some l → l.prev ≡ prev
-  pub consistent : IsConsistent (Holds s.links)
+  pub set : IsLinkSet s.links
+  pub ends : (l : Link) → Holds s.links l → AreEnds l.prev l.id
   pub changes : (l : Link) → Holds s.links l → IsOfTables (tables_of s) l
   pub few : len s.links ≤ max_links
   pub chain : IsChain (tables_of s) 0 no_rows (Holds s.links) s.folded

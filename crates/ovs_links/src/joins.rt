@@ -3,9 +3,9 @@
 ghost use Rattle.std.specs.Prelude.{◌≡◌, ◌≤◌, ◌⊎◌, ◌↔◌};
 ghost use Rattle.std.specs.FinMap as map;
 ghost use Rattle.std.specs.Ordering.{nat_cmp};
-ghost use Rattle.ovs_links.specs.Sets.{Holds};
+ghost use Rattle.ovs_links.specs.Sets.{Holds, IsLinkSet};
 ghost use Rattle.ovs_links.specs.Store.{max_links};
-ghost use Rattle.ovs_links.specs.Join.{IsLinkSet, Agree, AreJoinable, join};
+ghost use Rattle.ovs_links.specs.Join.{Agree, AreJoinable, join};
 ghost use Rattle.ovs_links.specs.declared.link.Link.{Link};
 
 /// The union of two sets is the same in either order. So are the causes that there is none: whether the two agree,

@@ -6,10 +6,9 @@ ghost use Rattle.std.specs.Ordering.{nat_cmp};
 ghost use Rattle.ovs_types.specs.declared.schema.Table.{Table};
 ghost use Rattle.ovs_rows.specs.Row.{Rows};
 ghost use Rattle.ovs_links.specs.Link.{IsStart, AreEnds};
-ghost use Rattle.ovs_links.specs.Sets.{Holds, Among, AllOf, IsConsistent, IsOfTables};
+ghost use Rattle.ovs_links.specs.Sets.{Holds, Among, AllOf, IsConsistent, IsLinkSet, IsOfTables};
 ghost use Rattle.ovs_links.specs.Chains.{IsLongestChain, JoinUp, rows_after};
 ghost use Rattle.ovs_links.specs.History.{Commit, IsHistory, links_of, rows_at};
-ghost use Rattle.ovs_links.specs.Join.{IsLinkSet};
 ghost use Rattle.ovs_links.specs.declared.link.Link.{Link};
 
 /// Two sets with the same links have the same longest chain, and the same rows after it.

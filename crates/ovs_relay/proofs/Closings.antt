@@ -46,7 +46,7 @@ one_link l k e = ap (λ (o : Option Link). unwrap_or o l) e
 
 no_more_fits : (s : Stored) (r : Settled) → IsStore s → SettlesAs s r → IsAtEnd (tables_of s) s.links 0 no_rows s.folded
 no_more_fits s Done store none l e =
-    let prev = store.keyed (head_of s) l e in
+    let prev = store.set.keyed (head_of s) l e in
     absurd (none l (subst (λ k. get s.links k ≡ Some l) (sym prev) e) prev)
 no_more_fits s (Stuck id) store (k, held, prev, is, misfit) l e =
     let same = one_link l k (sym e ∙ subst (λ p. get s.links p ≡ Some k) prev held) in

@@ -72,13 +72,13 @@ pub refused_is : (s : Stored) (l : Link) (e : TakeError) (r : Refusal) → IsSto
 refused_is s l (errors.Fork k Prev p i) r store (is, (h, held, differ, same, prev, id)) refusal =
     ap Refused refusal ∙ (λ j. Refused (Fork (prev j) (id j))) ∙ fork_prev_is s.links l h held differ.0 same
 refused_is s l (errors.Fork k Id p i) r store (is, (none, (h, held, differ, same, prev, id))) refusal =
-    ap Refused refusal ∙ (λ j. Refused (Fork (prev j) (id j))) ∙ fork_id_is s.links l h store.keyed store.consistent none held same
+    ap Refused refusal ∙ (λ j. Refused (Fork (prev j) (id j))) ∙ fork_id_is s.links l h store.set.keyed store.set.consistent none held same
 refused_is s l (errors.Full k) r store (is, none_prev, none_id, full) refusal =
-    ap Refused refusal ∙ full_is s.links l store.keyed none_prev none_id full
+    ap Refused refusal ∙ full_is s.links l store.set.keyed none_prev none_id full
 refused_is s l (errors.NoMemory k) r store takes refusal = absurd refusal
 
 pub new_is : (s : Stored) (l : Link) → IsStore s → TakesAs s.links l (Ok took.New) → Took ≡ outcome_of_link s.links l
-new_is s l store (none_prev, none_id, room) = took_is s.links l store.keyed none_prev none_id room
+new_is s l store (none_prev, none_id, room) = took_is s.links l store.set.keyed none_prev none_id room
 
 -- what the store is after it, by what became of the link
 pub after_is : (s t : Stored) (l : Link) (o : Outcome) → t ≡ with_link s l o → o ≡ outcome_of_link s.links l → t ≡ with_link s l (outcome_of_link s.links l)

@@ -170,14 +170,14 @@ module _ (m t : FinMap nat_cmp Link) (keyed : IsKeyed m) (consistent : IsConsist
 
 pub merged_is : (s t : Stored) → IsStore s → IsStore t → MergesAs s.links t.links (Ok tt) → Ok tt ≡ merge_outcome s t
 merged_is s t store others joinable =
-    sym (agreed_outcome s.links t.links store.keyed store.consistent others.keyed others.consistent false joinable.agree
+    sym (agreed_outcome s.links t.links store.set.keyed store.set.consistent others.set.keyed others.set.consistent false joinable.agree
     (le-ltb max_links (len (join s.links t.links)) joinable.few))
 
 pub refused_merge_is : (s t : Stored) (e : MergeError) (r : Refusal) → IsStore s → IsStore t → MergesAs s.links t.links (Err e) → IsMergeRefusalOf e r → Err r ≡ merge_outcome s t
 refused_merge_is s t (errors.Fork by p i) r store others (l, least, refutes) refusal =
-    ap Err refusal ∙ sym (fork_outcome s.links t.links store.keyed store.consistent others.keyed others.consistent l by p i least refutes)
+    ap Err refusal ∙ sym (fork_outcome s.links t.links store.set.keyed store.set.consistent others.set.keyed others.set.consistent l by p i least refutes)
 refused_merge_is s t errors.Full r store others (agree, many) refusal =
-    ap Err refusal ∙ sym (agreed_outcome s.links t.links store.keyed store.consistent others.keyed others.consistent true agree
+    ap Err refusal ∙ sym (agreed_outcome s.links t.links store.set.keyed store.set.consistent others.set.keyed others.set.consistent true agree
     (lt-ltb max_links (len (join s.links t.links)) many))
 refused_merge_is s t errors.NoMemory r store others joinable refusal = absurd refusal
 
