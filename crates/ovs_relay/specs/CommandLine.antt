@@ -1,5 +1,5 @@
 -- Which words the program takes, and what they ask for.
-use Rattle.std.specs.Prelude.{◌≡◌, ◌≢◌, List, [], ◌∷◌, Option, Some, Bool, codes, true, false, option_map, option_and_then, string_bytes}
+use Rattle.std.specs.Prelude.{◌≡◌, ◌≢◌, ℕ, List, [], ◌∷◌, Option, Some, Bool, codes, true, false, option_map, option_and_then, string_bytes}
 use Rattle.clap.specs.Words.{App, Row, Rule, Text, fault_of, first_of, new_app, new_rule, subcommand_of, with_rule, with_subcommand}
 use Rattle.clap.specs.declared.builder.action.ArgAction.TheVariants.{Set}
 use Rattle.clap.specs.declared.error.kind.ErrorKind.TheVariants.{DisplayHelp}
@@ -52,3 +52,8 @@ is_help (Fold merge) = false
 abbrev pub is_usage : CommandFault → Bool
 is_usage (Usage line) = true
 is_usage NoMemory = false
+
+-- the exit status beside a fault: 2 a fault of the command line, 3 memory gave out
+abbrev pub fault_status : CommandFault → ℕ
+fault_status (Usage line) = 2
+fault_status NoMemory = 3

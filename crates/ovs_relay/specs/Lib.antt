@@ -4,6 +4,7 @@ pub mod Turns
 pub mod Sending
 pub mod Rules
 pub mod RunEnd
+pub mod Complaint
 pub mod Words
 pub mod Reading
 pub mod Same

@@ -1,12 +1,13 @@
 //! The command line.
 ghost use Rattle.std.specs.Prelude.{◌≡◌, ◌≢◌, ℕ, List, Option, [], true, map, Err, IfOk, IfErr, IsTrue, option_map, string_bytes};
 ghost use Rattle.clap.specs.Words.{app_of, takes, fault_of, kind_of, FailsBy, HasMatchesOf, subcommand_rows_of};
-ghost use Rattle.ovs_relay.specs.CommandLine.{program, merge_of, merge_word, AsksToFold, AskForHelp, HaveFault, is_help, is_usage};
+ghost use Rattle.ovs_relay.specs.CommandLine.{program, merge_of, merge_word, AsksToFold, AskForHelp, HaveFault, is_help, is_usage, fault_status};
 
 use clap::error::ErrorKind;
 use clap::{Arg, ArgAction, ArgMatches, Command, Error};
 use std::alloc::{AllocError, Global};
 use std::convert::AsStr;
+use thiserror::Error;
 
 /// What a command line asks for.
 #[derive(Debug, Drop)]
@@ -18,12 +19,26 @@ pub enum Task {
 }
 
 /// Why a command line asks for nothing.
-#[derive(Debug, Drop)]
+#[derive(Debug, Drop, Error)]
 pub enum CommandFault {
     /// The words are off; one line says how.
+    #[error("{0}")]
     Usage(String),
     /// Memory ran out.
+    #[error("out of memory")]
     NoMemory,
+}
+
+impl CommandFault {
+    /// The exit status of the program: 2 a fault of the command line, 3 memory gave out.
+    pub fn status(&self) -> u8
+        ensures value { result ≡ fault_status self.now }
+    {
+        match self {
+            CommandFault::Usage(_) => 2,
+            CommandFault::NoMemory => 3,
+        }
+    }
 }
 
 impl From<AllocError> for CommandFault {

@@ -1,49 +1,85 @@
-//! What command lines ask for, and the form of the texts that answer them.
+//! What command lines ask for, and the texts that answer them.
 
 use crate::command::{CommandFault, Task, command};
 use std::process::Abort;
 
-// Whether an answer is of this kind: `fold`, `fold` with the word after `--merge`, `help` or `usage`.
-fn is_answer(answer: Result<Task, CommandFault>, want: &str) -> bool {
-    match answer {
-        Ok(Task::Fold { merge: None }) => want == "fold",
-        Ok(Task::Fold { merge: Some(file) }) => want.strip_prefix("fold ") == Some(file.as_str()),
-        Ok(Task::Help(text)) => want == "help" && text.as_str().contains("Usage: ovs_relay"),
-        Err(CommandFault::Usage(line)) => {
-            want == "usage" && !line.as_str().is_empty() && !line.as_str().contains("\n")
-        }
-        Err(CommandFault::NoMemory) => false,
-    }
-}
-
-fn check(rt: &(impl Abort + AllocGlobal), line: &str, want: &str) {
+fn answer(rt: &(impl Abort + AllocGlobal), line: &str) -> Result<Task, CommandFault> {
     let Ok(words) = line.split(' ').collect::<Vec<&str>>(rt.alloc()) else {
         panic!(rt; "no memory");
     };
-    let answer = command(rt.alloc(), words.as_slice());
-    assert!(rt; is_answer(answer, want), "{line}");
+    command(rt.alloc(), words.as_slice())
 }
 
 #[test]
-fn tells_what_a_command_line_asks_for(rt: HostRuntime) {
+fn takes_the_words_of_a_task(rt: HostRuntime) {
     for (line, want) in [
-        ("ovs_relay fold", "fold"),
-        ("ovs_relay fold --merge F", "fold F"),
-        ("ovs_relay fold --merge=F", "fold F"),
-        ("ovs_relay --help", "help"),
-        ("ovs_relay fold --help", "help"),
-        // no command, and an unknown one
-        ("ovs_relay", "usage"),
-        ("ovs_relay unfold", "usage"),
-        ("ovs_relay help", "usage"),
-        // unknown options
-        ("ovs_relay --merge F fold", "usage"),
-        ("ovs_relay fold --join F", "usage"),
-        // no word behind the option, the option twice, and a word too many
-        ("ovs_relay fold --merge", "usage"),
-        ("ovs_relay fold --merge F --merge G", "usage"),
-        ("ovs_relay fold F", "usage"),
+        ("ovs_relay fold", None),
+        ("ovs_relay fold --merge F", Some("F")),
+        ("ovs_relay fold --merge=F", Some("F")),
     ] {
-        check(&rt, line, want);
+        let Ok(Task::Fold { merge }) = answer(&rt, line) else {
+            panic!(&rt; "{line}");
+        };
+        assert!(&rt; merge.as_ref().map(|file| file.as_str()) == want, "{line}");
     }
+}
+
+#[test]
+fn tells_help(rt: HostRuntime) {
+    for (line, want) in [
+        ("ovs_relay --help", "Usage: ovs_relay <COMMAND>\n"),
+        ("ovs_relay -h", "Usage: ovs_relay <COMMAND>\n"),
+        ("ovs_relay fold --help", "Usage: ovs_relay fold [OPTIONS]\n"),
+        ("ovs_relay fold -h", "Usage: ovs_relay fold [OPTIONS]\n"),
+    ] {
+        let Ok(Task::Help(text)) = answer(&rt, line) else {
+            panic!(&rt; "{line}");
+        };
+        assert!(&rt; text.as_str().contains(want), "{text}");
+    }
+}
+
+#[test]
+fn tells_what_is_off_in_one_line(rt: HostRuntime) {
+    for (line, want) in [
+        // no command, and an unknown one
+        (
+            "ovs_relay",
+            "'ovs_relay' requires a subcommand but one was not provided",
+        ),
+        ("ovs_relay unfold", "unrecognized subcommand 'unfold'"),
+        ("ovs_relay help", "unrecognized subcommand 'help'"),
+        // unknown options
+        (
+            "ovs_relay --merge F fold",
+            "unexpected argument '--merge' found",
+        ),
+        (
+            "ovs_relay fold --join F",
+            "unexpected argument '--join' found",
+        ),
+        // no word behind the option, the option twice, and a word too many
+        (
+            "ovs_relay fold --merge",
+            "a value is required for '--merge <FILE>' but none was supplied",
+        ),
+        (
+            "ovs_relay fold --merge F --merge G",
+            "the argument '--merge <FILE>' cannot be used multiple times",
+        ),
+        ("ovs_relay fold F", "unexpected argument 'F' found"),
+    ] {
+        let Err(fault) = answer(&rt, line) else {
+            panic!(&rt; "{line}");
+        };
+        let Ok(text) = format!(in rt.alloc(); "{fault}") else {
+            panic!(&rt; "no memory");
+        };
+        assert!(&rt; text.as_str() == want, "{text}");
+        assert_eq!(&rt; fault.status(), 2);
+    }
+    let Ok(text) = format!(in rt.alloc(); "{}", CommandFault::NoMemory) else {
+        panic!(&rt; "no memory");
+    };
+    assert!(&rt; text.as_str() == "out of memory");
 }

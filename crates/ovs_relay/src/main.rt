@@ -5,6 +5,9 @@ mod closing;
 mod command;
 #[cfg(test)]
 mod command_tests;
+mod complaint;
+#[cfg(test)]
+mod complaint_tests;
 mod fault;
 mod fold;
 #[cfg(test)]
@@ -30,37 +33,23 @@ mod two_texts;
 mod window;
 mod words;
 
-use command::{CommandFault, Task, command};
+use command::{Task, command};
+use complaint::{Complaint, complaint_of};
 use fold::fold_run;
 use ovs_wire::Counted;
-use run::RunEnd;
+use std::fmt::Display;
 use std::fs::File;
 use std::io::ErrorKind;
 use std::process::ExitCode;
 
-/// The exit status for a fault of the command line.
-const WRONG_WORDS: u8 = 2;
-
-// One line on standard error.
-fn says<R: Eprint>(rt: &R, line: &str) {
+// One line on standard error, and the exit status that goes with it.
+fn fails<R: Eprint, L: Display>(rt: &R, line: &L, status: u8) -> ExitCode {
     let _ = eprintln!(rt; "ovs_relay: {line}");
+    ExitCode::from(status)
 }
 
-// The same of a file, which is named before the line.
-fn says_of<R: Eprint>(rt: &R, path: &str, line: &str) {
-    let _ = eprintln!(rt; "ovs_relay: {path:?} {line}");
-}
-
-// One line on standard error, and the status of the end that it tells of.
-fn fails<R: Eprint>(rt: &R, line: &str, end: RunEnd) -> ExitCode {
-    says(rt, line);
-    ExitCode::from(end.status())
-}
-
-// The same for a fault of the command line.
-fn refuses<R: Eprint>(rt: &R, line: &str) -> ExitCode {
-    says(rt, line);
-    ExitCode::from(WRONG_WORDS)
+fn complains<R: Eprint>(rt: &R, complaint: Complaint<'_>) -> ExitCode {
+    fails(rt, &complaint, complaint.status())
 }
 
 // Folds from standard input, with the links of a file where one is named. The file is opened before anything is read.
@@ -69,26 +58,16 @@ fn run_fold(rt: &HostRuntime, merge: Option<&str>) -> ExitCode {
     if let Some(path) = merge {
         match File::open(rt, path) {
             Ok(file) => second = Some(Counted::new(file)),
-            Err(_) => {
-                says_of(rt, path, "can't be opened");
-                return ExitCode::from(WRONG_WORDS);
-            }
+            Err(_) => return complains(rt, Complaint::Unopened(path)),
         }
     }
     let mut reader = Counted::new(rt.stdin());
     let mut writer = Counted::new(rt.stdout());
     let end = fold_run(rt.alloc(), &mut reader, &mut second, &mut writer);
-    match (end, merge) {
-        (RunEnd::Clean | RunEnd::Refused, _) => {}
-        (RunEnd::ReadFault, Some(path)) if reader.failures() == 0 => {
-            says_of(rt, path, "can't be read")
-        }
-        (RunEnd::ReadFault, _) => says(rt, "standard input can't be read"),
-        (RunEnd::WriteFault, _) => says(rt, "standard output can't be written"),
-        (RunEnd::TurnsSpent, _) => says(rt, "too many reads and writes"),
-        (RunEnd::NoMemory, _) => says(rt, "out of memory"),
+    match complaint_of(end, merge, reader.failures()) {
+        None => ExitCode::from(end.status()),
+        Some(complaint) => complains(rt, complaint),
     }
-    ExitCode::from(end.status())
 }
 
 fn main(rt: HostRuntime) -> ExitCode {
@@ -96,12 +75,12 @@ fn main(rt: HostRuntime) -> ExitCode {
     let args = match std::env::args(&rt) {
         Ok(args) => args,
         Err(error) if error.kind() == ErrorKind::OutOfMemory => {
-            return fails(&rt, "out of memory", RunEnd::NoMemory);
+            return complains(&rt, Complaint::NoMemory);
         }
-        Err(_) => return refuses(&rt, "a word of the command line is no UTF-8"),
+        Err(_) => return complains(&rt, Complaint::NotUtf8),
     };
     let Ok(words) = args.collect::<Vec<String>>(alloc) else {
-        return fails(&rt, "out of memory", RunEnd::NoMemory);
+        return complains(&rt, Complaint::NoMemory);
     };
     match command(alloc, words.as_slice()) {
         Ok(Task::Fold { merge }) => {
@@ -110,9 +89,8 @@ fn main(rt: HostRuntime) -> ExitCode {
         }
         Ok(Task::Help(text)) => match print!(rt; "{text}") {
             Ok(()) => ExitCode::SUCCESS,
-            Err(_) => fails(&rt, "standard output can't be written", RunEnd::WriteFault),
+            Err(_) => complains(&rt, Complaint::Unwritten),
         },
-        Err(CommandFault::Usage(line)) => refuses(&rt, line.as_str()),
-        Err(CommandFault::NoMemory) => fails(&rt, "out of memory", RunEnd::NoMemory),
+        Err(fault) => fails(&rt, &fault, fault.status()),
     }
 }
