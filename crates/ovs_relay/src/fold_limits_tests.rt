@@ -41,6 +41,13 @@ fn repeated(rt: &(impl Abort + AllocGlobal), byte: u8, count: usize) -> Vec<u8> 
     text
 }
 
+/// Arrays in one another, so many deep.
+fn nested(rt: &(impl Abort + AllocGlobal), depth: usize) -> Vec<u8> {
+    let opened = repeated(rt, b'[', depth);
+    let closed = repeated(rt, b']', depth);
+    joined(rt, &[opened.as_slice(), closed.as_slice()])
+}
+
 /// The input and what is to be written, each in parts.
 fn check(rt: &(impl Abort + AllocGlobal), input: &[&[u8]], want: &[&[u8]], want_end: RunEnd) {
     let input = joined(rt, input);
@@ -62,10 +69,8 @@ fn check(rt: &(impl Abort + AllocGlobal), input: &[&[u8]], want: &[&[u8]], want_
 }
 
 #[test]
-fn refuses_lines_past_the_limits(rt: HostRuntime) {
+fn refuses_lines_that_are_too_long(rt: HostRuntime) {
     let long = repeated(&rt, b'x', LINE_LIMIT + 1);
-    let opened = repeated(&rt, b'[', 128);
-    let closed = repeated(&rt, b']', 128);
     check(
         &rt,
         &[
@@ -73,16 +78,10 @@ fn refuses_lines_past_the_limits(rt: HostRuntime) {
             b"\n".as_slice(),
             long.as_slice(),
             b"\n".as_slice(),
-            opened.as_slice(),
-            closed.as_slice(),
-            b"\n".as_slice(),
             LINK.as_bytes(),
             b"\n".as_slice(),
         ],
-        &[
-            b"1 refused too-long\n2 refused bad-json\n3 took\n".as_slice(),
-            AT_A.as_bytes(),
-        ],
+        &[b"1 refused too-long\n2 took\n".as_slice(), AT_A.as_bytes()],
         RunEnd::Refused,
     );
     check(
@@ -94,6 +93,27 @@ fn refuses_lines_past_the_limits(rt: HostRuntime) {
             b"\n".as_slice(),
         ],
         &[b"schema refused too-long\n".as_slice()],
+        RunEnd::Refused,
+    );
+}
+
+#[test]
+fn reads_json_that_is_127_deep_and_no_deeper(rt: HostRuntime) {
+    check(
+        &rt,
+        &[
+            SCHEMA.as_bytes(),
+            b"\n".as_slice(),
+            nested(&rt, 127).as_slice(),
+            b"\n".as_slice(),
+            nested(&rt, 128).as_slice(),
+            b"\n".as_slice(),
+            LINK.as_bytes(),
+        ],
+        &[
+            b"1 refused bad-shape\n2 refused bad-json\n3 took\n".as_slice(),
+            AT_A.as_bytes(),
+        ],
         RunEnd::Refused,
     );
 }

@@ -5,16 +5,29 @@ use crate::run::RunEnd;
 use ovs_wire::Counted;
 use std::process::Abort;
 
-fn check(rt: &(impl Abort + AllocGlobal), input: &str, want: &str, end: RunEnd) {
+/// A schema with a column of each kind, and one of scalars alone.
+const SCHEMA: &str =
+    r#"{"name":"net","version":"1.0.0","tables":{"Port":{"columns":{"name":{"type":"string"},"tags":{"type":{"key":"integer","min":0,"max":"unlimited"}},"opts":{"type":{"key":"string","value":"string","min":0,"max":"unlimited"}},"up":{"type":{"key":"boolean","min":0}}}}}}
+"#;
+
+const SCALARS: &str =
+    r#"{"name":"net","version":"1.0.0","tables":{"Port":{"columns":{"name":{"type":"string"},"mtu":{"type":"integer"}}}}}
+"#;
+
+/// The links are one text, of a line each.
+fn check(rt: &(impl Abort + AllocGlobal), schema: &str, links: &str, want: &str, want_end: RunEnd) {
+    let Ok(input) = format!(in rt.alloc(); "{schema}{links}") else {
+        panic!(rt; "no memory");
+    };
     let mut reader = Counted::new(input.as_bytes());
     let mut writer = Counted::new(Vec::new(rt.alloc()));
-    let got = fold_run(
+    let end = fold_run(
         rt.alloc(),
         &mut reader,
         &mut None::<Counted<&[u8]>>,
         &mut writer,
     );
-    assert_eq!(rt; got, end);
+    assert_eq!(rt; end, want_end);
     assert!(rt;
         writer.device().as_slice() == want.as_bytes(),
         "{:?}",
@@ -23,23 +36,38 @@ fn check(rt: &(impl Abort + AllocGlobal), input: &str, want: &str, end: RunEnd) 
 }
 
 #[test]
-fn follows_the_longest_chain(rt: HostRuntime) {
+fn prints_the_tables_of_a_schema(rt: HostRuntime) {
     // no link
     check(
         &rt,
-        r#"{"name":"net","version":"1.0.0","tables":{"Port":{"columns":{"name":{"type":"string"},"tags":{"type":{"key":"integer","min":0,"max":"unlimited"}},"opts":{"type":{"key":"string","value":"string","min":0,"max":"unlimited"}},"up":{"type":{"key":"boolean","min":0}}}}}}
-"#,
+        SCHEMA,
+        "",
         r#"head 00000000-0000-0000-0000-000000000000
 links 0 chain 0 parked 0
 {"Port":{}}
 "#,
         RunEnd::Clean,
     );
+    // a schema of scalars alone
+    check(
+        &rt,
+        SCALARS,
+        "",
+        r#"head 00000000-0000-0000-0000-000000000000
+links 0 chain 0 parked 0
+{"Port":{}}
+"#,
+        RunEnd::Clean,
+    );
+}
+
+#[test]
+fn follows_the_longest_chain(rt: HostRuntime) {
     // one link
     check(
         &rt,
-        r#"{"name":"net","version":"1.0.0","tables":{"Port":{"columns":{"name":{"type":"string"},"tags":{"type":{"key":"integer","min":0,"max":"unlimited"}},"opts":{"type":{"key":"string","value":"string","min":0,"max":"unlimited"}},"up":{"type":{"key":"boolean","min":0}}}}}}
-["00000000-0000-0000-0000-000000000000","aaaaaaaa-aaaa-4aaa-8aaa-aaaaaaaaaaaa",{"Port":{"11111111-1111-4111-8111-111111111111":{"insert":{"name":"p1"}}}}]
+        SCHEMA,
+        r#"["00000000-0000-0000-0000-000000000000","aaaaaaaa-aaaa-4aaa-8aaa-aaaaaaaaaaaa",{"Port":{"11111111-1111-4111-8111-111111111111":{"insert":{"name":"p1"}}}}]
 "#,
         r#"1 took
 head aaaaaaaa-aaaa-4aaa-8aaa-aaaaaaaaaaaa
@@ -51,8 +79,8 @@ links 1 chain 1 parked 0
     // links in any order
     check(
         &rt,
-        r#"{"name":"net","version":"1.0.0","tables":{"Port":{"columns":{"name":{"type":"string"},"tags":{"type":{"key":"integer","min":0,"max":"unlimited"}},"opts":{"type":{"key":"string","value":"string","min":0,"max":"unlimited"}},"up":{"type":{"key":"boolean","min":0}}}}}}
-["bbbbbbbb-bbbb-4bbb-8bbb-bbbbbbbbbbbb","cccccccc-cccc-4ccc-8ccc-cccccccccccc",{"Port":{"11111111-1111-4111-8111-111111111111":{"modify":{"tags":["set",[2,3]]}}}}]
+        SCHEMA,
+        r#"["bbbbbbbb-bbbb-4bbb-8bbb-bbbbbbbbbbbb","cccccccc-cccc-4ccc-8ccc-cccccccccccc",{"Port":{"11111111-1111-4111-8111-111111111111":{"modify":{"tags":["set",[2,3]]}}}}]
 ["aaaaaaaa-aaaa-4aaa-8aaa-aaaaaaaaaaaa","bbbbbbbb-bbbb-4bbb-8bbb-bbbbbbbbbbbb",{"Port":{"11111111-1111-4111-8111-111111111111":{"modify":{"tags":["set",[2,1]]}}}}]
 ["00000000-0000-0000-0000-000000000000","aaaaaaaa-aaaa-4aaa-8aaa-aaaaaaaaaaaa",{"Port":{"11111111-1111-4111-8111-111111111111":{"insert":{"name":"p1"}}}}]
 "#,
@@ -65,26 +93,15 @@ links 3 chain 3 parked 0
 "#,
         RunEnd::Clean,
     );
-    // a link behind a gap is parked
-    check(
-        &rt,
-        r#"{"name":"net","version":"1.0.0","tables":{"Port":{"columns":{"name":{"type":"string"},"tags":{"type":{"key":"integer","min":0,"max":"unlimited"}},"opts":{"type":{"key":"string","value":"string","min":0,"max":"unlimited"}},"up":{"type":{"key":"boolean","min":0}}}}}}
-["00000000-0000-0000-0000-000000000000","aaaaaaaa-aaaa-4aaa-8aaa-aaaaaaaaaaaa",{"Port":{"11111111-1111-4111-8111-111111111111":{"insert":{"name":"p1"}}}}]
-["bbbbbbbb-bbbb-4bbb-8bbb-bbbbbbbbbbbb","cccccccc-cccc-4ccc-8ccc-cccccccccccc",{"Port":{"11111111-1111-4111-8111-111111111111":{"modify":{"tags":["set",[2,3]]}}}}]
-"#,
-        r#"1 took
-2 took
-head aaaaaaaa-aaaa-4aaa-8aaa-aaaaaaaaaaaa
-links 2 chain 1 parked 1
-{"Port":{"11111111-1111-4111-8111-111111111111":{"_version":["uuid","aaaaaaaa-aaaa-4aaa-8aaa-aaaaaaaaaaaa"],"name":"p1","opts":["map",[]],"tags":["set",[]],"up":["set",[]]}}}
-"#,
-        RunEnd::Clean,
-    );
+}
+
+#[test]
+fn follows_links_over_scalars(rt: HostRuntime) {
     // scalars in any order
     check(
         &rt,
-        r#"{"name":"net","version":"1.0.0","tables":{"Port":{"columns":{"name":{"type":"string"},"mtu":{"type":"integer"}}}}}
-["aaaaaaaa-aaaa-4aaa-8aaa-aaaaaaaaaaaa","bbbbbbbb-bbbb-4bbb-8bbb-bbbbbbbbbbbb",{"Port":{"11111111-1111-4111-8111-111111111111":{"modify":{"mtu":1500}}}}]
+        SCALARS,
+        r#"["aaaaaaaa-aaaa-4aaa-8aaa-aaaaaaaaaaaa","bbbbbbbb-bbbb-4bbb-8bbb-bbbbbbbbbbbb",{"Port":{"11111111-1111-4111-8111-111111111111":{"modify":{"mtu":1500}}}}]
 ["00000000-0000-0000-0000-000000000000","aaaaaaaa-aaaa-4aaa-8aaa-aaaaaaaaaaaa",{"Port":{"11111111-1111-4111-8111-111111111111":{"insert":{"name":"p1"}}}}]
 "#,
         r#"1 took
@@ -95,88 +112,11 @@ links 2 chain 2 parked 0
 "#,
         RunEnd::Clean,
     );
-    // a schema of scalars alone
-    check(
-        &rt,
-        r#"{"name":"net","version":"1.0.0","tables":{"Port":{"columns":{"name":{"type":"string"},"mtu":{"type":"integer"}}}}}
-"#,
-        r#"head 00000000-0000-0000-0000-000000000000
-links 0 chain 0 parked 0
-{"Port":{}}
-"#,
-        RunEnd::Clean,
-    );
-}
-
-#[test]
-fn tells_forks_and_repeats(rt: HostRuntime) {
-    // another spelling is held
-    check(
-        &rt,
-        r#"{"name":"net","version":"1.0.0","tables":{"Port":{"columns":{"name":{"type":"string"},"tags":{"type":{"key":"integer","min":0,"max":"unlimited"}},"opts":{"type":{"key":"string","value":"string","min":0,"max":"unlimited"}},"up":{"type":{"key":"boolean","min":0}}}}}}
-["00000000-0000-0000-0000-000000000000","aaaaaaaa-aaaa-4aaa-8aaa-aaaaaaaaaaaa",{"Port":{"11111111-1111-4111-8111-111111111111":{"insert":{"name":"p1"}}}}]
-["00000000-0000-0000-0000-000000000000","aaaaaaaa-aaaa-4aaa-8aaa-aaaaaaaaaaaa",{"Port":{"11111111-1111-4111-8111-111111111111":{"initial":{"name":"p1","tags":["set",[]]}}}}]
-"#,
-        r#"1 took
-2 held
-head aaaaaaaa-aaaa-4aaa-8aaa-aaaaaaaaaaaa
-links 1 chain 1 parked 0
-{"Port":{"11111111-1111-4111-8111-111111111111":{"_version":["uuid","aaaaaaaa-aaaa-4aaa-8aaa-aaaaaaaaaaaa"],"name":"p1","opts":["map",[]],"tags":["set",[]],"up":["set",[]]}}}
-"#,
-        RunEnd::Clean,
-    );
-    // a fork by the id before
-    check(
-        &rt,
-        r#"{"name":"net","version":"1.0.0","tables":{"Port":{"columns":{"name":{"type":"string"},"tags":{"type":{"key":"integer","min":0,"max":"unlimited"}},"opts":{"type":{"key":"string","value":"string","min":0,"max":"unlimited"}},"up":{"type":{"key":"boolean","min":0}}}}}}
-["00000000-0000-0000-0000-000000000000","aaaaaaaa-aaaa-4aaa-8aaa-aaaaaaaaaaaa",{"Port":{"11111111-1111-4111-8111-111111111111":{"insert":{"name":"p1"}}}}]
-["00000000-0000-0000-0000-000000000000","bbbbbbbb-bbbb-4bbb-8bbb-bbbbbbbbbbbb",{"Port":{"11111111-1111-4111-8111-111111111111":{"insert":{"name":"p1"}}}}]
-"#,
-        r#"1 took
-2 refused fork 00000000-0000-0000-0000-000000000000 aaaaaaaa-aaaa-4aaa-8aaa-aaaaaaaaaaaa
-head aaaaaaaa-aaaa-4aaa-8aaa-aaaaaaaaaaaa
-links 1 chain 1 parked 0
-{"Port":{"11111111-1111-4111-8111-111111111111":{"_version":["uuid","aaaaaaaa-aaaa-4aaa-8aaa-aaaaaaaaaaaa"],"name":"p1","opts":["map",[]],"tags":["set",[]],"up":["set",[]]}}}
-"#,
-        RunEnd::Refused,
-    );
-    // a fork by the id
-    check(
-        &rt,
-        r#"{"name":"net","version":"1.0.0","tables":{"Port":{"columns":{"name":{"type":"string"},"tags":{"type":{"key":"integer","min":0,"max":"unlimited"}},"opts":{"type":{"key":"string","value":"string","min":0,"max":"unlimited"}},"up":{"type":{"key":"boolean","min":0}}}}}}
-["00000000-0000-0000-0000-000000000000","aaaaaaaa-aaaa-4aaa-8aaa-aaaaaaaaaaaa",{"Port":{"11111111-1111-4111-8111-111111111111":{"insert":{"name":"p1"}}}}]
-["cccccccc-cccc-4ccc-8ccc-cccccccccccc","aaaaaaaa-aaaa-4aaa-8aaa-aaaaaaaaaaaa",{"Port":{"11111111-1111-4111-8111-111111111111":{"insert":{"name":"p1"}}}}]
-"#,
-        r#"1 took
-2 refused fork 00000000-0000-0000-0000-000000000000 aaaaaaaa-aaaa-4aaa-8aaa-aaaaaaaaaaaa
-head aaaaaaaa-aaaa-4aaa-8aaa-aaaaaaaaaaaa
-links 1 chain 1 parked 0
-{"Port":{"11111111-1111-4111-8111-111111111111":{"_version":["uuid","aaaaaaaa-aaaa-4aaa-8aaa-aaaaaaaaaaaa"],"name":"p1","opts":["map",[]],"tags":["set",[]],"up":["set",[]]}}}
-"#,
-        RunEnd::Refused,
-    );
-    // a ring is parked
-    check(
-        &rt,
-        r#"{"name":"net","version":"1.0.0","tables":{"Port":{"columns":{"name":{"type":"string"},"tags":{"type":{"key":"integer","min":0,"max":"unlimited"}},"opts":{"type":{"key":"string","value":"string","min":0,"max":"unlimited"}},"up":{"type":{"key":"boolean","min":0}}}}}}
-["aaaaaaaa-aaaa-4aaa-8aaa-aaaaaaaaaaaa","bbbbbbbb-bbbb-4bbb-8bbb-bbbbbbbbbbbb",{}]
-["bbbbbbbb-bbbb-4bbb-8bbb-bbbbbbbbbbbb","aaaaaaaa-aaaa-4aaa-8aaa-aaaaaaaaaaaa",{}]
-["00000000-0000-0000-0000-000000000000","aaaaaaaa-aaaa-4aaa-8aaa-aaaaaaaaaaaa",{}]
-"#,
-        r#"1 took
-2 took
-3 refused fork bbbbbbbb-bbbb-4bbb-8bbb-bbbbbbbbbbbb aaaaaaaa-aaaa-4aaa-8aaa-aaaaaaaaaaaa
-head 00000000-0000-0000-0000-000000000000
-links 2 chain 0 parked 2
-{"Port":{}}
-"#,
-        RunEnd::Refused,
-    );
     // a fork over scalars
     check(
         &rt,
-        r#"{"name":"net","version":"1.0.0","tables":{"Port":{"columns":{"name":{"type":"string"},"mtu":{"type":"integer"}}}}}
-["00000000-0000-0000-0000-000000000000","aaaaaaaa-aaaa-4aaa-8aaa-aaaaaaaaaaaa",{"Port":{"11111111-1111-4111-8111-111111111111":{"insert":{"name":"p1"}}}}]
+        SCALARS,
+        r#"["00000000-0000-0000-0000-000000000000","aaaaaaaa-aaaa-4aaa-8aaa-aaaaaaaaaaaa",{"Port":{"11111111-1111-4111-8111-111111111111":{"insert":{"name":"p1"}}}}]
 ["00000000-0000-0000-0000-000000000000","bbbbbbbb-bbbb-4bbb-8bbb-bbbbbbbbbbbb",{"Port":{"11111111-1111-4111-8111-111111111111":{"insert":{"name":"p1"}}}}]
 "#,
         r#"1 took
@@ -190,12 +130,100 @@ links 1 chain 1 parked 0
 }
 
 #[test]
+fn parks_what_stands_on_no_chain(rt: HostRuntime) {
+    // a link behind a gap is parked
+    check(
+        &rt,
+        SCHEMA,
+        r#"["00000000-0000-0000-0000-000000000000","aaaaaaaa-aaaa-4aaa-8aaa-aaaaaaaaaaaa",{"Port":{"11111111-1111-4111-8111-111111111111":{"insert":{"name":"p1"}}}}]
+["bbbbbbbb-bbbb-4bbb-8bbb-bbbbbbbbbbbb","cccccccc-cccc-4ccc-8ccc-cccccccccccc",{"Port":{"11111111-1111-4111-8111-111111111111":{"modify":{"tags":["set",[2,3]]}}}}]
+"#,
+        r#"1 took
+2 took
+head aaaaaaaa-aaaa-4aaa-8aaa-aaaaaaaaaaaa
+links 2 chain 1 parked 1
+{"Port":{"11111111-1111-4111-8111-111111111111":{"_version":["uuid","aaaaaaaa-aaaa-4aaa-8aaa-aaaaaaaaaaaa"],"name":"p1","opts":["map",[]],"tags":["set",[]],"up":["set",[]]}}}
+"#,
+        RunEnd::Clean,
+    );
+    // a ring is parked
+    check(
+        &rt,
+        SCHEMA,
+        r#"["aaaaaaaa-aaaa-4aaa-8aaa-aaaaaaaaaaaa","bbbbbbbb-bbbb-4bbb-8bbb-bbbbbbbbbbbb",{}]
+["bbbbbbbb-bbbb-4bbb-8bbb-bbbbbbbbbbbb","aaaaaaaa-aaaa-4aaa-8aaa-aaaaaaaaaaaa",{}]
+["00000000-0000-0000-0000-000000000000","aaaaaaaa-aaaa-4aaa-8aaa-aaaaaaaaaaaa",{}]
+"#,
+        r#"1 took
+2 took
+3 refused fork bbbbbbbb-bbbb-4bbb-8bbb-bbbbbbbbbbbb aaaaaaaa-aaaa-4aaa-8aaa-aaaaaaaaaaaa
+head 00000000-0000-0000-0000-000000000000
+links 2 chain 0 parked 2
+{"Port":{}}
+"#,
+        RunEnd::Refused,
+    );
+}
+
+#[test]
+fn holds_another_spelling(rt: HostRuntime) {
+    check(
+        &rt,
+        SCHEMA,
+        r#"["00000000-0000-0000-0000-000000000000","aaaaaaaa-aaaa-4aaa-8aaa-aaaaaaaaaaaa",{"Port":{"11111111-1111-4111-8111-111111111111":{"insert":{"name":"p1"}}}}]
+["00000000-0000-0000-0000-000000000000","aaaaaaaa-aaaa-4aaa-8aaa-aaaaaaaaaaaa",{"Port":{"11111111-1111-4111-8111-111111111111":{"initial":{"name":"p1","tags":["set",[]]}}}}]
+"#,
+        r#"1 took
+2 held
+head aaaaaaaa-aaaa-4aaa-8aaa-aaaaaaaaaaaa
+links 1 chain 1 parked 0
+{"Port":{"11111111-1111-4111-8111-111111111111":{"_version":["uuid","aaaaaaaa-aaaa-4aaa-8aaa-aaaaaaaaaaaa"],"name":"p1","opts":["map",[]],"tags":["set",[]],"up":["set",[]]}}}
+"#,
+        RunEnd::Clean,
+    );
+}
+
+#[test]
+fn names_the_held_link_of_a_fork(rt: HostRuntime) {
+    // a fork by the id before
+    check(
+        &rt,
+        SCHEMA,
+        r#"["00000000-0000-0000-0000-000000000000","aaaaaaaa-aaaa-4aaa-8aaa-aaaaaaaaaaaa",{"Port":{"11111111-1111-4111-8111-111111111111":{"insert":{"name":"p1"}}}}]
+["00000000-0000-0000-0000-000000000000","bbbbbbbb-bbbb-4bbb-8bbb-bbbbbbbbbbbb",{"Port":{"11111111-1111-4111-8111-111111111111":{"insert":{"name":"p1"}}}}]
+"#,
+        r#"1 took
+2 refused fork 00000000-0000-0000-0000-000000000000 aaaaaaaa-aaaa-4aaa-8aaa-aaaaaaaaaaaa
+head aaaaaaaa-aaaa-4aaa-8aaa-aaaaaaaaaaaa
+links 1 chain 1 parked 0
+{"Port":{"11111111-1111-4111-8111-111111111111":{"_version":["uuid","aaaaaaaa-aaaa-4aaa-8aaa-aaaaaaaaaaaa"],"name":"p1","opts":["map",[]],"tags":["set",[]],"up":["set",[]]}}}
+"#,
+        RunEnd::Refused,
+    );
+    // a fork by the id
+    check(
+        &rt,
+        SCHEMA,
+        r#"["00000000-0000-0000-0000-000000000000","aaaaaaaa-aaaa-4aaa-8aaa-aaaaaaaaaaaa",{"Port":{"11111111-1111-4111-8111-111111111111":{"insert":{"name":"p1"}}}}]
+["cccccccc-cccc-4ccc-8ccc-cccccccccccc","aaaaaaaa-aaaa-4aaa-8aaa-aaaaaaaaaaaa",{"Port":{"11111111-1111-4111-8111-111111111111":{"insert":{"name":"p1"}}}}]
+"#,
+        r#"1 took
+2 refused fork 00000000-0000-0000-0000-000000000000 aaaaaaaa-aaaa-4aaa-8aaa-aaaaaaaaaaaa
+head aaaaaaaa-aaaa-4aaa-8aaa-aaaaaaaaaaaa
+links 1 chain 1 parked 0
+{"Port":{"11111111-1111-4111-8111-111111111111":{"_version":["uuid","aaaaaaaa-aaaa-4aaa-8aaa-aaaaaaaaaaaa"],"name":"p1","opts":["map",[]],"tags":["set",[]],"up":["set",[]]}}}
+"#,
+        RunEnd::Refused,
+    );
+}
+
+#[test]
 fn applies_differences(rt: HostRuntime) {
     // the difference of a set
     check(
         &rt,
-        r#"{"name":"net","version":"1.0.0","tables":{"Port":{"columns":{"name":{"type":"string"},"tags":{"type":{"key":"integer","min":0,"max":"unlimited"}},"opts":{"type":{"key":"string","value":"string","min":0,"max":"unlimited"}},"up":{"type":{"key":"boolean","min":0}}}}}}
-["00000000-0000-0000-0000-000000000000","aaaaaaaa-aaaa-4aaa-8aaa-aaaaaaaaaaaa",{"Port":{"11111111-1111-4111-8111-111111111111":{"insert":{"name":"p1","tags":["set",[1,2]]}}}}]
+        SCHEMA,
+        r#"["00000000-0000-0000-0000-000000000000","aaaaaaaa-aaaa-4aaa-8aaa-aaaaaaaaaaaa",{"Port":{"11111111-1111-4111-8111-111111111111":{"insert":{"name":"p1","tags":["set",[1,2]]}}}}]
 ["aaaaaaaa-aaaa-4aaa-8aaa-aaaaaaaaaaaa","bbbbbbbb-bbbb-4bbb-8bbb-bbbbbbbbbbbb",{"Port":{"11111111-1111-4111-8111-111111111111":{"modify":{"tags":["set",[2,3]]}}}}]
 "#,
         r#"1 took
@@ -209,8 +237,8 @@ links 2 chain 2 parked 0
     // the difference of a map
     check(
         &rt,
-        r#"{"name":"net","version":"1.0.0","tables":{"Port":{"columns":{"name":{"type":"string"},"tags":{"type":{"key":"integer","min":0,"max":"unlimited"}},"opts":{"type":{"key":"string","value":"string","min":0,"max":"unlimited"}},"up":{"type":{"key":"boolean","min":0}}}}}}
-["00000000-0000-0000-0000-000000000000","aaaaaaaa-aaaa-4aaa-8aaa-aaaaaaaaaaaa",{"Port":{"11111111-1111-4111-8111-111111111111":{"insert":{"opts":["map",[["x","1"],["y","2"]]]}}}}]
+        SCHEMA,
+        r#"["00000000-0000-0000-0000-000000000000","aaaaaaaa-aaaa-4aaa-8aaa-aaaaaaaaaaaa",{"Port":{"11111111-1111-4111-8111-111111111111":{"insert":{"opts":["map",[["x","1"],["y","2"]]]}}}}]
 ["aaaaaaaa-aaaa-4aaa-8aaa-aaaaaaaaaaaa","bbbbbbbb-bbbb-4bbb-8bbb-bbbbbbbbbbbb",{"Port":{"11111111-1111-4111-8111-111111111111":{"modify":{"opts":["map",[["x","1"],["y","9"],["z","3"]]]}}}}]
 "#,
         r#"1 took
@@ -221,11 +249,14 @@ links 2 chain 2 parked 0
 "#,
         RunEnd::Clean,
     );
-    // a single value replaced by none
+}
+
+#[test]
+fn replaces_a_single_value(rt: HostRuntime) {
     check(
         &rt,
-        r#"{"name":"net","version":"1.0.0","tables":{"Port":{"columns":{"name":{"type":"string"},"tags":{"type":{"key":"integer","min":0,"max":"unlimited"}},"opts":{"type":{"key":"string","value":"string","min":0,"max":"unlimited"}},"up":{"type":{"key":"boolean","min":0}}}}}}
-["00000000-0000-0000-0000-000000000000","aaaaaaaa-aaaa-4aaa-8aaa-aaaaaaaaaaaa",{"Port":{"11111111-1111-4111-8111-111111111111":{"insert":{"up":true}}}}]
+        SCHEMA,
+        r#"["00000000-0000-0000-0000-000000000000","aaaaaaaa-aaaa-4aaa-8aaa-aaaaaaaaaaaa",{"Port":{"11111111-1111-4111-8111-111111111111":{"insert":{"up":true}}}}]
 ["aaaaaaaa-aaaa-4aaa-8aaa-aaaaaaaaaaaa","bbbbbbbb-bbbb-4bbb-8bbb-bbbbbbbbbbbb",{"Port":{"11111111-1111-4111-8111-111111111111":{"modify":{"up":["set",[]]}}}}]
 "#,
         r#"1 took
@@ -239,12 +270,11 @@ links 2 chain 2 parked 0
 }
 
 #[test]
-fn tells_what_does_not_fit(rt: HostRuntime) {
-    // stuck at a change that does not fit
+fn tells_where_the_chain_is_stuck(rt: HostRuntime) {
     check(
         &rt,
-        r#"{"name":"net","version":"1.0.0","tables":{"Port":{"columns":{"name":{"type":"string"},"tags":{"type":{"key":"integer","min":0,"max":"unlimited"}},"opts":{"type":{"key":"string","value":"string","min":0,"max":"unlimited"}},"up":{"type":{"key":"boolean","min":0}}}}}}
-["00000000-0000-0000-0000-000000000000","aaaaaaaa-aaaa-4aaa-8aaa-aaaaaaaaaaaa",{"Port":{"11111111-1111-4111-8111-111111111111":{"modify":{"name":"q"}}}}]
+        SCHEMA,
+        r#"["00000000-0000-0000-0000-000000000000","aaaaaaaa-aaaa-4aaa-8aaa-aaaaaaaaaaaa",{"Port":{"11111111-1111-4111-8111-111111111111":{"modify":{"name":"q"}}}}]
 "#,
         r#"1 took
 stuck aaaaaaaa-aaaa-4aaa-8aaa-aaaaaaaaaaaa
@@ -254,11 +284,14 @@ links 1 chain 0 parked 1
 "#,
         RunEnd::Refused,
     );
-    // ids that no link has
+}
+
+#[test]
+fn refuses_ids_that_no_link_has(rt: HostRuntime) {
     check(
         &rt,
-        r#"{"name":"net","version":"1.0.0","tables":{"Port":{"columns":{"name":{"type":"string"},"tags":{"type":{"key":"integer","min":0,"max":"unlimited"}},"opts":{"type":{"key":"string","value":"string","min":0,"max":"unlimited"}},"up":{"type":{"key":"boolean","min":0}}}}}}
-["00000000-0000-0000-0000-000000000000","00000000-0000-0000-0000-000000000000",{}]
+        SCHEMA,
+        r#"["00000000-0000-0000-0000-000000000000","00000000-0000-0000-0000-000000000000",{}]
 ["aaaaaaaa-aaaa-4aaa-8aaa-aaaaaaaaaaaa","aaaaaaaa-aaaa-4aaa-8aaa-aaaaaaaaaaaa",{}]
 "#,
         r#"1 refused bad-id
@@ -272,12 +305,12 @@ links 0 chain 0 parked 0
 }
 
 #[test]
-fn refuses_values_by_name(rt: HostRuntime) {
+fn refuses_numbers_past_64_bits(rt: HostRuntime) {
     // numbers past 64 bits
     check(
         &rt,
-        r#"{"name":"net","version":"1.0.0","tables":{"Port":{"columns":{"name":{"type":"string"},"tags":{"type":{"key":"integer","min":0,"max":"unlimited"}},"opts":{"type":{"key":"string","value":"string","min":0,"max":"unlimited"}},"up":{"type":{"key":"boolean","min":0}}}}}}
-["00000000-0000-0000-0000-000000000000","aaaaaaaa-aaaa-4aaa-8aaa-aaaaaaaaaaaa",{"Port":{"11111111-1111-4111-8111-111111111111":{"insert":{"tags":9223372036854775807}}}}]
+        SCHEMA,
+        r#"["00000000-0000-0000-0000-000000000000","aaaaaaaa-aaaa-4aaa-8aaa-aaaaaaaaaaaa",{"Port":{"11111111-1111-4111-8111-111111111111":{"insert":{"tags":9223372036854775807}}}}]
 ["aaaaaaaa-aaaa-4aaa-8aaa-aaaaaaaaaaaa","bbbbbbbb-bbbb-4bbb-8bbb-bbbbbbbbbbbb",{"Port":{"11111111-1111-4111-8111-111111111111":{"modify":{"tags":9223372036854775808}}}}]
 ["aaaaaaaa-aaaa-4aaa-8aaa-aaaaaaaaaaaa","bbbbbbbb-bbbb-4bbb-8bbb-bbbbbbbbbbbb",{"Port":{"11111111-1111-4111-8111-111111111111":{"modify":{"tags":1.5}}}}]
 "#,
@@ -293,8 +326,8 @@ links 1 chain 1 parked 0
     // a number past 64 bits in a scalar
     check(
         &rt,
-        r#"{"name":"net","version":"1.0.0","tables":{"Port":{"columns":{"name":{"type":"string"},"mtu":{"type":"integer"}}}}}
-["00000000-0000-0000-0000-000000000000","aaaaaaaa-aaaa-4aaa-8aaa-aaaaaaaaaaaa",{"Port":{"11111111-1111-4111-8111-111111111111":{"insert":{"mtu":9223372036854775808}}}}]
+        SCALARS,
+        r#"["00000000-0000-0000-0000-000000000000","aaaaaaaa-aaaa-4aaa-8aaa-aaaaaaaaaaaa",{"Port":{"11111111-1111-4111-8111-111111111111":{"insert":{"mtu":9223372036854775808}}}}]
 "#,
         r#"1 refused not-integer
 head 00000000-0000-0000-0000-000000000000
@@ -303,11 +336,15 @@ links 0 chain 0 parked 0
 "#,
         RunEnd::Refused,
     );
+}
+
+#[test]
+fn refuses_elements_by_name(rt: HostRuntime) {
     // an element twice
     check(
         &rt,
-        r#"{"name":"net","version":"1.0.0","tables":{"Port":{"columns":{"name":{"type":"string"},"tags":{"type":{"key":"integer","min":0,"max":"unlimited"}},"opts":{"type":{"key":"string","value":"string","min":0,"max":"unlimited"}},"up":{"type":{"key":"boolean","min":0}}}}}}
-["00000000-0000-0000-0000-000000000000","aaaaaaaa-aaaa-4aaa-8aaa-aaaaaaaaaaaa",{"Port":{"11111111-1111-4111-8111-111111111111":{"insert":{"tags":["set",[1,1]]}}}}]
+        SCHEMA,
+        r#"["00000000-0000-0000-0000-000000000000","aaaaaaaa-aaaa-4aaa-8aaa-aaaaaaaaaaaa",{"Port":{"11111111-1111-4111-8111-111111111111":{"insert":{"tags":["set",[1,1]]}}}}]
 "#,
         r#"1 refused duplicate
 head 00000000-0000-0000-0000-000000000000
@@ -319,8 +356,8 @@ links 0 chain 0 parked 0
     // an element of another kind
     check(
         &rt,
-        r#"{"name":"net","version":"1.0.0","tables":{"Port":{"columns":{"name":{"type":"string"},"tags":{"type":{"key":"integer","min":0,"max":"unlimited"}},"opts":{"type":{"key":"string","value":"string","min":0,"max":"unlimited"}},"up":{"type":{"key":"boolean","min":0}}}}}}
-["00000000-0000-0000-0000-000000000000","aaaaaaaa-aaaa-4aaa-8aaa-aaaaaaaaaaaa",{"Port":{"11111111-1111-4111-8111-111111111111":{"insert":{"name":5}}}}]
+        SCHEMA,
+        r#"["00000000-0000-0000-0000-000000000000","aaaaaaaa-aaaa-4aaa-8aaa-aaaaaaaaaaaa",{"Port":{"11111111-1111-4111-8111-111111111111":{"insert":{"name":5}}}}]
 "#,
         r#"1 refused wrong-kind
 head 00000000-0000-0000-0000-000000000000
@@ -332,8 +369,8 @@ links 0 chain 0 parked 0
     // two elements in a single column
     check(
         &rt,
-        r#"{"name":"net","version":"1.0.0","tables":{"Port":{"columns":{"name":{"type":"string"},"tags":{"type":{"key":"integer","min":0,"max":"unlimited"}},"opts":{"type":{"key":"string","value":"string","min":0,"max":"unlimited"}},"up":{"type":{"key":"boolean","min":0}}}}}}
-["00000000-0000-0000-0000-000000000000","aaaaaaaa-aaaa-4aaa-8aaa-aaaaaaaaaaaa",{"Port":{"11111111-1111-4111-8111-111111111111":{"insert":{"up":["set",[true,false]]}}}}]
+        SCHEMA,
+        r#"["00000000-0000-0000-0000-000000000000","aaaaaaaa-aaaa-4aaa-8aaa-aaaaaaaaaaaa",{"Port":{"11111111-1111-4111-8111-111111111111":{"insert":{"up":["set",[true,false]]}}}}]
 "#,
         r#"1 refused wrong-count
 head 00000000-0000-0000-0000-000000000000
@@ -351,6 +388,7 @@ fn refuses_lines_and_schemas_by_name(rt: HostRuntime) {
         &rt,
         r#"{"name":"net","version":"1.0.0","tables":{"Port":{"columns":{"x":{"type":"real"}}}}}
 "#,
+        "",
         r#"schema refused real
 "#,
         RunEnd::Refused,
@@ -358,8 +396,8 @@ fn refuses_lines_and_schemas_by_name(rt: HostRuntime) {
     // a line that is no json
     check(
         &rt,
-        r#"{"name":"net","version":"1.0.0","tables":{"Port":{"columns":{"name":{"type":"string"},"tags":{"type":{"key":"integer","min":0,"max":"unlimited"}},"opts":{"type":{"key":"string","value":"string","min":0,"max":"unlimited"}},"up":{"type":{"key":"boolean","min":0}}}}}}
-["0","a",{"Port"
+        SCHEMA,
+        r#"["0","a",{"Port"
 "#,
         r#"1 refused bad-json
 head 00000000-0000-0000-0000-000000000000
