@@ -1,6 +1,6 @@
 //! What becomes of a link's line.
 
-ghost use Rattle.std.specs.Prelude.{◌≡◌, IfOk, OnOk, Ok, option_map, string_bytes};
+ghost use Rattle.std.specs.Prelude.{◌≡◌, ◌⊎◌, IfOk, OnOk, OnErr, Ok, option_map, string_bytes};
 ghost use Rattle.ovs_rows.specs.Change.{IsChangeOf};
 ghost use Rattle.ovs_links.specs.Store.{tables_of};
 ghost use Rattle.ovs_relay.specs.Folding.{line_outcome, is_refused};
@@ -41,14 +41,16 @@ fn refusal_of(error: &TakeError) -> Result<Refusal, NoMemory>
     }
 }
 
-// Gives the link to the store.
+// Gives the link to the store. After `NoMemory` the store is as it was.
 fn take_link(store: &mut LinkStore, link: Link) -> Result<Outcome, NoMemory>
     requires tables { IsChangeOf (tables_of store.old) link.change }
     ensures outcome { IfOk result (λ outcome. outcome ≡ outcome_of_link store.old.links link) }
     ensures agrees { IfOk result (TellsAnswer store.old.links link) }
     ensures after { OnOk result (store.new ≡ with_link store.old link (outcome_of_link store.old.links link)) }
+    ensures err { OnErr result (store.new ≡ store.old) }
     ensures schema { store.new.schema ≡ store.old.schema }
 {
+    // Says what every store keeps, on which the clauses here rest.
     let _ = store.head();
     match store.take(link) {
         Ok(Took::New) => Ok(Outcome::Took),
@@ -61,6 +63,7 @@ fn take_link(store: &mut LinkStore, link: Link) -> Result<Outcome, NoMemory>
 fn take_line(alloc: Global, store: &mut LinkStore, line: Option<&[u8]>) -> Result<Outcome, NoMemory>
     ensures outcome { IfOk result (λ outcome. outcome ≡ line_outcome store.old (option_map (λ l. l.now) line.entry)) }
     ensures after { OnOk result (store.new ≡ store_after_line store.old (link_of_line (tables_of store.old) (option_map (λ l. l.now) line.entry))) }
+    ensures err { OnErr result (store.new ≡ store.old) }
     ensures schema { store.new.schema ≡ store.old.schema }
 {
     match link_of_line(alloc, line, store.schema())? {
@@ -88,6 +91,8 @@ fn answer_of(alloc: Global, number: u64, outcome: Outcome) -> Result<Answer, NoM
 }
 
 /// Takes the link of a line, with its number, into the store, and tells what became of it.
+///
+/// After `NoMemory` the store is as it was, or holds the link already.
 pub fn answer_line(
     alloc: Global,
     store: &mut LinkStore,
@@ -97,6 +102,8 @@ pub fn answer_line(
     ensures text { IfOk result (λ answer. string_bytes answer.text ≡ outcome_line number (line_outcome store.old (option_map (λ l. l.now) line.entry))) }
     ensures refused { IfOk result (λ answer. answer.is_refused ≡ is_refused (line_outcome store.old (option_map (λ l. l.now) line.entry))) }
     ensures after { OnOk result (store.new ≡ store_after_line store.old (link_of_line (tables_of store.old) (option_map (λ l. l.now) line.entry))) }
+    ensures err { OnErr result ((store.new ≡ store.old)
+        ⊎ (store.new ≡ store_after_line store.old (link_of_line (tables_of store.old) (option_map (λ l. l.now) line.entry)))) }
     ensures schema { store.new.schema ≡ store.old.schema }
 {
     match take_line(alloc, store, line) {

@@ -1,6 +1,6 @@
 //! Two stores, of which the second is merged into the first at the end.
 
-ghost use Rattle.std.specs.Prelude.{◌≡◌, ◌<◌, ◌+◌, ◌++◌, ◌^◌, ◌&&◌, not, IfOk, OnOk, codes, option_map, string_bytes};
+ghost use Rattle.std.specs.Prelude.{◌≡◌, ◌⊎◌, ◌<◌, ◌+◌, ◌++◌, ◌^◌, ◌&&◌, not, IfOk, OnOk, OnErr, codes, option_map, string_bytes};
 ghost use Rattle.ovs_links.specs.Store.{tables_of};
 ghost use Rattle.ovs_relay.specs.Folding.{line_outcome, is_refused};
 ghost use Rattle.ovs_relay.specs.Merge.{IsMergeRefusalOf, merge_outcome, merged};
@@ -65,6 +65,7 @@ fn merge_stores(first: &mut LinkStore, second: &LinkStore) -> Result<Result<(), 
     ensures after { OnOk result (first.new ≡ merged first.old second.now) }
     ensures schema { first.new.schema ≡ first.old.schema }
 {
+    // These say what every store keeps, on which the clauses here rest.
     let _ = first.head();
     let _ = second.head();
     match first.merge(second) {
@@ -79,12 +80,6 @@ fn with_m(alloc: Global, line: &str) -> Result<String, AllocError>
     format!(in alloc; "m{line}")
 }
 
-fn joined(alloc: Global, line: &str, end: &str) -> Result<String, AllocError>
-    ensures text { IfOk result (λ text. string_bytes text ≡ line.now ++ end.now) }
-{
-    format!(in alloc; "{line}{end}")
-}
-
 impl TwoStores {
     /// A store, and beside it one of the same schema with no link.
     pub fn new(alloc: Global, first: LinkStore) -> Result<TwoStores, NoMemory>
@@ -95,7 +90,7 @@ impl TwoStores {
     }
 
     /// Takes the link of a line of the second text, with its number from 0, into the second store, and tells what
-    /// became of it.
+    /// became of it. After `NoMemory` the second store is as it was, or holds the link already; the first is as it was.
     pub fn answer_line(
         &mut self,
         alloc: Global,
@@ -106,6 +101,7 @@ impl TwoStores {
         ensures text { IfOk result (λ answer. string_bytes answer.text ≡ second_answer self.old number (option_map (λ l. l.now) line.entry)) }
         ensures refused { IfOk result (λ answer. answer.is_refused ≡ is_refused (line_outcome self.old.second (option_map (λ l. l.now) line.entry))) }
         ensures after { OnOk result (self.new ≡ stores_after_line self.old (option_map (λ l. l.now) line.entry)) }
+        ensures err { OnErr result ((self.new ≡ self.old) ⊎ (self.new ≡ stores_after_line self.old (option_map (λ l. l.now) line.entry))) }
     {
         let answer = answer_line(alloc, &mut self.second, number + 1, line)?;
         Ok(Answer {
@@ -116,16 +112,19 @@ impl TwoStores {
 
     /// Merges the second store into the first, folds the longest chain of what that is then, and tells of both. It is
     /// content where no line was refused, the stores were merged and the chain isn't stuck.
+    ///
+    /// After `NoMemory` the second store may be merged already, and a longer beginning of the first's chain folded.
     pub fn close(&mut self, alloc: Global, refused: bool) -> Result<Closing, NoMemory>
         ensures text { IfOk result (λ closing. string_bytes closing.text ≡ stores_closing self.old) }
         ensures content { IfOk result (λ closing. closing.is_content ≡ (not refused && is_merged_whole self.old)) }
     {
         let merged = merge_stores(&mut self.first, &self.second)?;
         let is_merged = merged.is_ok();
-        let line = merge_line(alloc, merged)?;
+        let mut text = merge_line(alloc, merged)?;
         let end = close_store(alloc, &mut self.first, false)?;
+        text.push_str(end.text.as_str())?;
         Ok(Closing {
-            text: joined(alloc, line.as_str(), end.text.as_str())?,
+            text,
             is_content: !refused && (is_merged && end.is_content),
         })
     }

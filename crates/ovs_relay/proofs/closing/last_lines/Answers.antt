@@ -1,11 +1,21 @@
-use Rattle.std.proofs.Common.{◌≡◌, ap, ap₂, ◌∙◌, ◌++◌}
-use Rattle.ovs_relay.specs.Closing.{stuck_line, head_line, counts_line, database_line}
+use Rattle.std.proofs.Common.{ap, ap₂, ◌∙◌, ◌++◌, append_assoc, length}
+use Rattle.std.specs.FinMap.{len}
+use Rattle.ovs_links.specs.Chains.{head_after}
+use Rattle.ovs_relay.specs.Closing.{stuck_id, stuck_line, head_line, counts_line, database_line, database_after}
 use Rattle.ovs_relay.proofs.closing.last_lines.Goals as goal
 
 pub returns : goal.returns
 returns c =
-    let stuck = c.as_str.ensures.value ∙ c.in_ok-stuck.ensures.text ∙ ap stuck_line c.requires.stuck in
-    let head = c.as_str-2.ensures.value ∙ c.in_ok-head.ensures.text ∙ ap head_line c.head.ensures.value in
-    let counts = c.as_str-3.ensures.value ∙ c.in_ok-counts.ensures.text ∙ ap₂ counts_line c.len.ensures.value c.chain_len.ensures.value in
-    let database = c.as_str-4.ensures.value ∙ c.in_ok-database.ensures.text ∙ ap database_line c.database.ensures.value in
-    record { text = c.in_ok-joined.ensures.text ∙ ap₂ (λ x y. x ++ y) stuck (ap₂ (λ x y. x ++ y) head (ap₂ (λ x y. x ++ y) counts database)) }
+    let store = c.args.store.now in
+    let stuck_text = stuck_line (stuck_id store.links store.folded) in
+    let head_text = head_line (head_after 0 store.folded) in
+    let counts_text = counts_line (len store.links) (length store.folded) in
+    let database_text = database_line (database_after store store.folded) in
+    let stuck = c.in_ok-text.ensures.text ∙ ap stuck_line c.requires.stuck in
+    let head = c.as_str.ensures.value ∙ c.in_ok-head.ensures.text ∙ ap head_line c.head.ensures.value in
+    let counts = c.as_str-2.ensures.value ∙ c.in_ok-counts.ensures.text ∙ ap₂ counts_line c.len.ensures.value c.chain_len.ensures.value in
+    let database = c.as_str-3.ensures.value ∙ c.in_ok-database.ensures.text ∙ ap database_line c.database.ensures.value in
+    let with_head = c.in_ok-push_str.ensures.bytes ∙ ap₂ (λ x y. x ++ y) stuck head in
+    let with_counts = c.in_ok-push_str-2.ensures.bytes ∙ ap₂ (λ x y. x ++ y) with_head counts in
+    let all = c.in_ok-push_str-3.ensures.bytes ∙ ap₂ (λ x y. x ++ y) with_counts database in
+    record { text = all ∙ append_assoc (stuck_text ++ head_text) counts_text database_text ∙ append_assoc stuck_text head_text (counts_text ++ database_text) }
