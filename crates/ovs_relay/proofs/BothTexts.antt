@@ -1,22 +1,17 @@
 -- The script `fold` over an input and a second text.
-use Rattle.std.proofs.Common.{◌≡◌, ℕ, ◌+◌, Bool, Option, Some, None, List, [], ◌++◌, refl, sym, ap, subst, ◌∙◌, append-nil, inl, inr, ◌⊎◌, Result, Ok, Err, OnOk, OnErr, IfSome}
+use Rattle.std.proofs.Common.{◌≡◌, ℕ, Bool, Option, Some, None, List, [], ◌++◌, refl, sym, ap, subst, ◌∙◌, append-nil, inl, inr, IfSome}
 use Rattle.std.specs.Io.KnownBytes.{Appends}
 use Rattle.std.proofs.KnownBytes.{Appends-trans}
-use Rattle.ovs_wire.specs.Counted.{one_more}
 use Rattle.ovs_relay.specs.declared.fold.Fold.{Fold}
-use Rattle.ovs_relay.specs.declared.fault.Fault.{Fault}
-use Rattle.ovs_relay.specs.declared.fault.Fault.TheVariants.{ReadFault}
 use Rattle.ovs_relay.specs.declared.merging.Merging.{Merging}
 use Rattle.ovs_relay.specs.Lines.{lines_of}
-use Rattle.ovs_relay.specs.Fault.{failed_reads}
 use Rattle.ovs_relay.specs.Sending.{AppendsAllBut, AppendsBeginning}
-use Rattle.ovs_relay.specs.Rules.{AreFirstLines, AreAnswersToFirst, answers_from, answers_to, state_from, state_after, script_output, is_content_with}
+use Rattle.ovs_relay.specs.Rules.{AreFirstLines, answers_from, answers_to, state_from, state_after, script_output, is_content_with}
 use Rattle.ovs_relay.specs.Folding.{fold_rules, beginning}
 use Rattle.ovs_relay.specs.Merging.{merging_rules, merging_of, merging_behind, fold_output, is_clean, AreFirstAnswers}
-use Rattle.ovs_relay.specs.TwoTexts.{OneGrew}
 use Rattle.ovs_relay.proofs.Sent.{sent_then, sent_whole}
-use Rattle.ovs_relay.proofs.Texts.{some_map, at_text, of_both, of_first, of_each, both_of}
-use Rattle.ovs_relay.proofs.Way.{Begun, begun_before, begun_behind, gave_up}
+use Rattle.ovs_relay.proofs.Texts.{some_map, of_both, of_first, of_each, both_of}
+use Rattle.ovs_relay.proofs.Way.{Begun, begun_before, gave_up}
 
 -- the input is answered, and the second text is looked at in this state
 record Between (before now : Option (List ℕ)) (waited waiting : List ℕ) (m : Merging) (input : List ℕ) : Type 0 where
@@ -103,18 +98,6 @@ module _ (start second before now : Option (List ℕ)) (waited waiting : List �
         → IfSome start (λ input. IfSome second (λ text. (said : List ℕ) × AreFirstAnswers input (Some text) said × AppendsAllBut before new (waited ++ said) none))
     both_heard none last answered state more =
         both_answers none answered state (some_map second _ _ (λ text told. (told.0, told.1, told.3)) more)
-
--- ---- the failures of two readers
-
-pub first_failed : (n n' other : ℕ) (fault : Fault) → n' ≡ failed_reads {T = Unit {0}} n (Err fault) → fault ≡ ReadFault → OneGrew n n' other other
-first_failed n n' other fault is read = inl (is ∙ ap (λ z. failed_reads {T = Unit {0}} n (Err z)) read, refl)
-
-pub second_failed : (n n' other other' : ℕ) (r : Result Bool Fault) → n' ≡ n → other' ≡ failed_reads other r → r ≡ Err ReadFault → OneGrew n n' other other'
-second_failed n n' other other' r same is read = inr (same, is ∙ ap (failed_reads other) read)
-
-pub none_failed : (n n' other other' : ℕ) (r : Result Bool Fault) → n' ≡ n → other' ≡ failed_reads other r → OnOk r ((n' ≡ n) × (other' ≡ other))
-none_failed n n' other other' (Ok b) same is = (same, is)
-none_failed n n' other other' (Err fault) same is = tt
 
 -- ---- the end of a run for a fault
 

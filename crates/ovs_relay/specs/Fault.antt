@@ -15,3 +15,9 @@ abbrev pub failed_writes : {T : Type 0} → ℕ → Result T Fault → ℕ
 failed_writes n (Ok value) = n
 failed_writes n (Err WriteFault) = one_more n
 failed_writes n (Err _) = n
+
+-- which of two cases an answer tells: at a read fault that a reader failed, and else that none did
+abbrev pub AnswerTells : {T : Type 0} → Result T Fault → Type 0 → Type 0 → Type 0
+AnswerTells (Ok value) none_failed one_failed = none_failed
+AnswerTells (Err ReadFault) none_failed one_failed = one_failed
+AnswerTells (Err _) none_failed one_failed = none_failed

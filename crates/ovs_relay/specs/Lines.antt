@@ -7,9 +7,17 @@ abbrev pub lines_of : List ℕ → List (List ℕ)
 lines_of [] = []
 lines_of (b ∷ text) = if b == 10 then [] ∷ lines_of text else onto_first b (lines_of text)
 
--- what is kept of a line: nothing where it is longer than 16,777,216 bytes
+-- how many bytes a read gives at most
+abbrev pub most_read : ℕ
+most_read = 65536
+
+-- the most bytes of a line, without its LF
+abbrev pub line_limit : ℕ
+line_limit = 16777216
+
+-- what is kept of a line: nothing where it is above the limit
 abbrev pub kept : List ℕ → Option (List ℕ)
-kept line = if nat_lt 16777216 (length line) then None else Some line
+kept line = if nat_lt line_limit (length line) then None else Some line
 
 -- a line with no byte; one that is too long is none
 abbrev pub is_empty_line : Option (List ℕ) → Bool

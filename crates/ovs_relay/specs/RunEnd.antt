@@ -1,5 +1,5 @@
 -- How a run ends.
-use Rattle.std.specs.Prelude.{ℕ, Bool, true, false}
+use Rattle.std.specs.Prelude.{◌⊎◌, ℕ, Bool, true, false}
 use Rattle.ovs_wire.specs.Counted.{one_more}
 use Rattle.ovs_relay.specs.declared.run.RunEnd.{RunEnd}
 use Rattle.ovs_relay.specs.declared.run.RunEnd.TheVariants.{Clean, Refused}
@@ -13,7 +13,7 @@ is_whole Clean = true
 is_whole Refused = true
 is_whole _ = false
 
--- the exit status of the program: 0 done, 1 some input refused, 3 memory or a device gave out
+-- the exit status of the program: 0 the script is content, 1 it isn't, 3 memory, a device or the calls gave out
 abbrev pub status_of : RunEnd → ℕ
 status_of Clean = 0
 status_of Refused = 1
@@ -23,6 +23,14 @@ status_of _ = 3
 abbrev pub writes_failed_by : ℕ → RunEnd → ℕ
 writes_failed_by n ends.WriteFault = one_more n
 writes_failed_by n _ = n
+
+-- which of two cases an end tells: at a read fault that a reader failed, and where all is written or memory ran out that none
+-- did; a write fault and the want of calls may have come in a read fault's place, so that it is either
+abbrev pub EndTells : RunEnd → Type 0 → Type 0 → Type 0
+EndTells ends.ReadFault none_failed one_failed = one_failed
+EndTells ends.WriteFault none_failed one_failed = none_failed ⊎ one_failed
+EndTells ends.TurnsSpent none_failed one_failed = none_failed ⊎ one_failed
+EndTells _ none_failed one_failed = none_failed
 
 -- the end that a fault makes
 abbrev pub end_for : Fault → RunEnd

@@ -1,6 +1,10 @@
--- What a writer was given of a text.
+-- What a writer is given of a text.
 use Rattle.std.specs.Prelude.{◌≡◌, ℕ, List, ◌++◌, Option}
 use Rattle.std.specs.Io.KnownBytes.{Appends}
+
+-- so many bytes wait at least before they are written amid a run
+abbrev pub batch : ℕ
+batch = 65536
 
 -- known bytes grew by a text without this rest of it
 abbrev pub AppendsAllBut : Option (List ℕ) → Option (List ℕ) → List ℕ → List ℕ → Type 0

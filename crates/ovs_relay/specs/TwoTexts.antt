@@ -16,3 +16,7 @@ counted_of count (Some m) = count m
 abbrev pub OneGrew : ℕ → ℕ → ℕ → ℕ → Type 0
 OneGrew before now other_before other_now =
     ((now ≡ one_more before) × (other_now ≡ other_before)) ⊎ ((now ≡ before) × (other_now ≡ one_more other_before))
+
+-- neither of two counts went on
+abbrev pub NoneGrew : ℕ → ℕ → ℕ → ℕ → Type 0
+NoneGrew before now other_before other_now = (now ≡ before) × (other_now ≡ other_before)

@@ -2,11 +2,12 @@
 
 ghost use Rattle.std.specs.Prelude.{◌≡◌, ◌≤◌, ◌+◌, ◌-◌, ◌^◌, ℕ, List, IsTrue, IfOk, IfSome, is_some, min, if◌then◌else◌};
 ghost use Rattle.std.specs.Io.KnownBytes.{Appends};
+ghost use Rattle.ovs_relay.specs.Turns.{most_turns};
 ghost use Rattle.ovs_relay.specs.Sending.{AppendsBeginning};
-ghost use Rattle.ovs_relay.specs.RunEnd.{is_whole, writes_failed_by};
+ghost use Rattle.ovs_relay.specs.RunEnd.{EndTells, is_whole, writes_failed_by};
 ghost use Rattle.ovs_relay.specs.Folding.{fold_rules, beginning};
 ghost use Rattle.ovs_relay.specs.Merging.{merging_of, fold_output, is_clean, AreFirstAnswers};
-ghost use Rattle.ovs_relay.specs.TwoTexts.{WithText, OneGrew, counted_of};
+ghost use Rattle.ovs_relay.specs.TwoTexts.{WithText, NoneGrew, OneGrew, counted_of};
 
 use crate::closing::close_store;
 use crate::intake::answer_line;
@@ -135,7 +136,7 @@ pub fn fold_run<R: Read, M: Read, W: Write>(
     merge: &mut Option<Counted<M>>,
     writer: &mut Counted<W>,
 ) -> RunEnd
-    // All of the output is written, and the end tells whether all was taken.
+    // All of the output is written, and the end tells whether nothing was refused and the chain isn't stuck.
     ensures whole { IsTrue (is_whole result) → IfSome (R.remaining reader.old.device) (λ input.
         WithText (λ m. M.remaining m.device) merge.old (λ text.
         Appends (W.contents writer.old.device) (W.contents writer.new.device) (fold_output input text))) }
@@ -156,16 +157,15 @@ pub fn fold_run<R: Read, M: Read, W: Write>(
 
     // At most 1,000,000 calls are made, and all of them where the turns are spent, as far as 64 bits can tell.
     ensures calls { reader.new.calls + counted_of (λ m. m.calls) merge.new + writer.new.calls
-        ≤ reader.old.calls + counted_of (λ m. m.calls) merge.old + writer.old.calls + 1000000 }
+        ≤ reader.old.calls + counted_of (λ m. m.calls) merge.old + writer.old.calls + most_turns }
     ensures spent { result ≡ RunEnd.TurnsSpent
         → min (reader.new.calls + counted_of (λ m. m.calls) merge.new + writer.new.calls) (2 ^ 64 - 1)
-        ≡ min (reader.old.calls + counted_of (λ m. m.calls) merge.old + writer.old.calls + 1000000) (2 ^ 64 - 1) }
+        ≡ min (reader.old.calls + counted_of (λ m. m.calls) merge.old + writer.old.calls + most_turns) (2 ^ 64 - 1) }
 
     // The faults of the devices are those that were counted.
-    ensures read_fault { result ≡ RunEnd.ReadFault → OneGrew reader.old.failures reader.new.failures
-        (counted_of (λ m. m.failures) merge.old) (counted_of (λ m. m.failures) merge.new) }
-    ensures no_read_fault { IsTrue (is_whole result) → (reader.new.failures ≡ reader.old.failures)
-        × (counted_of (λ m. m.failures) merge.new ≡ counted_of (λ m. m.failures) merge.old) }
+    ensures read_failures { EndTells result
+        (NoneGrew reader.old.failures reader.new.failures (counted_of (λ m. m.failures) merge.old) (counted_of (λ m. m.failures) merge.new))
+        (OneGrew reader.old.failures reader.new.failures (counted_of (λ m. m.failures) merge.old) (counted_of (λ m. m.failures) merge.new)) }
     ensures write_failures { writer.new.failures ≡ writes_failed_by writer.old.failures result }
     ensures second { is_some merge.new ≡ is_some merge.old }
 {

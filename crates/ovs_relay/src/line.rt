@@ -18,12 +18,13 @@ pub struct Line {
 
 impl Model for Line {
     ghost use Rattle.std.specs.Prelude.{ℕ, List, Option, None, Some, ◌≤◌, if◌then◌else◌, length};
+    ghost use Rattle.ovs_relay.specs.Lines.{line_limit};
 
     ghost Value = { Option (List ℕ) };
 
     ghost view = { λ l. if l.is_too_long then None else Some l.bytes.items };
 
-    ghost invariant = { λ l. length l.bytes.items ≤ 16777216 };
+    ghost invariant = { λ l. length l.bytes.items ≤ line_limit };
 }
 
 impl Line {

@@ -1,7 +1,7 @@
 //! The lines of a reader.
 ghost use Rattle.std.specs.Prelude.{◌≡◌, ◌≢◌, ℕ, ◌+◌, ◌*◌, ◌<◌, ◌==◌, [], ◌∷◌, ◌++◌, List, Some, None, Ok, Err, true, false, length, position, if◌then◌else◌, IfOk};
 ghost use Rattle.std.specs.Io.KnownBytes.{prepend_known};
-ghost use Rattle.ovs_relay.specs.Lines.{kept, IsUnbroken, TakesLine};
+ghost use Rattle.ovs_relay.specs.Lines.{most_read, kept, IsUnbroken, TakesLine};
 ghost use Rattle.ovs_relay.specs.Turns.{IsSpentByCalls};
 ghost use Rattle.ovs_relay.specs.Fault.{failed_reads};
 
@@ -58,8 +58,8 @@ pub fn next_line<R: Read>(
         (if found then Some line.new else None)) }
     ensures calls { IsSpentByCalls (reader.old.calls + turns.old) (reader.new.calls + turns.new) }
     ensures spent { result ≡ Err Fault.TurnsSpent → turns.new ≡ 0 }
-    // A line takes bytes that waited, or turns, of which each gives 65,536 bytes at most.
-    ensures paid { result ≡ Ok true → turns.new * 65536 + length window.new < turns.old * 65536 + length window.old }
+    // A line takes bytes that waited, or turns, of which each gives so many bytes at most.
+    ensures paid { result ≡ Ok true → turns.new * most_read + length window.new < turns.old * most_read + length window.old }
     ensures failures { reader.new.failures ≡ failed_reads reader.old.failures result }
     ensures not_write { result ≢ Err Fault.WriteFault }
 {

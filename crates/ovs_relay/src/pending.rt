@@ -1,7 +1,7 @@
 //! Output that waits to be written.
 ghost use Rattle.std.specs.Prelude.{◌≡◌, ◌+◌, ◌≤◌, ◌++◌, ◌⊎◌, ◌↔◌, [], length, Err, IsTrue, OnOk, OnErr, IfErr};
 ghost use Rattle.std.specs.Io.KnownBytes.{Appends};
-ghost use Rattle.ovs_relay.specs.Sending.{AppendsBeginning};
+ghost use Rattle.ovs_relay.specs.Sending.{AppendsBeginning, batch};
 ghost use Rattle.ovs_relay.specs.Turns.{IsSpentByCalls};
 ghost use Rattle.ovs_relay.specs.Fault.{failed_writes};
 
@@ -43,7 +43,7 @@ impl Pending {
 
     /// Whether so much waits that it is time to write it.
     pub fn is_due(&self) -> bool
-        ensures value { IsTrue result ↔ (65536 ≤ length self.now) }
+        ensures value { IsTrue result ↔ (batch ≤ length self.now) }
     {
         self.bytes.len() >= BATCH
     }

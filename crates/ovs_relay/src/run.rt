@@ -2,11 +2,11 @@
 ghost use Rattle.std.specs.Prelude.{◌≡◌, ◌≢◌, ℕ, ◌+◌, ◌-◌, ◌^◌, ◌≤◌, min, ◌++◌, List, Err, false, IfSome, IfOk, OnOk, OnErr, IsTrue, if◌then◌else◌};
 ghost use Rattle.std.specs.Io.KnownBytes.{Appends, Keeps};
 ghost use Rattle.ovs_wire.specs.Counted.{one_more};
-ghost use Rattle.ovs_relay.specs.Turns.{IsSpentByCalls};
+ghost use Rattle.ovs_relay.specs.Turns.{most_turns, IsSpentByCalls};
 ghost use Rattle.ovs_relay.specs.Fault.{failed_reads, failed_writes};
 ghost use Rattle.ovs_relay.specs.Sending.{AppendsAllBut, AppendsBeginning};
 ghost use Rattle.ovs_relay.specs.Rules.{AreFirstLines, answers_from, answers_to, state_from, state_after, script_output, is_content_with};
-ghost use Rattle.ovs_relay.specs.RunEnd.{is_whole, status_of, writes_failed_by};
+ghost use Rattle.ovs_relay.specs.RunEnd.{EndTells, is_whole, status_of, writes_failed_by};
 
 use crate::fault::Fault;
 use crate::line::Line;
@@ -22,9 +22,9 @@ use std::io::{Read, Write};
 /// How a run ended.
 #[derive(Clone, Copy, Debug, PartialEq, Eq)]
 pub enum RunEnd {
-    /// All is written, and the script refused nothing.
+    /// All is written, and the script is content.
     Clean,
-    /// All is written, and the script refused some of what it heard.
+    /// All is written, and the script isn't content.
     Refused,
     /// A read failed.
     ReadFault,
@@ -37,7 +37,7 @@ pub enum RunEnd {
 }
 
 impl RunEnd {
-    /// The exit status of the program: 0 done, 1 some input refused, 3 memory or a device gave out.
+    /// The exit status of the program: 0 the script is content, 1 it isn't, 3 memory, a device or the calls gave out.
     pub fn status(self) -> u8
         ensures value { result ≡ status_of self }
     {
@@ -242,13 +242,12 @@ pub fn run_script<S: Script, R: Read, W: Write>(
         × Appends (W.contents writer.old.device) (W.contents writer.new.device) (answers_from S.rules script.old 0 lines)) }
 
     // At most 1,000,000 calls are made, and all of them where the turns are spent, as far as 64 bits can tell.
-    ensures calls { reader.new.calls + writer.new.calls ≤ reader.old.calls + writer.old.calls + 1000000 }
+    ensures calls { reader.new.calls + writer.new.calls ≤ reader.old.calls + writer.old.calls + most_turns }
     ensures spent { result ≡ RunEnd.TurnsSpent → min (reader.new.calls + writer.new.calls) (2 ^ 64 - 1)
-        ≡ min (reader.old.calls + writer.old.calls + 1000000) (2 ^ 64 - 1) }
+        ≡ min (reader.old.calls + writer.old.calls + most_turns) (2 ^ 64 - 1) }
 
     // The faults of the devices are those that were counted.
-    ensures read_fault { result ≡ RunEnd.ReadFault → reader.new.failures ≡ one_more reader.old.failures }
-    ensures no_read_fault { IsTrue (is_whole result) → reader.new.failures ≡ reader.old.failures }
+    ensures read_failures { EndTells result (reader.new.failures ≡ reader.old.failures) (reader.new.failures ≡ one_more reader.old.failures) }
     ensures write_failures { writer.new.failures ≡ writes_failed_by writer.old.failures result }
 {
     let mut pending = Pending::new(alloc);

@@ -1,5 +1,6 @@
 //! How long a run may go on.
 ghost use Rattle.std.specs.Prelude.{◌≡◌, ◌+◌, OnOk, OnErr, IfErr};
+ghost use Rattle.ovs_relay.specs.Turns.{most_turns};
 
 use crate::fault::Fault;
 use std::marker::Model;
@@ -24,7 +25,7 @@ impl Model for Turns {
 impl Turns {
     /// All turns of a run, `MOST_TURNS`.
     pub fn new() -> Turns
-        ensures all { result ≡ 1000000 }
+        ensures all { result ≡ most_turns }
     {
         Turns { left: MOST_TURNS }
     }

@@ -2,12 +2,12 @@
 
 ghost use Rattle.std.specs.Prelude.{◌≡◌, ◌≤◌, ◌+◌, ◌-◌, ◌^◌, ◌++◌, ℕ, List, Err, IsTrue, IfOk, IfSome, OnOk, OnErr, Some, min, if◌then◌else◌};
 ghost use Rattle.std.specs.Io.KnownBytes.{Appends};
-ghost use Rattle.ovs_relay.specs.Turns.{IsSpentByCalls};
-ghost use Rattle.ovs_relay.specs.Fault.{failed_writes};
+ghost use Rattle.ovs_relay.specs.Turns.{most_turns, IsSpentByCalls};
+ghost use Rattle.ovs_relay.specs.Fault.{AnswerTells, failed_writes};
 ghost use Rattle.ovs_relay.specs.Sending.{AppendsAllBut, AppendsBeginning};
-ghost use Rattle.ovs_relay.specs.RunEnd.{is_whole, writes_failed_by};
+ghost use Rattle.ovs_relay.specs.RunEnd.{EndTells, is_whole, writes_failed_by};
 ghost use Rattle.ovs_relay.specs.Merging.{fold_output, is_clean, AreFirstAnswers};
-ghost use Rattle.ovs_relay.specs.TwoTexts.{OneGrew};
+ghost use Rattle.ovs_relay.specs.TwoTexts.{NoneGrew, OneGrew};
 
 use crate::fault::Fault;
 use crate::fold::Fold;
@@ -18,7 +18,7 @@ use ovs_wire::Counted;
 use std::alloc::Global;
 use std::io::{Read, Write};
 
-// Runs the script over both texts to their end. The answer is whether nothing was refused.
+// Runs the script over both texts to their end. The answer is whether the script is content.
 fn both_to_end<R: Read, M: Read, W: Write>(
     alloc: Global,
     reader: &mut Counted<R>,
@@ -48,9 +48,9 @@ fn both_to_end<R: Read, M: Read, W: Write>(
     ensures calls { IsSpentByCalls ((reader.old.calls + second.old.calls + writer.old.calls) + turns.old)
         ((reader.new.calls + second.new.calls + writer.new.calls) + turns.new) }
     ensures spent { result ≡ Err Fault.TurnsSpent → turns.new ≡ 0 }
-    ensures read_fault { result ≡ Err Fault.ReadFault
-        → OneGrew reader.old.failures reader.new.failures second.old.failures second.new.failures }
-    ensures no_read_fault { OnOk result ((reader.new.failures ≡ reader.old.failures) × (second.new.failures ≡ second.old.failures)) }
+    ensures read_failures { AnswerTells result
+        (NoneGrew reader.old.failures reader.new.failures second.old.failures second.new.failures)
+        (OneGrew reader.old.failures reader.new.failures second.old.failures second.new.failures) }
     ensures write_failures { writer.new.failures ≡ failed_writes writer.old.failures result }
 {
     let mut fold = Fold::new();
@@ -87,15 +87,14 @@ pub fn fold_both<R: Read, M: Read, W: Write>(
         × Appends (W.contents writer.old.device) (W.contents writer.new.device) said)) }
 
     ensures calls { reader.new.calls + second.new.calls + writer.new.calls
-        ≤ reader.old.calls + second.old.calls + writer.old.calls + 1000000 }
+        ≤ reader.old.calls + second.old.calls + writer.old.calls + most_turns }
     ensures spent { result ≡ RunEnd.TurnsSpent
         → min (reader.new.calls + second.new.calls + writer.new.calls) (2 ^ 64 - 1)
-        ≡ min (reader.old.calls + second.old.calls + writer.old.calls + 1000000) (2 ^ 64 - 1) }
+        ≡ min (reader.old.calls + second.old.calls + writer.old.calls + most_turns) (2 ^ 64 - 1) }
 
-    ensures read_fault { result ≡ RunEnd.ReadFault
-        → OneGrew reader.old.failures reader.new.failures second.old.failures second.new.failures }
-    ensures no_read_fault { IsTrue (is_whole result)
-        → (reader.new.failures ≡ reader.old.failures) × (second.new.failures ≡ second.old.failures) }
+    ensures read_failures { EndTells result
+        (NoneGrew reader.old.failures reader.new.failures second.old.failures second.new.failures)
+        (OneGrew reader.old.failures reader.new.failures second.old.failures second.new.failures) }
     ensures write_failures { writer.new.failures ≡ writes_failed_by writer.old.failures result }
 {
     let mut pending = Pending::new(alloc);

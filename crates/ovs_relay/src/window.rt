@@ -1,7 +1,8 @@
 //! The bytes that were read and not yet taken.
-ghost use Rattle.std.specs.Prelude.{◌≡◌, ◌≢◌, ℕ, ◌≤◌, ◌+◌, [], Ok, Err, length, drop, false, IfOk, OnOk};
+ghost use Rattle.std.specs.Prelude.{◌≡◌, ◌⊎◌, ℕ, ◌≤◌, ◌+◌, [], Ok, Err, length, drop, false, IfOk, IfErr, OnOk, OnErr};
 ghost use Rattle.std.specs.Io.{ReadsAtMost};
 ghost use Rattle.std.specs.Io.KnownBytes.{prepend_known, Keeps, IsAtEnd, ReadConsumes};
+ghost use Rattle.ovs_relay.specs.Lines.{most_read};
 ghost use Rattle.ovs_relay.specs.Turns.{IsSpentByCalls};
 ghost use Rattle.ovs_relay.specs.Fault.{failed_reads};
 
@@ -26,12 +27,13 @@ pub struct Window {
 
 impl Model for Window {
     ghost use Rattle.std.specs.Prelude.{ℕ, List, ◌≡◌, ◌≤◌, length, slice_range};
+    ghost use Rattle.ovs_relay.specs.Lines.{most_read};
 
     ghost Value = { List ℕ };
 
     ghost view = { λ w. slice_range w.room.items w.from w.to };
 
-    ghost invariant = { λ w. (w.from ≤ w.to) × (w.to ≤ length w.room.items) × (length w.room.items ≡ 65536) };
+    ghost invariant = { λ w. (w.from ≤ w.to) × (w.to ≤ length w.room.items) × (length w.room.items ≡ most_read) };
 }
 
 impl Window {
@@ -63,7 +65,7 @@ impl Window {
 
     /// Reads bytes where none waits; `false` is the end of the reader.
     ///
-    /// `ReadFault` where the read failed, and `TurnsSpent` where it would be a call too many.
+    /// `ReadFault` where the read failed, and `TurnsSpent` where it would be a call too many; then still none waits.
     pub fn fill<R: Read>(
         &mut self,
         reader: &mut Counted<R>,
@@ -71,13 +73,14 @@ impl Window {
     ) -> Result<bool, Fault>
         requires taken { self.old ≡ [] }
         ensures bytes { OnOk result (Keeps (R.remaining reader.old.device) (prepend_known self.new (R.remaining reader.new.device))) }
+        ensures none { OnErr result (self.new ≡ []) }
         ensures end { result ≡ Ok false → (self.new ≡ []) × IsAtEnd (R.remaining reader.new.device) }
-        ensures room { OnOk result (length self.new ≤ 65536) }
+        ensures room { OnOk result (length self.new ≤ most_read) }
         ensures turn { OnOk result (turns.new + 1 ≤ turns.old) }
         ensures calls { IsSpentByCalls (reader.old.calls + turns.old) (reader.new.calls + turns.new) }
         ensures spent { result ≡ Err Fault.TurnsSpent → turns.new ≡ 0 }
         ensures failures { reader.new.failures ≡ failed_reads reader.old.failures result }
-        ensures not_write { result ≢ Err Fault.WriteFault }
+        ensures fault { IfErr result (λ fault. (fault ≡ Fault.ReadFault) ⊎ (fault ≡ Fault.TurnsSpent)) }
     {
         let len = read_some(reader, self.room.as_mut_slice(), turns)?;
         self.from = 0;
@@ -87,7 +90,7 @@ impl Window {
 }
 
 fn room_for_a_read(alloc: Global) -> Result<Vec<u8>, NoMemory>
-    ensures len { IfOk result (λ room. length room.items ≡ 65536) }
+    ensures len { IfOk result (λ room. length room.items ≡ most_read) }
 {
     Ok(Vec::from_elem(alloc, 0u8, ROOM)?)
 }
@@ -104,7 +107,7 @@ fn read_some<R: Read>(
     ensures calls { IsSpentByCalls (reader.old.calls + turns.old) (reader.new.calls + turns.new) }
     ensures spent { result ≡ Err Fault.TurnsSpent → turns.new ≡ 0 }
     ensures failures { reader.new.failures ≡ failed_reads reader.old.failures result }
-    ensures not_write { result ≢ Err Fault.WriteFault }
+    ensures fault { IfErr result (λ fault. (fault ≡ Fault.ReadFault) ⊎ (fault ≡ Fault.TurnsSpent)) }
 {
     loop {
         turns.take()?;

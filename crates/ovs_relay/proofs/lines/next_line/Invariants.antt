@@ -1,5 +1,6 @@
 use Rattle.std.proofs.Common.{◌+◌, ◌*◌, ◌≤◌, ◌≡◌, length}
 use Rattle.std.specs.Io.KnownBytes.{prepend_known}
+use Rattle.ovs_relay.specs.Lines.{most_read}
 use Rattle.ovs_relay.specs.Turns.{IsSpentByCalls}
 use Rattle.ovs_relay.proofs.Taking.{PartTaken}
 use Rattle.ovs_relay.proofs.lines.next_line.Given as goal
@@ -11,7 +12,7 @@ invariant-loop-window g l =
       part : PartTaken (prepend_known l.fn.window (remaining l.fn.reader.device)) (prepend_known l.window (remaining l.reader.device)) l.line;
       calls : IsSpentByCalls (l.fn.reader.calls + l.fn.turns) (l.reader.calls + l.turns);
       failures : l.reader.failures ≡ l.fn.reader.failures;
-      paid : l.turns * 65536 + length l.window ≤ l.fn.turns * 65536 + length l.fn.window;
+      paid : l.turns * most_read + length l.window ≤ l.fn.turns * most_read + length l.fn.window;
     }
 
 abbrev pub decreases-loop-window : goal.decreases-loop-window

@@ -1,5 +1,6 @@
 use Rattle.std.proofs.Common.{◌≡◌, ◌+◌, ◌*◌, ◌≤◌, length}
 use Rattle.std.specs.Io.KnownBytes.{prepend_known}
+use Rattle.ovs_relay.specs.Lines.{most_read}
 use Rattle.ovs_relay.specs.Turns.{IsSpentByCalls}
 use Rattle.ovs_relay.proofs.Way.{Progress}
 use Rattle.ovs_relay.proofs.run.run_lines.Given as goal
@@ -14,5 +15,5 @@ invariant-loop-number g l =
       calls : IsSpentByCalls ((l.fn.reader.calls + l.fn.writer.calls) + l.fn.turns) ((l.reader.calls + l.writer.calls) + l.turns);
       read_failures : l.reader.failures ≡ l.fn.reader.failures;
       write_failures : l.writer.failures ≡ l.fn.writer.failures;
-      paid : l.number + (l.turns * 65536 + length l.window) ≤ l.fn.turns * 65536;
+      paid : l.number + (l.turns * most_read + length l.window) ≤ l.fn.turns * most_read;
     }
