@@ -12,7 +12,7 @@ pub record Rules (S : Type 0) : Type 0 where
   pub is_over : S → Bool
   -- the last words
   pub closing : S → List ℕ
-  -- nothing that was heard is refused
+  -- it is content with what was heard
   pub is_content : S → Bool
 
 -- what is said to the lines from number n on
@@ -47,6 +47,6 @@ state_after rules s text = state_from rules s 0 (lines_of text)
 abbrev pub script_output : {S : Type 0} → Rules S → S → List ℕ → List ℕ
 script_output rules s text = answers_to rules s text ++ rules.closing (state_after rules s text)
 
--- nothing of the text was refused
+-- it is content with the text
 abbrev pub is_content_with : {S : Type 0} → Rules S → S → List ℕ → Bool
 is_content_with rules s text = rules.is_content (state_after rules s text)

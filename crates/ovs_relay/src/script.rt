@@ -9,7 +9,7 @@ use std::alloc::Global;
 pub struct Closing {
     /// What is written behind the answers.
     pub text: String,
-    /// Whether the script refuses nothing of what it heard.
+    /// Whether the script is content with what it heard.
     pub is_content: bool,
 }
 
