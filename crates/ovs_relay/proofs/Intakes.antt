@@ -1,5 +1,5 @@
 -- What becomes of a link, from what the store answers.
-use Rattle.std.proofs.Common.{◌≡◌, ◌≢◌, ◌<◌, ℕ, ◌==◌, Bool, true, false, cond, List, Option, Some, None, refl, sym, ap, subst, ◌∙◌}
+use Rattle.std.proofs.Common.{◌≡◌, ◌≢◌, ◌<◌, ℕ, ◌==◌, Bool, cond, Option, Some, None, refl, sym, ap, subst, ◌∙◌}
 use Rattle.std.specs.Prelude.{find, nat_lt, Ok, Err}
 use Rattle.std.specs.Ordering.{nat_cmp}
 use Rattle.std.specs.FinMap.{FinMap, get, len, values}
@@ -8,7 +8,7 @@ use Rattle.ovs_links.specs.declared.link.Link.{Link}
 use Rattle.ovs_links.specs.contracts.link.Link as link_row
 use Rattle.ovs_links.specs.Sets.{Holds, IsConsistent}
 use Rattle.ovs_links.specs.Store.{max_links}
-use Rattle.ovs_links.specs.Answers.{NonePrev, NoneId, TakesAs, TakesTo}
+use Rattle.ovs_links.specs.Answers.{NonePrev, NoneId, TakesAs}
 use Rattle.ovs_links.specs.Store.{Stored, IsStore}
 use Rattle.ovs_links.specs.declared.answer.By.TheVariants.{Prev, Id}
 use Rattle.ovs_links.specs.declared.answer.TakeError.{TakeError}
@@ -18,7 +18,7 @@ use Rattle.ovs_relay.specs.declared.words.Refusal.TheVariants.{Fork, Full}
 use Rattle.ovs_relay.specs.declared.words.Outcome.TheVariants.{Took, Held, Refused}
 use Rattle.ovs_relay.specs.declared.words.Refusal.{Refusal}
 use Rattle.ovs_relay.specs.declared.words.Outcome.{Outcome}
-use Rattle.ovs_relay.specs.Intake.{IsRefusalOf, TellsAnswer, with_link, outcome_of_link, outcome_by_prev, outcome_by_id, same_link}
+use Rattle.ovs_relay.specs.Intake.{IsRefusalOf, TellsAnswer, with_link, outcome_of_link, outcome_by_prev, outcome_by_id}
 use Rattle.ovs_relay.proofs.Same.{same_itself, not_same}
 use Rattle.ovs_relay.proofs.Values.{none_passes, one_passes}
 

@@ -1,24 +1,22 @@
 -- How a store is merged, from what it answers.
-use Rattle.std.proofs.Common.{◌≡◌, ◌≢◌, ◌<◌, ◌≤◌, ℕ, ◌==◌, Bool, true, false, cond, List, [], ◌∷◌, Option, Some, None, refl, sym, ap, subst, ◌∙◌, inl, inr, ◌⊎◌, arith, Result}
-use Rattle.std.proofs.lemmas.Bool.{lt-ltb, ltb-false, le-ltb, ltb-true, eqb-true, false_from_ne_true}
+use Rattle.std.proofs.Common.{◌≡◌, ◌≢◌, ◌≤◌, ℕ, ◌==◌, Bool, true, false, cond, List, [], ◌∷◌, Option, Some, None, refl, sym, ap, subst, ◌∙◌, inl, inr, arith, Result}
+use Rattle.std.proofs.lemmas.Bool.{lt-ltb, ltb-false, le-ltb, eqb-true, false_from_ne_true}
 use Rattle.std.specs.Prelude.{find, nat_lt, unwrap_or, Ok, Err}
 use Rattle.std.specs.Ordering.{nat_cmp}
-use Rattle.std.specs.List.{filter}
 use Rattle.std.specs.FinMap.{FinMap, get, len, values}
 use Rattle.ovs_links.specs.declared.link.Link.{Link}
 use Rattle.ovs_links.specs.contracts.link.Link as link_row
 use Rattle.ovs_links.specs.Sets.{Holds, Contradict, IsConsistent}
 use Rattle.ovs_links.specs.Store.{Stored, IsStore, max_links}
-use Rattle.ovs_links.specs.Join.{Agree, AreJoinable, join}
-use Rattle.ovs_links.specs.Answers.{NonePrev, Refutes}
-use Rattle.ovs_links.specs.Merging.{IsLeastFork, MergesAs, MergesTo}
+use Rattle.ovs_links.specs.Join.{Agree, join}
+use Rattle.ovs_links.specs.Answers.{Refutes}
+use Rattle.ovs_links.specs.Merging.{IsLeastFork, MergesAs}
 use Rattle.ovs_links.specs.declared.answer.By.{By}
 use Rattle.ovs_links.specs.declared.answer.By.TheVariants.{Prev, Id}
 use Rattle.ovs_links.specs.declared.answer.MergeError.{MergeError}
 use Rattle.ovs_links.specs.declared.answer.MergeError.TheVariants as errors
 use Rattle.ovs_relay.specs.declared.words.Refusal.{Refusal}
 use Rattle.ovs_relay.specs.declared.words.Refusal.TheVariants.{Fork, Full}
-use Rattle.ovs_relay.specs.declared.words.Outcome.{Outcome}
 use Rattle.ovs_relay.specs.declared.words.Outcome.TheVariants.{Took, Held, Refused}
 use Rattle.ovs_relay.specs.Intake.{outcome_of_link, outcome_by_prev, outcome_by_id, same_link, fork_with}
 use Rattle.ovs_relay.specs.Merge.{lesser, least_by_id, is_fork, forks, refusal_in, merged_beside, merge_outcome, store_after_merge, merged, IsMergeRefusalOf}

@@ -1,5 +1,5 @@
 -- Values are the same exactly where the test says so.
-use Rattle.std.proofs.Common.{◌≡◌, ℕ, ◌==◌, Bool, true, false, ◌&&◌, refl, ap}
+use Rattle.std.proofs.Common.{◌≡◌, Bool, true, false, refl, ap}
 use Rattle.std.proofs.lemmas.Bool.{eqb-true, eq-eqb, and_parts, and_from}
 use base.Stored.{Gv, gnil, gnum, gcons, Coded}
 use Rattle.ovs_relay.specs.Same.{same_code, is_same}

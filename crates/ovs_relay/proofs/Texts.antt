@@ -1,5 +1,5 @@
 -- Claims of a text that may be unknown, and of two of them.
-use Rattle.std.proofs.Common.{◌≡◌, ℕ, List, Option, Some, None, refl, sym, ap, subst, IfSome}
+use Rattle.std.proofs.Common.{◌≡◌, ℕ, List, Option, Some, None, refl, subst, IfSome}
 
 pub some_map : (start : Option (List ℕ)) (P Q : List ℕ → Type 0) → ((text : List ℕ) → P text → Q text) → IfSome start P → IfSome start Q
 some_map None P Q f holds = tt

@@ -1,5 +1,5 @@
 -- What the script `fold` writes.
-use Rattle.std.specs.Prelude.{◌≡◌, ℕ, List, [], Option, Some, None, Bool, true, false, not, ◌&&◌, ◌||◌, Result, Ok, Err, codes}
+use Rattle.std.specs.Prelude.{ℕ, List, [], Option, Bool, true, false, not, ◌&&◌, ◌||◌, Result, Ok, Err}
 use Rattle.std.specs.FinMap.{empty}
 use Rattle.ovs_types.specs.Schema.{SchemaValue}
 use Rattle.ovs_links.specs.Store.{Stored, tables_of}

@@ -1,5 +1,5 @@
 -- What becomes of a link that a store is given.
-use Rattle.std.specs.Prelude.{◌≡◌, ℕ, ◌==◌, List, Bool, Option, Some, None, Result, Ok, Err, nat_lt, if◌then◌else◌, find}
+use Rattle.std.specs.Prelude.{◌≡◌, ◌==◌, Bool, Option, Some, None, Result, Ok, Err, nat_lt, if◌then◌else◌, find}
 use Rattle.std.specs.Ordering.{nat_cmp}
 use Rattle.std.specs.FinMap.{FinMap, get, insert, len, values}
 use Rattle.ovs_links.specs.contracts.link.Link as link_row

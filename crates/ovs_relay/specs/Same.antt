@@ -1,5 +1,5 @@
 -- Whether two values are the same, of any type whose values have codes.
-use Rattle.std.specs.Prelude.{◌≡◌, ℕ, ◌==◌, Bool, true, false, ◌&&◌}
+use Rattle.std.specs.Prelude.{◌==◌, Bool, true, false, ◌&&◌}
 use base.Stored.{Gv, gnil, gnum, gcons, Coded}
 
 abbrev pub same_code : Gv → Gv → Bool

@@ -1,4 +1,4 @@
-use Rattle.std.proofs.Common.{◌≡◌, ℕ, List, subst}
+use Rattle.std.proofs.Common.{ℕ, List, subst}
 use Rattle.std.specs.Prelude.{IfSome}
 use Rattle.ovs_relay.specs.declared.fold.Fold.{Fold}
 use Rattle.ovs_relay.specs.Sending.{AppendsBeginning}

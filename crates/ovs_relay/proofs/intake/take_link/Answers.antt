@@ -1,7 +1,7 @@
-use Rattle.std.proofs.Common.{◌≡◌, Ok, subst}
+use Rattle.std.proofs.Common.{Ok, subst}
 use Rattle.ovs_links.specs.Answers.{TakesAs, TakesTo}
 use Rattle.ovs_links.specs.declared.answer.Took.{Took as Answer}
-use Rattle.ovs_relay.specs.declared.words.Outcome.TheVariants.{Took, Held, Refused}
+use Rattle.ovs_relay.specs.declared.words.Outcome.TheVariants.{Took, Refused}
 use Rattle.ovs_relay.proofs.Intakes.{new_is, held_is, refused_is, after_is, refusal_tells}
 use Rattle.ovs_relay.proofs.intake.take_link.Goals as goal
 

@@ -1,4 +1,4 @@
-use Rattle.std.proofs.Common.{◌≡◌, Bool, true, false}
+use Rattle.std.proofs.Common.{◌≡◌, true, false}
 use Rattle.serde_json.specs.View.{view}
 use Rattle.ovs_relay.proofs.JsonLines.{is_json, not_json}
 use Rattle.ovs_relay.proofs.reading.read_json.Goals as goal

@@ -1,4 +1,4 @@
-use Rattle.std.proofs.Common.{◌≡◌, Ok, Err}
+use Rattle.std.proofs.Common.{Ok, Err}
 use Rattle.ovs_relay.proofs.Merges.{merged_is, refused_merge_is, after_merge_is}
 use Rattle.ovs_relay.proofs.stores.merge_stores.Goals as goal
 

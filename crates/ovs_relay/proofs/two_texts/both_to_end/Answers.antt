@@ -1,4 +1,3 @@
-use Rattle.std.proofs.Common.{◌≡◌, Err, Result, ap, sym, ◌∙◌}
 use Rattle.ovs_relay.proofs.Sent.{on_err, err_map, ok_map}
 use Rattle.ovs_relay.proofs.BothTexts.{begun_first, begun_between, first_heard, first_answers, both_written, both_begun, both_heard, both_answers}
 use Rattle.ovs_relay.proofs.two_texts.both_to_end.Goals as goal
