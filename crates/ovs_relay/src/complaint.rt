@@ -1,8 +1,8 @@
 //! What the program says on standard error of a device, of memory or of the words that it was called with.
 
-ghost use Rattle.std.specs.Prelude.{◌≡◌, IfSome, is_none};
+ghost use Rattle.std.specs.Prelude.{◌≡◌, ◌↔◌, Some, IfSome, is_none};
 ghost use Rattle.ovs_relay.specs.RunEnd.{is_whole, status_of};
-ghost use Rattle.ovs_relay.specs.Complaint.{complaint_status};
+ghost use Rattle.ovs_relay.specs.Complaint.{complaint_status, SaysWhy};
 
 use crate::run::RunEnd;
 use thiserror::Error;
@@ -55,6 +55,10 @@ pub fn complaint_of<'a>(
 ) -> Option<Complaint<'a>>
     ensures said { is_none result ≡ is_whole end }
     ensures status { IfSome result (λ complaint. complaint_status complaint ≡ status_of end) }
+    ensures why { IfSome result (SaysWhy end) }
+    // A file is named exactly at a read fault that isn't the input's.
+    ensures file { (path : _) → (result ≡ Some (Complaint.UnreadFile path))
+        ↔ ((end ≡ RunEnd.ReadFault) × (file.entry ≡ Some path) × (input_failures ≡ 0)) }
 {
     match end {
         RunEnd::Clean | RunEnd::Refused => None,
