@@ -16,7 +16,7 @@ use Rattle.std.specs.declared.cmp.Ordering.{Ordering}
 use Rattle.std.specs.declared.cmp.Ordering.TheVariants.{Less, Equal, Greater}
 use Rattle.ovs_types.specs.Names.{is_name, IsAscendingBy, AreNames}
 use Rattle.ovs_types.specs.Finding.{find_from, column_named, table_named}
-use Rattle.ovs_types.specs.declared.column.Column.{Column}
+use Rattle.ovs_data.specs.declared.column.Column.{Column}
 use Rattle.ovs_types.specs.declared.schema.NamedColumn.{NamedColumn}
 use Rattle.ovs_types.specs.declared.schema.Table.{Table}
 

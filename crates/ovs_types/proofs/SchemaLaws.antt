@@ -1,5 +1,5 @@
 -- What is read as a schema is spelled so, and what is spelled so is read.
-use Rattle.std.proofs.Common.{◌≡◌, ℕ, zero, suc, ◌≤◌, List, [], ◌∷◌, Bool, true, false, cond, Option, Some, None, Result, Ok, Err, refl, sym, ap, subst, ◌∙◌, inl, inr, ◌==◌, arith}
+use Rattle.std.proofs.Common.{◌≡◌, ℕ, zero, suc, ◌≤◌, List, [], ◌∷◌, Bool, true, false, cond, Option, Some, None, Ok, Err, refl, sym, ap, subst, ◌∙◌, inl, inr, ◌==◌, arith}
 use Rattle.std.proofs.lemmas.Bool.{eqb-true, eqb-false, ne_eqb}
 use Rattle.std.specs.Prelude.{codes, map, option_and_then, nat_eq, IfOk, ⊤, ◌⊎◌, if◌then◌else◌}
 use Rattle.std.specs.Cmp.Lexicographic.{bytes_decides, slice_cmp}
@@ -16,21 +16,20 @@ use Rattle.serde_json.specs.declared.value.Value.{Value}
 use Rattle.ovs_types.specs.Names.{IsAscendingBy, AreNames}
 use Rattle.serde_json.specs.Data.{unsigned, negative, float, Data, null, boolean, number, string, array, object, Members, no_members, member}
 use Rattle.serde_json.specs.Find.{get, as_str, as_object, as_number, as_u64}
-use Rattle.ovs_types.specs.declared.column.Column.{Column}
-use Rattle.ovs_types.specs.declared.atom.AtomKind.{AtomKind}
-use Rattle.ovs_types.specs.declared.atom.AtomKind.TheVariants.{Integer, Boolean, String, Uuid}
+use Rattle.ovs_data.specs.declared.column.Column.{Column}
+use Rattle.ovs_data.specs.declared.atom.AtomKind.{AtomKind}
+use Rattle.ovs_data.specs.declared.atom.AtomKind.TheVariants.{Integer, Boolean, String, Uuid}
 use Rattle.ovs_types.specs.declared.schema.NamedColumn.{NamedColumn}
 use Rattle.ovs_types.specs.declared.schema.Table.{Table}
 use Rattle.ovs_types.specs.declared.schema.Description.{Description}
-use Rattle.ovs_types.specs.declared.schema_error.SchemaError.{SchemaError}
-use Rattle.ovs_types.specs.declared.schema_error.SchemaError.TheVariants as faults
-use Rattle.ovs_types.specs.FirstFault.{read_all}
-use Rattle.ovs_types.specs.Members.{EachSpells}
-use Rattle.ovs_types.specs.SchemaFaults.{Read, rank, Gives}
+use Rattle.ovs_types.specs.declared.schema.error.SchemaError.TheVariants as faults
+use Rattle.ovs_json.specs.FirstFault.{read_all}
+use Rattle.ovs_json.specs.Members.{EachSpells}
+use Rattle.ovs_types.specs.SchemaFaults.{Read, rank}
 use Rattle.ovs_types.specs.Names.{is_id, is_name}
 use Rattle.std.specs.Prelude as std
-use Rattle.ovs_types.proofs.Steps.{map_found, test_found, object_part, string_part}
-use Rattle.ovs_types.proofs.FaultOrder.{both_found, all_found, all_only}
+use Rattle.ovs_json.proofs.Steps.{map_found, test_found, object_part, string_part}
+use Rattle.ovs_json.proofs.FaultOrder.{both_found, all_found, all_only}
 use Rattle.ovs_types.specs.SchemaReading.{both, is, needed, kind_named, read_kind, read_base, read_key, read_value, least_of, read_least, most_of, read_most, read_kinds, read_bounds, read_object, scalar, read_type, read_column, checked_name, read_named_column, read_columns, columns_in, read_table, read_tables, tables_in, checked_id, database_name, version, read_description}
 use Rattle.ovs_types.specs.SchemaSpelling.{name_of, IsBase, IsValue, IsLeast, IsMost, IsType, IsColumn, SpellsColumn, SpellsTable, Spells}
 
@@ -53,14 +52,14 @@ no_kind : (b : Bool) (s : List ℕ) (m : AtomKind) → cond b (Err faults.Real) 
 no_kind true s m e = absurd cc
 no_kind false s m e = absurd cc
 
-kind_found : (s : List ℕ) (m : AtomKind) → kind_named s ≡ Ok m → s ≡ name_of m
+pub kind_found : (s : List ℕ) (m : AtomKind) → kind_named s ≡ Ok m → s ≡ name_of m
 kind_found s m e =
     named_by s (codes "integer") Integer m _ _ refl refl e (λ e1.
     named_by s (codes "boolean") Boolean m _ _ refl refl e1 (λ e2.
     named_by s (codes "string") String m _ _ refl refl e2 (λ e3.
     named_by s (codes "uuid") Uuid m _ _ refl refl e3 (λ e4. no_kind _ s m e4))))
 
-kind_only : (m : AtomKind) → kind_named (name_of m) ≡ Ok m
+pub kind_only : (m : AtomKind) → kind_named (name_of m) ≡ Ok m
 kind_only Integer = refl
 kind_only Boolean = refl
 kind_only String = refl
@@ -118,11 +117,11 @@ least_from : (d : Data) (o : Option ℕ) (b : Bool) → whole d ≡ o → least_
 least_from d None b spelled e = absurd cc
 least_from d (Some n) b spelled e = least_by d n b _ _ (whole_of d n spelled) refl refl e
 
-least_found : (o : Option Data) (b : Bool) → read_least o ≡ Ok b → IsLeast o b
+pub least_found : (o : Option Data) (b : Bool) → read_least o ≡ Ok b → IsLeast o b
 least_found None b e = cc
 least_found (Some d) b e = least_from d (whole d) b refl e
 
-least_only : (o : Option Data) (b : Bool) → IsLeast o b → read_least o ≡ Ok b
+pub least_only : (o : Option Data) (b : Bool) → IsLeast o b → read_least o ≡ Ok b
 least_only None b e = ap fine (sym e)
 least_only (Some d) true e = rw e refl
 least_only (Some d) false e = rw e refl
@@ -146,7 +145,7 @@ unlimited_by : (s : List ℕ) (m : Option ℕ) (b : Bool) → is s (codes "unlim
 unlimited_by s m true e h = let m_is : m ≡ None = cc in subst (IsMost (Some (string s))) (sym m_is) (ap string ((bytes_decides s (codes "unlimited")).0 e))
 unlimited_by s m false e h = absurd cc
 
-most_found : (o : Option Data) (m : Option ℕ) → read_most o ≡ Ok m → IsMost o m
+pub most_found : (o : Option Data) (m : Option ℕ) → read_most o ≡ Ok m → IsMost o m
 most_found None m e = cc
 most_found (Some (string s)) m e = unlimited_by s m _ refl e
 most_found (Some (number n)) m e = most_from (number n) (whole (number n)) m refl e
@@ -158,7 +157,7 @@ most_found (Some (object ms)) m e = absurd cc
 at_least_one : (n : ℕ) → 1 ≤ n → most_of (Some n) ≡ Ok (Some n)
 at_least_one n h = rw (ne_eqb n 0 (λ e. absurd (omega (arith, h, e)))) refl
 
-most_only : (o : Option Data) (m : Option ℕ) → IsMost o m → read_most o ≡ Ok m
+pub most_only : (o : Option Data) (m : Option ℕ) → IsMost o m → read_most o ≡ Ok m
 most_only None m e = ap fine (sym e)
 most_only (Some d) None e = rw e refl
 most_only (Some d) (Some n) e = rw e.1 (at_least_one n e.0)
@@ -223,7 +222,7 @@ table_only s d t (columns, name, good, has, each) = rw (good, has, all_only rank
 
 -- ---- schemas
 
-found : (d : Data) (s : Description) → read_description d ≡ Ok s → Spells d s
+pub found : (d : Data) (s : Description) → read_description d ≡ Ok s → Spells d s
 found d s e =
     let p = map_found (λ p. record { name = p.0.0; tables = p.1 }) (both (both (database_name d) (version d)) (tables_in d)) s e in
     let q = both_found rank (both (database_name d) (version d)) (tables_in d) p.0 p.1 in
@@ -242,18 +241,9 @@ found d s e =
       all_found rank read_table SpellsTable table_found tables.0 p.0.1 tables.2,
     )
 
-only : (d : Data) (s : Description) → Spells d s → read_description d ≡ Ok s
+pub only : (d : Data) (s : Description) → Spells d s → read_description d ≡ Ok s
 only d s (tables, version, name, good, versioned, has, each) =
     rw (name, good, versioned, has, all_only rank read_table SpellsTable table_only tables s.tables each) refl
-
--- ---- for what a call answers
-
-pub is_found : {X : Type 0} (seen : X → Description) (d : Data) (r : Result X SchemaError) → Gives seen r (read_description d) → IfOk r (λ x. Spells d (seen x))
-is_found seen d (Ok x) e = found d (seen x) e
-is_found seen d (Err f) e = tt
-
-pub is_only : {X : Type 0} (seen : X → Description) (d : Data) (r : Result X SchemaError) → Gives seen r (read_description d) → (s : Description) → Spells d s → Gives seen r (Ok s)
-is_only seen d r given s spelled = rw (only d s spelled) at given
 
 -- ---- names
 

@@ -1,7 +1,7 @@
 -- Tables and columns by their names, and their numbers in the order of the names.
 use Rattle.std.specs.Prelude.{ℕ, suc, List, [], ◌∷◌, Option, Some, None, if◌then◌else◌, nat_eq, option_map, option_and_then}
 use Rattle.std.specs.Cmp.Lexicographic.{pointwise}
-use Rattle.ovs_types.specs.declared.column.Column.{Column}
+use Rattle.ovs_data.specs.declared.column.Column.{Column}
 use Rattle.ovs_types.specs.declared.schema.NamedColumn.{NamedColumn}
 use Rattle.ovs_types.specs.declared.schema.Table.{Table}
 use Rattle.ovs_types.specs.declared.schema.Description.{Description}

@@ -3,16 +3,16 @@ use Rattle.std.specs.Prelude.{ℕ, List, Bool, true, false, Option, Some, None, 
 use Rattle.std.specs.Cmp.Lexicographic.{pointwise}
 use Rattle.serde_json.specs.Data.{Data, Members}
 use Rattle.serde_json.specs.Find.{get, as_str, as_number, as_object, as_u64}
-use Rattle.ovs_types.specs.declared.atom.AtomKind.{AtomKind}
-use Rattle.ovs_types.specs.declared.atom.AtomKind.TheVariants.{Integer, Boolean, String, Uuid}
-use Rattle.ovs_types.specs.declared.column.Column.{Column}
+use Rattle.ovs_data.specs.declared.atom.AtomKind.{AtomKind}
+use Rattle.ovs_data.specs.declared.atom.AtomKind.TheVariants.{Integer, Boolean, String, Uuid}
+use Rattle.ovs_data.specs.declared.column.Column.{Column}
 use Rattle.ovs_types.specs.declared.schema.NamedColumn.{NamedColumn}
 use Rattle.ovs_types.specs.declared.schema.Table.{Table}
 use Rattle.ovs_types.specs.declared.schema.Description.{Description}
-use Rattle.ovs_types.specs.declared.schema_error.SchemaError.TheVariants.{BadShape, BadId, Real, BadBounds}
-use Rattle.ovs_types.specs.FirstFault as faults
+use Rattle.ovs_types.specs.declared.schema.error.SchemaError.TheVariants.{BadShape, BadId, Real, BadBounds}
+use Rattle.ovs_json.specs.FirstFault as faults
 use Rattle.ovs_types.specs.Names.{is_id, is_name}
-use Rattle.ovs_types.specs.Results.{result_map}
+use Rattle.ovs_json.specs.Results.{result_map}
 use Rattle.ovs_types.specs.SchemaFaults.{Read, rank}
 
 -- ---- parts

@@ -2,13 +2,13 @@
 use Rattle.std.specs.Prelude.{◌≡◌, ℕ, ◌≤◌, List, Bool, true, false, Option, Some, None, codes, if◌then◌else◌, ◌⊎◌}
 use Rattle.serde_json.specs.Data.{Data, number, unsigned, string, object, Members}
 use Rattle.serde_json.specs.Find.{get}
-use Rattle.ovs_types.specs.declared.atom.AtomKind.{AtomKind}
-use Rattle.ovs_types.specs.declared.atom.AtomKind.TheVariants.{Integer, Boolean, String, Uuid}
-use Rattle.ovs_types.specs.declared.column.Column.{Column}
+use Rattle.ovs_data.specs.declared.atom.AtomKind.{AtomKind}
+use Rattle.ovs_data.specs.declared.atom.AtomKind.TheVariants.{Integer, Boolean, String, Uuid}
+use Rattle.ovs_data.specs.declared.column.Column.{Column}
 use Rattle.ovs_types.specs.declared.schema.NamedColumn.{NamedColumn}
 use Rattle.ovs_types.specs.declared.schema.Table.{Table}
 use Rattle.ovs_types.specs.declared.schema.Description.{Description}
-use Rattle.ovs_types.specs.Members.{EachSpells}
+use Rattle.ovs_json.specs.Members.{EachSpells}
 use Rattle.ovs_types.specs.Names.{is_id, is_name}
 
 -- an <atomic-type>

@@ -5,9 +5,13 @@ ghost use Rattle.serde_json.specs.View.{view};
 ghost use Rattle.ovs_types.specs.Finding.{column_named, table_named, columns_of, column_of};
 ghost use Rattle.ovs_types.specs.Names.{is_name, IsAscendingBy, AreNames};
 
-use crate::column::Column;
-use crate::error::NoMemory;
-use crate::text::Text;
+pub(crate) mod error;
+mod parts;
+mod reading;
+mod reading_column;
+
+use ovs_data::Column;
+use ovs_json::{NoMemory, Text};
 use serde_json::Value;
 use std::alloc::Global;
 use std::marker::Model;
@@ -161,7 +165,7 @@ pub struct Schema {
 impl Model for Schema {
     ghost use Rattle.std.specs.Coded.{codes};
     ghost use Rattle.serde_json.specs.View.{view as data_of};
-    ghost use Rattle.ovs_types.specs.JsonCode.{json_code};
+    ghost use Rattle.ovs_json.specs.JsonCode.{json_code};
     ghost use Rattle.ovs_types.specs.Schema.{SchemaValue};
 
     ghost Value = { SchemaValue };

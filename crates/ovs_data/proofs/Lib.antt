@@ -1,0 +1,15 @@
+pub mod Ids
+pub mod AtomOrder
+pub mod Ascends
+pub mod Exchanges
+pub mod InOrder
+pub mod Differences
+pub mod Spellings
+pub mod Writings
+pub mod Repeats
+pub mod Duplicates
+pub mod RoundTrips
+pub mod Including
+pub mod Equalities
+pub mod ColumnEquality
+pub mod Defaults

@@ -1,0 +1,15 @@
+pub mod Id
+pub mod Atom
+pub mod Column
+pub mod Ascending
+pub mod Exchange
+pub mod Pairs
+pub mod Datum
+pub mod Equality
+pub mod Difference
+pub mod Reading
+pub mod Spelling
+pub mod Writing
+pub mod RoundTrip
+pub mod Faults
+pub mod Conditions

@@ -1,0 +1,24 @@
+//! Ids, atoms, columns and data of OVSDB (RFC 7047 sections 3 and 5.1), and the differences of data.
+#![tactic(auto)]
+
+mod atom;
+mod column;
+mod datum;
+mod error;
+mod hyphenated;
+mod row_id;
+mod txn_id;
+
+pub use atom::{Atom, AtomKind};
+pub use column::Column;
+pub use datum::Datum;
+pub use datum::atoms::Atoms;
+pub use datum::delta::{
+    applied_difference_gives_the_other, apply_difference, difference,
+    empty_exactly_where_nothing_changed,
+};
+pub use datum::pairs::{Pair, Pairs};
+pub use datum::writing::what_is_written_reads_back;
+pub use error::{BadId, DatumError};
+pub use row_id::RowId;
+pub use txn_id::TxnId;

@@ -1,0 +1,16 @@
+//! JSON values for the crates of OVSDB: how they are seen, taken apart, put together and read with faults.
+#![tactic(auto)]
+
+mod first_fault;
+mod json_value;
+mod no_memory;
+mod parts;
+mod text;
+mod writing;
+
+pub use first_fault::{Fault, both, with_one};
+pub use json_value::Json;
+pub use no_memory::NoMemory;
+pub use parts::{begins_with, is_word, list_under, read_json, three_items, two_items, under};
+pub use text::Text;
+pub use writing::{listed, put, text_json, two, under_name};

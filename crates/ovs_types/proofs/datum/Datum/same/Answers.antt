@@ -1,5 +1,0 @@
-use Rattle.ovs_types.proofs.Equalities.{datum_decides}
-use Rattle.ovs_types.proofs.datum.Datum.same.Goals as goal
-
-pub returns : goal.returns
-returns c = record { equal = rw c.eq.ensures (datum_decides c.args.self.now c.args.other.now) }

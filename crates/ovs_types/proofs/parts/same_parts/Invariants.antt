@@ -1,9 +1,0 @@
-use Rattle.std.proofs.Common.{◌≡◌, ◌↔◌, length}
-use Rattle.ovs_types.proofs.parts.same_parts.Given as goal
-
--- what is left is the same exactly where all is
-abbrev pub invariant-loop-left : goal.invariant-loop-left
-invariant-loop-left g l = (l.left ≡ l.right) ↔ (l.fn.left ≡ l.fn.right)
-
-abbrev pub decreases-loop-left : goal.decreases-loop-left
-decreases-loop-left g l = length l.left

@@ -1,9 +1,0 @@
-use Rattle.std.proofs.Common.{◌≡◌, length}
-use Rattle.ovs_types.specs.Ascending.{ascends}
-use Rattle.ovs_types.proofs.sorting.ascends.Given as goal
-
-abbrev pub invariant-loop-rest : goal.invariant-loop-rest
-invariant-loop-rest g l = ascends g.E.Entry.order l.rest ≡ ascends g.E.Entry.order l.entries
-
-abbrev pub decreases-loop-rest : goal.decreases-loop-rest
-decreases-loop-rest g l = length l.rest
