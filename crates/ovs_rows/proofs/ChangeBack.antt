@@ -18,7 +18,7 @@ use Rattle.ovs_types.specs.Names.{IsAscendingBy}
 use Rattle.ovs_types.proofs.Finders.{table_number}
 use Rattle.ovs_rows.specs.declared.place.Place.{Place}
 use Rattle.ovs_rows.specs.declared.change.Action.{Action}
-use Rattle.ovs_rows.specs.declared.reading.NamedRows.{NamedRows}
+use Rattle.ovs_rows.specs.declared.change.named_rows.NamedRows.{NamedRows}
 use Rattle.ovs_rows.specs.Change.{Actions, IsActionOf, IsChangeOf, is_idle}
 use Rattle.ovs_rows.specs.ChangeReading.{is_named, with_row, read_change}
 use Rattle.ovs_rows.specs.ChangeSpelling.{SpellsAction, Spells}
@@ -32,7 +32,8 @@ use Rattle.ovs_rows.proofs.ChangeSteps.{RowStep, TableStep, spelled_change}
 use Rattle.ovs_rows.proofs.IdOrder.{id_text_cmp, less_is}
 use Rattle.ovs_rows.proofs.Maps.{of_T, All-entries}
 use Rattle.ovs_rows.proofs.ObjectOrder.{Precedes, IsFirst, first_with, lead_first}
-use Rattle.ovs_rows.proofs.TableActions.{Entry, IsLeast, Ascend, ascends, found_own, put_all, or_else, get_put_all, AreNew, still_new}
+use Rattle.ovs_rows.proofs.TableActions.{Entry, IsLeast, Ascend, ascends, found_own, put_all, get_put_all, AreNew, still_new}
+use Rattle.std.specs.Option.{option_or}
 use Rattle.ovs_rows.proofs.Writings.{filter_kept}
 
 -- ---- the rows of a table are read
@@ -77,7 +78,7 @@ module _ (change : Actions) where
   abbrev IsBelow : ℕ → Actions → Type 0
   IsBelow number m = (p : Place) → get m p ≡ cond (nat_lt p.table number) (get change p) None
 
-  or_none : (o : Option Action) → or_else o None ≡ o
+  or_none : (o : Option Action) → option_or o None ≡ o
   or_none None = refl
   or_none (Some a) = refl
 
@@ -87,12 +88,12 @@ module _ (change : Actions) where
   below_next : (number : ℕ) (m : Actions) → IsBelow number m → IsBelow (number + 1) (put_all m (actions_in number change))
   below_next number m below p =
       get_put_all m (actions_in number change) p (own_ascend number)
-      ∙ ap (λ o. or_else o (get m p)) (found_own number (entries change) p ∙ ap (λ o. cond (p.table == number) o None) (sym (get-entries change p)))
-      ∙ ap (or_else (cond (p.table == number) (get change p) None)) (below p)
+      ∙ ap (λ o. option_or o (get m p)) (found_own number (entries change) p ∙ ap (λ o. cond (p.table == number) o None) (sym (get-entries change p)))
+      ∙ ap (option_or (cond (p.table == number) (get change p) None)) (below p)
       ∙ by (cases_order p.table number)
     where
       by : ((p.table ≡ number) ⊎ ((p.table < number) ⊎ (number < p.table)))
-          → or_else (cond (p.table == number) (get change p) None) (cond (nat_lt p.table number) (get change p) None) ≡ cond (nat_lt p.table (number + 1)) (get change p) None
+          → option_or (cond (p.table == number) (get change p) None) (cond (nat_lt p.table number) (get change p) None) ≡ cond (nat_lt p.table (number + 1)) (get change p) None
       by (inl same) =
           let here : (p.table == number) ≡ true = eq-eqb p.table number same in
           let before : nat_lt p.table number ≡ false = grind (arith, nat_tests) in
@@ -169,7 +170,7 @@ IsGood tables e = IsActionOf (columns_at tables e.0.table) e.1
 
 module _ (tables : List Table) (change : Actions) (sound : IsChangeOf tables change) where
   good : AllByRecursion (IsGood tables) (entries change)
-  good = All-entries place_total place_exact (IsGood tables) change (λ p a at. (sound p a at).1)
+  good = All-entries place_total place_exact change (IsGood tables) (λ p a at. (sound p a at).1)
 
   abbrev IsGoodOwn : ℕ → Entry → Type 0
   IsGoodOwn number e = (e.0.table ≡ number) × IsGood tables e

@@ -15,7 +15,9 @@ use Rattle.ovs_rows.specs.Row.{Rows, columns_at, AreDataOf, AreRowsOf}
 use Rattle.ovs_rows.specs.Change.{Actions}
 use Rattle.ovs_rows.specs.DatabaseDifference.{action_between, database_difference}
 use Rattle.ovs_rows.specs.Differing.{fate, arrival, with_action}
-use Rattle.ovs_rows.proofs.Maps.{alike, left, right, tied, not_among, of_T, All-entries}
+use Rattle.ovs_rows.proofs.Maps.{alike, not_among, of_T, All-entries}
+use Rattle.ovs_rows.proofs.PlaceOrder.{same_place}
+use Rattle.std.specs.Cmp.{first_so, second_so}
 use Rattle.ovs_rows.proofs.Laws.{get-database_difference}
 
 chosen_inserted : (b : Bool) (a : Action) (y : Option Action) → cond b (Some a) y ≡ option_or (cond b (Some a) None) y
@@ -39,17 +41,17 @@ module _ (f : Place × Row → Option Action) where
   gathered_first : (e : Place × Row) (es : List (Place × Row)) (m : Actions) (q : Place) → is_sorted place_cmp (e ∷ es) ≡ true → (b : Bool) → eq_by_cmp place_cmp q e.0 ≡ b
       → option_or (given q (find place_cmp q es)) (get (with_action m e.0 (f e)) q) ≡ option_or (given q (cond b (Some e.1) (find place_cmp q es))) (get m q)
   gathered_first e es m q sorted true at =
-      ap (λ (o : Option Row). option_or (given q o) (get (with_action m e.0 (f e)) q)) (not_among place_total place_exact e.0 q es (left (below_all place_cmp e.0 es) (is_sorted place_cmp es) sorted) at)
+      ap (λ (o : Option Row). option_or (given q o) (get (with_action m e.0 (f e)) q)) (not_among place_total place_exact e.0 q es (first_so (below_all place_cmp e.0 es) (is_sorted place_cmp es) sorted) at)
       ∙ get-with_action m e.0 (f e) q
       ∙ ap (λ (b : Bool). option_or (cond b (f e) None) (get m q)) at
-      ∙ ap (λ (p : Place). option_or (f (p, e.1)) (get m q)) (sym (place_exact q e.0 (tied (place_cmp q e.0) at)))
+      ∙ ap (λ (p : Place). option_or (f (p, e.1)) (get m q)) (sym (same_place q e.0 at))
   gathered_first e es m q sorted false at =
       ap (option_or (given q (find place_cmp q es))) (get-with_action m e.0 (f e) q ∙ ap (λ (b : Bool). option_or (cond b (f e) None) (get m q)) at)
 
   get-gathered : (es : List (Place × Row)) (m : Actions) (q : Place) → is_sorted place_cmp es ≡ true → get (gathered es m) q ≡ option_or (given q (find place_cmp q es)) (get m q)
   get-gathered [] m q sorted = refl
   get-gathered (e ∷ es) m q sorted =
-      get-gathered es (with_action m e.0 (f e)) q (right (below_all place_cmp e.0 es) (is_sorted place_cmp es) sorted)
+      get-gathered es (with_action m e.0 (f e)) q (second_so (below_all place_cmp e.0 es) (is_sorted place_cmp es) sorted)
       ∙ gathered_first e es m q sorted (eq_by_cmp place_cmp q e.0) refl
 
   -- at each place the action for the row there, and else what was there before
@@ -71,7 +73,7 @@ abbrev pub HaveData : List Table → List (Place × Row) → Type 0
 HaveData tables = AllByRecursion (λ e. AreDataOf (columns_at tables e.0.table) e.1.columns)
 
 pub have_data : (tables : List Table) (rows : Rows) → AreRowsOf tables rows → HaveData tables (entries rows)
-have_data tables rows h = All-entries place_total place_exact (λ e. AreDataOf (columns_at tables e.0.table) e.1.columns) rows (λ p r e. (h p r e).1)
+have_data tables rows h = All-entries place_total place_exact rows (λ e. AreDataOf (columns_at tables e.0.table) e.1.columns) (λ p r e. (h p r e).1)
 
 fate_given : (tables : List Table) (new : Rows) (q : Place) (old : Option Row) → option_or (given (fate_of tables new) q old) None ≡ fate (columns_at tables q.table) old (get new q)
 fate_given tables new q None = refl

@@ -1,3 +1,5 @@
+pub mod PlaceOrder
+pub mod Copies
 pub mod Maps
 pub mod Data
 pub mod RowSteps
@@ -12,6 +14,7 @@ pub mod NamedRowLaws
 pub mod CellSteps
 pub mod ChangeSteps
 pub mod ChangeLaws
+pub mod ChangeFaultLaws
 pub mod ChangeTables
 pub mod ChangeMeanings
 pub mod IdOrder

@@ -1,5 +1,5 @@
 -- Databases written member by member.
-use Rattle.std.proofs.Common.{◌≡◌, ℕ, ◌<◌, ◌≤◌, ◌+◌, List, [], ◌∷◌, map, drop, length, get_or, Bool, true, false, cond, ◌&&◌, ◌||◌, true≢false, Some, refl, sym, ap, subst, ◌∙◌, ◌⊎◌, inl, inr, arith}
+use Rattle.std.proofs.Common.{◌≡◌, ℕ, ◌<◌, ◌≤◌, ◌+◌, List, [], ◌∷◌, map, drop, length, get_or, Bool, true, false, cond, ◌&&◌, ◌||◌, true≢false, refl, sym, ap, subst, ◌∙◌, ◌⊎◌, inl, inr, arith}
 use Rattle.std.specs.Prelude.{fold, filter, not, ◌==◌}
 use Rattle.std.specs.List.{zip, enumerate_from, AllByRecursion}
 use Rattle.std.specs.declared.cmp.Ordering.{Ordering}
@@ -7,26 +7,24 @@ use Rattle.std.specs.declared.cmp.Ordering.TheVariants.{Less, Equal, Greater}
 use Rattle.std.specs.Ordering.{nat_cmp, is_le, ordering_then, match_ordering, MatchOrdering}
 use Rattle.std.specs.Cmp.{ranked}
 use Rattle.std.proofs.Math.ListN.{drop_of_length-le}
-use Rattle.std.proofs.lemmas.Bool.{eqb-true, ne_eqb}
+use Rattle.std.proofs.lemmas.Bool.{ne_eqb}
 use Rattle.std.proofs.Math.Dec.{eqb_refl}
-use Rattle.std.proofs.lemmas.Option.{slice_get-get_or}
 use Rattle.std.specs.declared.ops.Bound.TheVariants.{Included, Excluded}
 use Rattle.std.specs.BTreeMap.Range.{range_contains, entries_between}
-use Rattle.std.specs.FinMap.{get, entries}
 use Rattle.std.specs.Cmp.Lexicographic.{slice_cmp}
 use Rattle.serde_json.specs.Data.{Data, Members, no_members, member, put}
 use Rattle.serde_json.specs.Written.{has_float, members_have_float}
-use Rattle.ovs_types.specs.declared.datum.Datum.{Datum}
+use Rattle.ovs_data.specs.declared.datum.Datum.{Datum}
 use Rattle.ovs_types.specs.declared.schema.NamedColumn.{NamedColumn}
 use Rattle.ovs_types.specs.declared.schema.Table.{Table}
 use Rattle.ovs_types.specs.Id.{id_text}
-use Rattle.ovs_types.proofs.Writings.{has_float-datum}
+use Rattle.ovs_data.proofs.Writings.{has_float-datum}
 use Rattle.ovs_rows.specs.declared.place.Place.{Place}
 use Rattle.ovs_rows.specs.declared.row.Row.{Row}
-use Rattle.ovs_rows.specs.Place.{place_cmp, place_total, place_exact}
-use Rattle.ovs_rows.specs.Row.{Rows, AreDataOf, columns_in, columns_at}
+use Rattle.ovs_rows.specs.Place.{place_cmp}
+use Rattle.ovs_rows.specs.Row.{Rows}
 use Rattle.ovs_rows.specs.Writing.{with_member, column_member, row_json, row_member, rows_in, table_json, table_member, tables_json}
-use Rattle.ovs_rows.proofs.Maps.{of_T, All-entries}
+use Rattle.ovs_rows.proofs.Maps.{of_T}
 use Rattle.ovs_rows.proofs.PlacingSteps.{drop-at}
 
 -- ---- the columns of a row
@@ -100,17 +98,6 @@ pub filter_kept : {X : Type 0} (P : X → Type 0) (q : X → Bool) (xs : List X)
 filter_kept P q [] h = tt
 filter_kept P q (x ∷ xs) h = kept P x (filter q xs) (q x) h.0 (filter_kept P q xs h.1)
 
--- one datum of each column in each row of a list
-abbrev pub HaveDataOf : List NamedColumn → List (Place × Row) → Type 0
-HaveDataOf columns = AllByRecursion (λ e. AreDataOf columns e.1.columns)
-
--- the rows of a table have data of its columns
-pub rows_in_table : (rows : Rows) (number : ℕ) (columns : List NamedColumn) → ((p : Place) (r : Row) → get rows p ≡ Some r → p.table ≡ number → AreDataOf columns r.columns)
-    → HaveDataOf columns (rows_in number rows)
-rows_in_table rows number columns h =
-    filter_kept (λ (e : Place × Row). AreDataOf columns e.1.columns) (λ e. e.0.table == number) (entries rows)
-    (All-entries place_total place_exact (λ (e : Place × Row). (e.0.table == number) ≡ true → AreDataOf columns e.1.columns) rows (λ p r found at. h p r found (eqb-true p.table number at)))
-
 module _ (columns : List NamedColumn) (ms all : Members) (left : List (Place × Row)) (whole : fold with_member ms (map (row_member columns) left) ≡ all) where
   pub rows_next : (p : Place) (r : Row) (rest : List (Place × Row)) (new : Members) → left ≡ (p, r) ∷ rest → new ≡ put (id_text p.id) (row_json columns r) ms
       → fold with_member new (map (row_member columns) rest) ≡ all
@@ -121,10 +108,6 @@ module _ (columns : List NamedColumn) (ms all : Members) (left : List (Place × 
   rows_end is = sym (ap (λ es. fold with_member ms (map (row_member columns) es)) is) ∙ whole
 
 -- ---- the tables
-
--- the columns of the table of this number
-pub table_columns : (tables : List Table) (i : ℕ) (t : Table) → i < length tables → t ≡ get_or tables i t → columns_at tables i ≡ t.columns
-table_columns tables i t lt is = ap columns_in (slice_get-get_or tables i t lt) ∙ ap (λ (u : Table). u.columns) (sym is)
 
 module _ (rows : Rows) (tables : List Table) (i : ℕ) where
   pub tables_next : (t : Table) (ms next all : Members) → i < length tables → t ≡ get_or tables i t → next ≡ put t.name (table_json rows (i, t)) ms

@@ -1,6 +1,7 @@
 -- What reading a change gives: a value, or the first fault that is met.
-use Rattle.std.specs.Prelude.{◌≡◌, Result, Ok, Err}
-use Rattle.ovs_types.specs.declared.error.DatumError.{DatumError}
+use Rattle.std.specs.Prelude.{◌≡◌, ℕ, List, Result, Ok, Err, codes}
+use Rattle.ovs_data.specs.declared.error.DatumError.{DatumError}
+use Rattle.ovs_data.specs.Faults.{datum_word}
 use Rattle.ovs_rows.specs.declared.error.ChangeError.{ChangeError}
 use Rattle.ovs_rows.specs.declared.error.ChangeError.TheVariants.{NoTable, NoColumn, BadRowId, BadKind, Datum, NoMemory}
 
@@ -25,3 +26,12 @@ Gives view (Err e) read = Fails e read
 abbrev pub in_change : {X : Type 0} → Result X DatumError → Read X
 in_change (Ok x) = Ok x
 in_change (Err e) = Err (Datum e)
+
+-- the word for a fault
+abbrev pub change_word : ChangeError → List ℕ
+change_word NoTable = codes "no-table"
+change_word NoColumn = codes "no-column"
+change_word BadRowId = codes "bad-row-id"
+change_word BadKind = codes "bad-kind"
+change_word (Datum e) = datum_word e
+change_word NoMemory = codes "no-memory"

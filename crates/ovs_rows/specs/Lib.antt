@@ -13,5 +13,6 @@ pub mod Faults
 pub mod Cells
 pub mod ChangeReading
 pub mod ChangeSpelling
+pub mod ChangeFaults
 pub mod ChangeMeaning
 pub mod ChangeWriting

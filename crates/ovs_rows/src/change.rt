@@ -4,9 +4,15 @@ ghost use Rattle.std.specs.Prelude.{◌≡◌, ◌↔◌, IfOk, IsTrue};
 ghost use Rattle.std.specs.FinMap.{empty, insert, get, contains_key, entries};
 ghost use Rattle.std.specs.Option.{option_copied};
 
+mod cells;
+mod named_rows;
+mod reading;
+mod writing;
+
 use crate::place::Place;
 use crate::row::Columns;
 use ovs_types::{Datum, NoMemory};
+pub use reading::one_change_for_all_spellings;
 use std::alloc::{AllocError, Global};
 use std::collections::BTreeMap;
 use std::marker::Model;
@@ -21,7 +27,7 @@ pub(crate) struct Edits {
 
 impl Model for Edits {
     ghost use Rattle.std.specs.Prelude.{List, Option};
-    ghost use Rattle.ovs_types.specs.declared.datum.Datum.{Datum};
+    ghost use Rattle.ovs_data.specs.declared.datum.Datum.{Datum};
 
     ghost Value = { List (Option Datum) };
 

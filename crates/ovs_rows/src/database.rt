@@ -1,20 +1,26 @@
 //! Databases, and carrying out a change in one.
 
-ghost use Rattle.std.specs.Prelude.{◌≡◌, ◌≢◌, IfOk, IfErr, IfSome, OnOk, OnErr, Some, Err, true};
-ghost use Rattle.std.specs.List.{list_all, list_any};
+ghost use Rattle.std.specs.Prelude.{◌≡◌, ◌≢◌, ◌↔◌, IfOk, IfErr, IsTrue, MatchOption, OnErr};
+ghost use Rattle.std.specs.List.{list_any};
 ghost use Rattle.std.specs.FinMap.{get, entries};
 ghost use Rattle.std.specs.Option.{option_copied};
 ghost use Rattle.ovs_rows.specs.Row.{AreRowsOf, no_rows};
 ghost use Rattle.ovs_rows.specs.Change.{IsChangeOf};
-ghost use Rattle.ovs_rows.specs.After.{action_fits, is_taken, fits, refusal, after, IsAfter, applied_of};
+ghost use Rattle.ovs_rows.specs.After.{Fits, Tells, action_fits, fits, is_taken, IsCarriedOut};
+
+mod applying;
+mod differing;
+mod placing;
+mod row_map;
+mod writing;
 
 use crate::applied::Applied;
-use crate::applying::carry_out;
 use crate::change::{Action, Change};
+use crate::database::applying::carry_out;
+use crate::database::row_map::RowMap;
 use crate::error::ApplyError;
 use crate::place::Place;
 use crate::row::Row;
-use crate::row_map::RowMap;
 use ovs_types::{NoMemory, Schema, TxnId};
 use std::alloc::Global;
 use std::marker::Model;
@@ -32,7 +38,7 @@ impl Model for Database {
     ghost use Rattle.std.specs.Coded.{code_by, coded×};
     ghost use Rattle.ovs_types.specs.Schema.{SchemaValue};
     ghost use Rattle.ovs_types.specs.contracts.schema.Schema as schema_row;
-    ghost use Rattle.ovs_rows.specs.contracts.row_map.RowMap as rows_row;
+    ghost use Rattle.ovs_rows.specs.contracts.database.row_map.RowMap as rows_row;
     ghost use Rattle.ovs_rows.specs.Row.{Rows, AreRowsOf};
     ghost use Rattle.ovs_rows.specs.Database.{DatabaseValue};
 
@@ -93,15 +99,23 @@ impl Database {
         }
     }
 
+    // Whether each action fits what stands at its place.
     #[tactic(auto, unfolding(crate::specs::After::fits))]
-    /// Whether each row that the change inserts is absent, and each that it deletes or modifies present.
-    pub fn fits(&self, change: &Change) -> bool
+    fn all_fit(&self, change: &Change) -> bool
         ensures value { result ≡ fits self.now.rows change.now }
     {
         change
             .as_map()
             .iter()
             .all(|(place, action)| self.action_fits(*place, action))
+    }
+
+    /// Whether each row that the change inserts is absent, and each that it deletes or modifies present.
+    pub fn fits(&self, change: &Change) -> bool
+        ensures by_place { IsTrue result ↔ Fits self.now.rows change.now }
+        ensures value { result ≡ fits self.now.rows change.now }
+    {
+        self.all_fit(change)
     }
 
     // Whether an inserted row is present.
@@ -114,7 +128,7 @@ impl Database {
         }
     }
 
-    fn inserts_present(&self, change: &Change) -> bool
+    fn any_is_taken(&self, change: &Change) -> bool
         ensures value { result ≡ list_any (λ e. is_taken e.1 (get self.now.rows e.0)) (entries change.now) }
     {
         change
@@ -125,9 +139,9 @@ impl Database {
 
     // Why the change is refused, if it is.
     fn refusal(&self, change: &Change) -> Option<ApplyError>
-        ensures value { result ≡ refusal self.now.rows change.now }
+        ensures value { MatchOption result (Fits self.now.rows change.now) (λ e. (e ≢ ApplyError.NoMemory) × Tells e self.now.rows change.now) }
     {
-        if self.inserts_present(change) {
+        if self.any_is_taken(change) {
             Some(ApplyError::RowThere)
         } else if self.fits(change) {
             None
@@ -147,13 +161,9 @@ impl Database {
         version: TxnId,
     ) -> Result<Applied, ApplyError>
         requires { IsChangeOf self.old.schema.description.tables change.now }
-        ensures refused { IfSome (refusal self.old.rows change.now) (λ e. result ≡ Err e) }
-        ensures only { IfErr result (λ e. e ≢ ApplyError.NoMemory → refusal self.old.rows change.now ≡ Some e) }
+        ensures refused { IfErr result (λ e. Tells e self.old.rows change.now) }
+        ensures done { IfOk result (IsCarriedOut self.old.schema.description.tables version change.now self.old.rows self.new.rows) }
         ensures schema { self.new.schema ≡ self.old.schema }
-        // The database after the change, as a relation and as its one value.
-        ensures after { OnOk result (IsAfter self.old.schema.description.tables version change.now self.old.rows self.new.rows) }
-        ensures value { OnOk result (self.new.rows ≡ after self.old.schema.description.tables self.old.rows change.now version) }
-        ensures applied { IfOk result (λ a. a ≡ applied_of self.old.schema.description.tables self.old.rows change.now version) }
         ensures unchanged { OnErr result (self.new ≡ self.old) }
     {
         match self.refusal(change) {

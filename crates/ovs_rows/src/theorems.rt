@@ -1,24 +1,22 @@
 //! Laws of changes and databases.
 
-ghost use Rattle.std.specs.Prelude.{◌≡◌, ℕ, List, true};
+ghost use Rattle.std.specs.Prelude.{◌≡◌, ℕ, List};
 ghost use Rattle.ovs_types.specs.declared.schema.Table.{Table};
 ghost use Rattle.ovs_rows.specs.Row.{Rows, AreRowsOf};
 ghost use Rattle.ovs_rows.specs.Change.{Actions, IsChangeOf};
-ghost use Rattle.ovs_rows.specs.After.{fits, after, IsAfter};
-ghost use Rattle.ovs_rows.specs.DatabaseDifference.{database_difference, IsDatabaseDifference, IsCommit};
+ghost use Rattle.ovs_rows.specs.After.{Fits, after, IsAfter};
+ghost use Rattle.ovs_rows.specs.DatabaseDifference.{database_difference, IsDatabaseDifference, Leads};
 
 /// There is exactly one database after a change that fits, and it has rows of the same tables.
 pub fn change_has_one_outcome()
     ensures tables { (ts : List Table) (a : Rows) (c : Actions) (v : ℕ) → AreRowsOf ts a → IsChangeOf ts c → AreRowsOf ts (after ts a c v) }
-    ensures is_after { (ts : List Table) (a : Rows) (c : Actions) (v : ℕ) → AreRowsOf ts a → IsChangeOf ts c → fits a c ≡ true → IsAfter ts v c a (after ts a c v) }
+    ensures is_after { (ts : List Table) (a : Rows) (c : Actions) (v : ℕ) → AreRowsOf ts a → IsChangeOf ts c → Fits a c → IsAfter ts v c a (after ts a c v) }
     ensures only { (ts : List Table) (a : Rows) (c : Actions) (v : ℕ) (b : Rows) → AreRowsOf ts a → IsChangeOf ts c → IsAfter ts v c a b → AreRowsOf ts b → b ≡ after ts a c v }
 {}
 
-/// The difference of two databases is a change that fits the first, and the database after it is the second, where the
-/// second's versions are those that a commit gives.
+/// Between two databases of the same tables there is exactly one difference. It is a change that fits the first, and the
+/// database after it is the second, where the second's versions are those that a commit gives.
 pub fn database_difference_laws()
-    ensures difference { (ts : List Table) (a b : Rows) → AreRowsOf ts a → AreRowsOf ts b → IsDatabaseDifference ts a b (database_difference ts a b) }
-    ensures tables { (ts : List Table) (a b : Rows) → AreRowsOf ts a → AreRowsOf ts b → IsChangeOf ts (database_difference ts a b) }
-    ensures fits { (ts : List Table) (a b : Rows) → AreRowsOf ts a → AreRowsOf ts b → fits a (database_difference ts a b) ≡ true }
-    ensures after { (ts : List Table) (a b : Rows) (id : ℕ) → IsCommit ts a b id → after ts a (database_difference ts a b) id ≡ b }
+    ensures leads { (ts : List Table) (a b : Rows) → AreRowsOf ts a → AreRowsOf ts b → Leads ts a b (database_difference ts a b) }
+    ensures only { (ts : List Table) (a b : Rows) (c : Actions) → AreRowsOf ts a → AreRowsOf ts b → IsChangeOf ts c → IsDatabaseDifference ts a b c → c ≡ database_difference ts a b }
 {}
