@@ -1,65 +1,44 @@
 -- A link that is folded and was never parked.
-use Rattle.std.proofs.Common.{◌≡◌, ℕ, ◌<◌, true, List, [], ◌∷◌, ◌++◌, length, sym, ◌∙◌, ap, subst, arith, Some, None, Option, refl}
+use Rattle.std.proofs.Common.{◌≡◌, ◌<◌, true, List, [], ◌∷◌, ◌++◌, length, sym, ◌∙◌, ap, subst, arith, None}
 use Rattle.std.proofs.lemmas.List.Sorted.{IsPermutation-to_front}
-use Rattle.std.specs.Ordering.{nat_cmp}
-use Rattle.std.specs.FinMap.{FinMap, insert, len}
-use Rattle.ovs_types.specs.declared.txn_id.TxnId.{TxnId}
+use Rattle.std.specs.FinMap.{insert, len}
 use Rattle.ovs_rows.specs.Row.{Rows}
 use Rattle.ovs_rows.specs.After.{fits}
 use Rattle.ovs_links.specs.Sets.{IsOfTables}
 use Rattle.ovs_links.specs.Chains.{head_after}
-use Rattle.ovs_links.specs.Steps.{FoldedValue, folded_with}
+use Rattle.ovs_links.specs.Steps.{FoldedValue, folded_with, tables_in}
 use Rattle.ovs_links.specs.Store.{Stored, max_links, tables_of, head_of, rows_of}
 use Rattle.ovs_links.specs.Kept.{IsKept, IsSound, stored_of, from_links, find_prev, find_id}
-use Rattle.ovs_links.specs.Beside.{HasById}
-use Rattle.ovs_links.specs.Answers.{SettlesAs, NonePrev, NoneId}
+use Rattle.ovs_links.specs.Answers.{SettlesAs, NonePrev}
 use Rattle.ovs_links.specs.declared.link.Link.{Link}
 use Rattle.ovs_links.specs.declared.answer.Settled.TheVariants.{Done}
-use Rattle.ovs_links.specs.declared.scan.Beside.{Beside}
-use Rattle.ovs_links.specs.declared.scan.Beside.TheVariants.{Id}
-use Rattle.ovs_links.proofs.SetLemmas.{get-from_links, len-from_links, find_key_is}
-use Rattle.ovs_links.proofs.BesideLemmas.{none_by_id}
+use Rattle.ovs_links.proofs.SetLemmas.{len-from_links}
 use Rattle.ovs_links.proofs.KeptLemmas.{kept_rows, kept_step, links_step}
-use Rattle.ovs_links.proofs.TakeLemmas.{none_id, kept_push, links_push}
-
--- a prev that no held link has isn't found
-pub none_found_prev : (ls : List Link) (l : Link) → NonePrev (from_links ls) l → find_prev l.prev ls ≡ None
-none_found_prev ls l n = by_case (find_prev l.prev ls) refl
-  where
-    by_case : (o : Option Link) → find_prev l.prev ls ≡ o → find_prev l.prev ls ≡ None
-    by_case None e = e
-    by_case (Some h) e =
-        let p = find_key_is (λ x. x.prev) l.prev ls h e in
-        absurd (n h (get-from_links ls h.prev ∙ ap (λ (q : ℕ). find_prev q ls) p ∙ e) p)
-
--- no held link has its id where none is answered
-pub none_held_by_id : (ls : List Link) (l : Link) (b : Beside) (m : FinMap nat_cmp Link) → from_links ls ≡ m
-    → HasById ls l b → ((prev id : TxnId) → b ≡ Id prev id → ⊥) → NoneId m l
-none_held_by_id ls l b m e h n = subst (λ (x : FinMap nat_cmp Link). NoneId x l) e (none_id ls l (none_by_id ls l b h n))
+use Rattle.ovs_links.proofs.TakeLemmas.{none_found_prev, kept_push, links_push}
 
 -- a link that can be folded next, and wasn't held
 pub record IsNext (chain parked : List Link) (f : FoldedValue) (l : Link) : Type 0 where
   pub none_prev : find_prev l.prev (chain ++ parked) ≡ None
   pub none_id : find_id l.id (chain ++ parked) ≡ None
   pub sound : IsSound l
-  pub change : IsOfTables f.database.schema.description.tables l
+  pub change : IsOfTables (tables_in f) l
   pub room : length (chain ++ parked) < max_links
   pub next : l.prev ≡ head_after 0 chain
   pub fit : fits f.database.rows l.change ≡ true
 
 -- what a caller sees of the store says so
-pub is_next : (chain parked : List Link) (f : FoldedValue) (l : Link) (b : Beside) (s : Stored)
+pub is_next : (chain parked : List Link) (f : FoldedValue) (l : Link) (s : Stored)
     → stored_of chain parked f ≡ s → IsKept chain parked f → SettlesAs s Done → l.prev ≡ head_of s
-    → HasById (chain ++ parked) l b → ((prev id : TxnId) → b ≡ Id prev id → ⊥) → IsSound l
+    → find_id l.id (chain ++ parked) ≡ None → IsSound l
     → IsOfTables (tables_of s) l → len s.links < max_links → fits (rows_of s) l.change ≡ true
     → IsNext chain parked f l
-is_next chain parked f l b s e k done next beside none sound change room fit =
+is_next chain parked f l s e k done next none sound change room fit =
     record {
       none_prev = none_found_prev (chain ++ parked) l (subst (λ (x : Stored). NonePrev x.links l) (sym e) (λ h a p. done h a (p ∙ next)));
-      none_id = none_by_id (chain ++ parked) l b beside none;
+      none_id = none;
       sound = sound;
       change = subst (λ (x : Stored). IsOfTables (tables_of x) l) (sym e) change;
-      room = omega (arith, room, len-from_links (chain ++ parked) k.prevs, ap (λ (x : Stored). len x.links) e);
+      room = omega (arith, room, len-from_links (chain ++ parked) k.apart.prevs, ap (λ (x : Stored). len x.links) e);
       next = next ∙ sym (ap (λ (x : Stored). head_of x) e);
       fit = subst (λ (x : Rows). fits x l.change ≡ true) (sym (kept_rows chain parked f k)) (subst (λ (x : Stored). fits (rows_of x) l.change ≡ true) (sym e) fit);
     }

@@ -167,7 +167,7 @@ no_way_back S k ts start opening below ls a s h d (suc i) (suc j) le lt e =
     let there : (get_or ls (suc j) d).prev ≡ (get_or ls j d).id = JoinUp-at ts start opening ls d j lt h in
     no_way_back S k ts start opening below ls a s h d i j (omega arith) (omega arith) (sym there ∙ ap (λ (x : Link). x.prev) same)
 
-head_after-at : (from : ℕ) (ls : List Link) (d : Link) (n : ℕ) → length ls ≡ suc n
+pub head_after-at : (from : ℕ) (ls : List Link) (d : Link) (n : ℕ) → length ls ≡ suc n
     → head_after from ls ≡ (get_or ls n d).id
 head_after-at from [] d n e = absurd (omega arith)
 head_after-at from (l ∷ []) d zero e = refl

@@ -10,7 +10,7 @@ use Rattle.ovs_links.specs.Sets.{AllOf, Among, Contradict, IsConsistent, IsOfTab
 use Rattle.ovs_links.specs.Chains.{JoinUp, rows_after, IsChain, IsLongestChain}
 use Rattle.ovs_links.specs.History.{Commit, IsNoId, AreDistinct, NoneIsStart, CommitsFrom, IsHistory, links_of, rows_at, IsHeldCount}
 use Rattle.ovs_links.specs.Kept.{IsSound}
-use Rattle.ovs_links.specs.Answers.{IsSourceChain, IsOfSource}
+use Rattle.ovs_links.specs.Answers.{IsSourceChain, AreOfOneSource}
 use Rattle.ovs_links.specs.declared.link.Link.{Link}
 use Rattle.ovs_links.proofs.ChainLemmas.{AllOf-weaker, AllOf-right, JoinUp-left, JoinUp-right, chain_prefix, none_follows}
 
@@ -171,7 +171,7 @@ source_chain S ts ls long h history w =
     (source_count S ts 0 no_rows ls h long k w, same, ap (λ (x : List Link). rows_after ts no_rows x) same ∙ history_rows ts 0 no_rows h (length ls) history.commits)
 
 -- links of one history don't contradict each other
-pub no_fork : (S : Link → Type 0) (ts : List Table) (l h : Link) → IsOfSource ts S l → S h → Contradict h l → ⊥
-no_fork S ts l h k a c =
+pub no_fork : (S T : Link → Type 0) (ts : List Table) (l h : Link) → AreOfOneSource ts S T → T l → S h → Contradict h l → ⊥
+no_fork S T ts l h k b a c =
     let all = history_consistent ts 0 no_rows k.0 (omega arith) k.1 in
-    ⊎_elim (λ (e : h.prev ≡ l.prev). c.0 (all.by_prev h l (k.2 h a) k.3 e)) (λ (e : h.id ≡ l.id). c.0 (all.by_id h l (k.2 h a) k.3 e)) c.1
+    ⊎_elim (λ (e : h.prev ≡ l.prev). c.0 (all.by_prev h l (k.2 h a) (k.3 l b) e)) (λ (e : h.id ≡ l.id). c.0 (all.by_id h l (k.2 h a) (k.3 l b) e)) c.1

@@ -1,6 +1,6 @@
 -- The lists of a store, and one more folded or parked link.
-use Rattle.std.proofs.Common.{◌≡◌, ℕ, ◌<◌, ◌≤◌, true, false, eqb, List, [], ◌∷◌, ◌++◌, length, get_or, refl, sym, ◌∙◌, ap, subst, arith, length-append, append_assoc, Some, None, Option}
-use Rattle.std.proofs.lemmas.List.Sorted.{length_permutation, IsPermutation-append_right}
+use Rattle.std.proofs.Common.{◌≡◌, ℕ, true, false, eqb, List, [], ◌∷◌, ◌++◌, length, take, refl, sym, ◌∙◌, ap, subst, arith, length-append, append_assoc, Some, None, Option}
+use Rattle.std.proofs.lemmas.List.Sorted.{length_permutation, IsPermutation-append_right, IsPermutation-sym, IsPermutation-trans, IsPermutation-to_front}
 use Rattle.std.proofs.lemmas.List.Folds.{find-append}
 use Rattle.std.specs.List.Sorted.{IsPermutation}
 use Rattle.std.specs.Option.{option_or}
@@ -9,16 +9,18 @@ use Rattle.ovs_rows.specs.Row.{Rows, no_rows}
 use Rattle.ovs_rows.specs.After.{fits}
 use Rattle.ovs_links.specs.Sets.{AllOf, Holds, IsConsistent, IsOfTables}
 use Rattle.ovs_links.specs.Chains.{IsChain, head_after, rows_after}
-use Rattle.ovs_links.specs.Steps.{FoldedValue, folded_of, folded_with, step_of, steps_of}
-use Rattle.ovs_links.specs.Store.{IsStore, IsChainOf, max_links, rows_of}
-use Rattle.ovs_links.specs.Kept.{IsKept, IsSound, stored_of, from_links, find_prev, count_key}
+use Rattle.ovs_links.specs.Steps.{FoldedValue, folded_of, folded_with, step_of, steps_of, tables_in}
+use Rattle.ovs_links.specs.StepChains.{IsFoldedChain, head_at}
+use Rattle.ovs_links.specs.Store.{IsStore, IsChainOf, rows_of}
+use Rattle.ovs_links.specs.Kept.{AreApart, IsKept, IsSound, stored_of, from_links, find_prev}
 use Rattle.ovs_links.specs.Answers.{SettlesAs}
 use Rattle.ovs_links.specs.declared.link.Link.{Link}
 use Rattle.ovs_links.specs.declared.step.Step.{Step}
 use Rattle.ovs_links.specs.declared.answer.Settled.{Settled}
 use Rattle.ovs_links.specs.declared.answer.Settled.TheVariants.{Done, Stuck}
-use Rattle.ovs_links.proofs.ChainLemmas.{AllOf-append, AllOf-left, AllOf-right, AllOf-weaker, AllOf-at, JoinUp-append, rows_after-append, steps_of-push, chain_prefix, none_follows, longest_from_no_next, holds_by_prev}
-use Rattle.ovs_links.proofs.SetLemmas.{In, get-from_links, len-from_links, In_consistent, AllOf_In, find_key_is, place_of, AllOf-found}
+use Rattle.ovs_links.proofs.ChainLemmas.{AllOf-append, AllOf-left, AllOf-right, AllOf-weaker, JoinUp-append, rows_after-append, steps_of-push, chain_prefix, none_follows, longest_from_no_next, holds_by_prev}
+use Rattle.ovs_links.proofs.SetLemmas.{In, get-from_links, len-from_links, In_consistent, AllOf_In, find_key_is, place_of, AllOf-found, count-append}
+use Rattle.ovs_links.proofs.StepLemmas.{folded_chain, length_steps, head_steps}
 use Rattle.ovs_links.proofs.ShuffleLemmas.{AllOf-shuffled, count_shuffled, links_shuffled}
 
 not_Some : (x : Link) → Some x ≡ None → ⊥
@@ -46,13 +48,15 @@ kept_shuffled : (chain xs ys : List Link) (f : FoldedValue) → IsPermutation xs
 kept_shuffled chain xs ys f s k =
     let all = IsPermutation-append_right chain xs ys s in
     record {
-      prevs = λ p. omega (arith, k.prevs p, count_shuffled (λ l. l.prev) p (chain ++ xs) (chain ++ ys) all);
-      ids = λ i. omega (arith, k.ids i, count_shuffled (λ l. l.id) i (chain ++ xs) (chain ++ ys) all);
+      apart = record {
+        prevs = λ p. omega (arith, k.apart.prevs p, count_shuffled (λ l. l.prev) p (chain ++ xs) (chain ++ ys) all);
+        ids = λ i. omega (arith, k.apart.ids i, count_shuffled (λ l. l.id) i (chain ++ xs) (chain ++ ys) all);
+        few = omega (arith, k.apart.few, length_permutation (chain ++ xs) (chain ++ ys) all);
+      };
       sound = AllOf-shuffled IsSound (chain ++ xs) (chain ++ ys) all k.sound;
-      changes = AllOf-shuffled (IsOfTables f.database.schema.description.tables) (chain ++ xs) (chain ++ ys) all k.changes;
+      changes = AllOf-shuffled (IsOfTables (tables_in f)) (chain ++ xs) (chain ++ ys) all k.changes;
       joined = k.joined;
       folded = k.folded;
-      few = omega (arith, k.few, length_permutation (chain ++ xs) (chain ++ ys) all);
     }
 
 -- the first parked link goes to the end of the chain
@@ -60,18 +64,20 @@ kept_folded : (chain : List Link) (l : Link) (rest : List Link) (f : FoldedValue
     → l.prev ≡ head_after 0 chain → fits f.database.rows l.change ≡ true
     → IsKept (chain ++ l ∷ []) rest (folded_with f l)
 kept_folded chain l rest f k e fit =
-    let ts = f.database.schema.description.tables in
+    let ts = tables_in f in
     let a : chain ++ (l ∷ rest) ≡ (chain ++ l ∷ []) ++ rest = sym (append_assoc chain (l ∷ []) rest) in
     let fits_there : fits (rows_after ts no_rows chain) l.change ≡ true = subst (λ (x : Rows). fits x l.change ≡ true) (kept_rows chain (l ∷ rest) f k) fit in
     record {
-      prevs = subst (λ (x : List Link). (p : ℕ) → count_key (λ l. l.prev) p x ≤ 1) a k.prevs;
-      ids = subst (λ (x : List Link). (i : ℕ) → count_key (λ l. l.id) i x ≤ 1) a k.ids;
+      apart = subst AreApart a k.apart;
       sound = subst (λ (x : List Link). AllOf IsSound x) a k.sound;
       changes = subst (λ (x : List Link). AllOf (IsOfTables ts) x) a k.changes;
       joined = JoinUp-append ts 0 no_rows chain (l ∷ []) k.joined (e, fits_there, tt);
       folded = ap (λ (x : FoldedValue). folded_with x l) k.folded ∙ folded_of-push f.database.schema chain l;
-      few = subst (λ (x : List Link). length x ≤ max_links) a k.few;
     }
+
+to_back : (parked rest : List Link) (l : Link) → IsPermutation parked (l ∷ rest) → IsPermutation parked (rest ++ l ∷ [])
+to_back parked rest l s =
+    IsPermutation-trans parked (l ∷ rest) (rest ++ l ∷ []) s (IsPermutation-sym (rest ++ l ∷ []) (l ∷ rest) (IsPermutation-to_front rest l))
 
 -- a parked link goes to the end of the chain, and the rest may change places
 pub kept_step : (chain parked rest : List Link) (l : Link) (f : FoldedValue) → IsPermutation parked (l ∷ rest)
@@ -83,23 +89,34 @@ pub links_step : (chain parked rest : List Link) (l : Link) (f : FoldedValue) �
     → IsKept chain parked f → from_links ((chain ++ l ∷ []) ++ rest) ≡ from_links (chain ++ parked)
 links_step chain parked rest l f s k =
     ap from_links (append_assoc chain (l ∷ []) rest)
-    ∙ links_shuffled (chain ++ parked) (chain ++ l ∷ rest) (IsPermutation-append_right chain parked (l ∷ rest) s) k.prevs
+    ∙ links_shuffled (chain ++ parked) (chain ++ l ∷ rest) (IsPermutation-append_right chain parked (l ∷ rest) s) k.apart.prevs
+
+-- a parked link goes behind the others
+pub kept_back : (chain parked rest : List Link) (l : Link) (f : FoldedValue) → IsPermutation parked (l ∷ rest)
+    → IsKept chain parked f → IsKept chain (rest ++ l ∷ []) f
+kept_back chain parked rest l f s k = kept_shuffled chain parked (rest ++ l ∷ []) f (to_back parked rest l s) k
+
+pub stored_back : (chain parked rest : List Link) (l : Link) (f : FoldedValue) → IsPermutation parked (l ∷ rest)
+    → IsKept chain parked f → stored_of chain (rest ++ l ∷ []) f ≡ stored_of chain parked f
+stored_back chain parked rest l f s k =
+    ap (λ m. record { schema = f.database.schema; links = m; folded = chain })
+    (links_shuffled (chain ++ parked) (chain ++ (rest ++ l ∷ [])) (IsPermutation-append_right chain parked (rest ++ l ∷ []) (to_back parked rest l s)) k.apart.prevs)
 
 -- a parked link is of the tables
-pub kept_change : (chain parked : List Link) (f : FoldedValue) (k : ℕ) (d : Link) → IsKept chain parked f
-    → k < length parked → IsOfTables f.database.schema.description.tables (get_or parked k d)
-kept_change chain parked f k d h lt =
-    let ts = f.database.schema.description.tables in
-    AllOf-at (IsOfTables ts) parked d k lt (AllOf-right (IsOfTables ts) chain parked h.changes)
+pub follower_change : (chain parked : List Link) (f : FoldedValue) (l : Link) (p : ℕ) → IsKept chain parked f
+    → find_prev p parked ≡ Some l → IsOfTables (tables_in f) l
+follower_change chain parked f l p k found =
+    let ts = tables_in f in
+    AllOf-found (IsOfTables ts) p parked l (AllOf-right (IsOfTables ts) chain parked k.changes) found
 
 -- ---- the end
 
 kept_members : (chain parked : List Link) (f : FoldedValue) → IsKept chain parked f → AllOf (In (chain ++ parked)) chain
-kept_members chain parked f k = AllOf-left (In (chain ++ parked)) chain parked (AllOf_In (chain ++ parked) k.prevs)
+kept_members chain parked f k = AllOf-left (In (chain ++ parked)) chain parked (AllOf_In (chain ++ parked) k.apart.prevs)
 
 kept_consistent : (chain parked : List Link) (f : FoldedValue) → IsKept chain parked f
     → IsConsistent (In (chain ++ parked))
-kept_consistent chain parked f k = In_consistent (chain ++ parked) k.ids
+kept_consistent chain parked f k = In_consistent (chain ++ parked) k.apart.ids
 
 -- no link of the chain follows the head
 head_not_in_chain : (chain parked : List Link) (f : FoldedValue) → IsKept chain parked f
@@ -110,7 +127,7 @@ head_not_in_chain chain parked f k = by_case (find_prev (head_after 0 chain) cha
     by_case None e = refl
     by_case (Some l) e =
         let t = place_of (head_after 0 chain) chain l l e in
-        absurd (none_follows (In (chain ++ parked)) (kept_consistent chain parked f k) f.database.schema.description.tables 0 no_rows (omega arith) chain (kept_members chain parked f k) (AllOf-left IsSound chain parked k.sound) k.joined l t.0 t.1 (ap (λ (x : Link). x.prev) t.2 ∙ find_key_is (λ l. l.prev) (head_after 0 chain) chain l e))
+        absurd (none_follows (In (chain ++ parked)) (kept_consistent chain parked f k) (tables_in f) 0 no_rows (omega arith) chain (kept_members chain parked f k) (AllOf-left IsSound chain parked k.sound) k.joined l t.0 t.1 (ap (λ (x : Link). x.prev) t.2 ∙ find_key_is (λ l. l.prev) (head_after 0 chain) chain l e))
 
 follows_head : (chain parked : List Link) (f : FoldedValue) → IsKept chain parked f
     → find_prev (head_after 0 chain) (chain ++ parked) ≡ find_prev (head_after 0 chain) parked
@@ -135,6 +152,17 @@ pub stuck_settles : (chain parked : List Link) (f : FoldedValue) (l : Link) → 
 stuck_settles chain parked f l k e unfit =
     (l, follower_held chain parked f l k e, find_key_is (λ l. l.prev) (head_after 0 chain) parked l e, refl, subst (λ (x : Rows). fits x l.change ≡ false) (kept_rows chain parked f k) unfit)
 
+-- the steps are a chain of their own
+pub kept_steps : (chain parked : List Link) (f : FoldedValue) → IsKept chain parked f → IsFoldedChain f
+kept_steps chain parked f k =
+    subst IsFoldedChain (sym k.folded) (folded_chain f.database.schema chain k.joined (AllOf-left IsSound chain parked k.sound) (λ i. omega (arith, k.apart.ids i, count-append (λ l. l.id) i chain parked)))
+
+pub kept_length : (chain parked : List Link) (f : FoldedValue) → IsKept chain parked f → length f.steps ≡ length chain
+kept_length chain parked f k = ap (λ (x : FoldedValue). length x.steps) k.folded ∙ length_steps (tables_in f) no_rows chain
+
+pub kept_head : (chain parked : List Link) (f : FoldedValue) (n : ℕ) → IsKept chain parked f → head_at f n ≡ head_after 0 (take n chain)
+kept_head chain parked f n k = ap (λ (x : FoldedValue). head_at x n) k.folded ∙ head_steps (tables_in f) 0 no_rows chain n
+
 -- ---- what is so of every store
 
 pub in_held : (ls : List Link) (l : Link) → In ls l → Holds (from_links ls) l
@@ -144,7 +172,7 @@ pub held_in : (ls : List Link) (l : Link) → Holds (from_links ls) l → In ls 
 held_in ls l a = sym (get-from_links ls l.prev) ∙ a
 
 pub kept_chain : (chain parked : List Link) (f : FoldedValue) → IsKept chain parked f
-    → IsChain f.database.schema.description.tables 0 no_rows (Holds (from_links (chain ++ parked))) chain
+    → IsChain (tables_in f) 0 no_rows (Holds (from_links (chain ++ parked))) chain
 kept_chain chain parked f k =
     record {
       members = AllOf-weaker (In (chain ++ parked)) (Holds (from_links (chain ++ parked))) (in_held (chain ++ parked)) chain (kept_members chain parked f k);
@@ -164,7 +192,7 @@ kept_held chain parked f k =
 pub kept_store : (chain parked : List Link) (f : FoldedValue) → IsKept chain parked f
     → IsStore (stored_of chain parked f)
 kept_store chain parked f k =
-    let ts = f.database.schema.description.tables in
+    let ts = tables_in f in
     let ls = chain ++ parked in
     let S = Holds (from_links ls) in
     let c = kept_chain chain parked f k in
@@ -175,18 +203,18 @@ kept_store chain parked f k =
       };
       ends = λ l a. AllOf-found IsSound l.prev ls l k.sound (held_in ls l a);
       changes = λ l a. AllOf-found (IsOfTables ts) l.prev ls l k.changes (held_in ls l a);
-      few = let h = k.few in omega (arith, len-from_links ls k.prevs);
+      few = let h = k.apart.few in omega (arith, len-from_links ls k.apart.prevs);
       chain = c;
       prefix = λ ms long. chain_prefix S (holds_by_prev (from_links ls)) ts 0 no_rows chain ms c.members long.chain.members c.joined long.chain.joined (long.longest chain c);
     }
 
 pub settles_longest : (chain parked : List Link) (f : FoldedValue) (s : Settled) → IsKept chain parked f
     → SettlesAs (stored_of chain parked f) s → IsChainOf (stored_of chain parked f) chain
-settles_longest chain parked f Done k h = longest_from_no_next (Holds (from_links (chain ++ parked))) (holds_by_prev (from_links (chain ++ parked))) f.database.schema.description.tables 0 no_rows chain (kept_chain chain parked f k) (λ l a e fit. h l a e)
+settles_longest chain parked f Done k h = longest_from_no_next (Holds (from_links (chain ++ parked))) (holds_by_prev (from_links (chain ++ parked))) (tables_in f) 0 no_rows chain (kept_chain chain parked f k) (λ l a e fit. h l a e)
 settles_longest chain parked f (Stuck id) k h =
-    longest_from_no_next (Holds (from_links (chain ++ parked))) (holds_by_prev (from_links (chain ++ parked))) f.database.schema.description.tables 0 no_rows chain (kept_chain chain parked f k)
+    longest_from_no_next (Holds (from_links (chain ++ parked))) (holds_by_prev (from_links (chain ++ parked))) (tables_in f) 0 no_rows chain (kept_chain chain parked f k)
     (λ l a e fit. let same : l ≡ h.0 = holds_by_prev (from_links (chain ++ parked)) l h.0 a h.1 (e ∙ sym h.2) in
-    true_false (sym fit ∙ ap (λ (x : Link). fits (rows_after f.database.schema.description.tables no_rows chain) x.change) same ∙ h.4))
+    true_false (sym fit ∙ ap (λ (x : Link). fits (rows_after (tables_in f) no_rows chain) x.change) same ∙ h.4))
   where
     true_false : true ≡ false → ⊥
     true_false e = cc
@@ -196,7 +224,7 @@ pub not_longest : (chain parked : List Link) (f : FoldedValue) (l : Link) → Is
     → find_prev (head_after 0 chain) parked ≡ Some l → fits f.database.rows l.change ≡ true
     → IsChainOf (stored_of chain parked f) chain → ⊥
 not_longest chain parked f l k e fit long =
-    let ts = f.database.schema.description.tables in
+    let ts = tables_in f in
     let S = Holds (from_links (chain ++ parked)) in
     let c = kept_chain chain parked f k in
     let n = long.longest (chain ++ l ∷ []) (record {

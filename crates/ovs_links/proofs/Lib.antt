@@ -5,9 +5,15 @@ pub mod HistoryLemmas
 pub mod BesideLemmas
 pub mod KeptLemmas
 pub mod TakeLemmas
-pub mod PositionLemmas
 pub mod RunLemmas
 pub mod JoinLemmas
 pub mod AppendLemmas
 pub mod MergeLemmas
 pub mod LongestLemmas
+pub mod SameLemmas
+pub mod ValueLemmas
+pub mod TakeOutcomes
+pub mod ChainOutcomes
+pub mod MergeOutcomes
+pub mod OrderLemmas
+pub mod StepLemmas

@@ -49,7 +49,7 @@ join_held m ls a = same_links (join m (from_links ls)) m (λ q. get-join m (from
 
 module _ (ts : List Table) (start : ℕ) (opening : Rows) (m : FinMap nat_cmp Link) (below : IsStart start) (set : IsLinkSet m) (sound : (l : Link) → Holds m l → IsSound l) where
   -- a chain is no longer than the set
-  chain_within : (ls : List Link) → IsChain ts start opening (Holds m) ls → length ls ≤ len m
+  pub chain_within : (ls : List Link) → IsChain ts start opening (Holds m) ls → length ls ≤ len m
   chain_within [] c = omega arith
   chain_within (x ∷ xs) c =
       let ls = x ∷ xs in
@@ -109,3 +109,14 @@ module _ (ts : List Table) (start : ℕ) (opening : Rows) (m : FinMap nat_cmp Li
 
   pub longest_exists : Longest
   longest_exists = extend (len m) [] (record { members = tt; joined = tt }) (omega arith)
+
+  -- no link that follows a longest chain fits
+  pub none_fits_after : (ls : List Link) (l : Link) → IsLongestChain ts start opening (Holds m) ls → get m (head_after start ls) ≡ Some l
+      → fits (rows_after ts opening ls) l.change ≡ false
+  none_fits_after ls l long e = by_fit (fits (rows_after ts opening ls) l.change) refl
+    where
+      by_fit : (b : Bool) → fits (rows_after ts opening ls) l.change ≡ b → fits (rows_after ts opening ls) l.change ≡ false
+      by_fit false unfit = unfit
+      by_fit true fit =
+          let more = long.longest (ls ++ l ∷ []) (one_more ls l long.chain e fit) in
+          absurd (omega (arith, more, length-append ls (l ∷ [])))

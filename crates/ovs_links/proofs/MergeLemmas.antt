@@ -1,7 +1,6 @@
 -- The links of one store added to those of another.
-use Rattle.std.proofs.Common.{◌≡◌, ◌⊎◌, ℕ, ◌+◌, ◌<◌, ◌≤◌, inl, inr, true, false, cond, eqb, List, [], ◌∷◌, ◌++◌, length, refl, sym, ◌∙◌, ap, subst, arith, ⊎_elim, length-append, append_assoc, Option, Some, None, is_none, Err}
+use Rattle.std.proofs.Common.{◌≡◌, ◌⊎◌, ℕ, ◌+◌, ◌<◌, ◌≤◌, inl, inr, true, false, cond, eqb, List, [], ◌∷◌, ◌++◌, length, refl, sym, ◌∙◌, ap, subst, arith, ⊎_elim, length-append, append_assoc, Option, Some, None, is_none, Result, Ok, Err, OnOk}
 use Rattle.std.proofs.lemmas.Bool.{cases_lt}
-use Rattle.std.proofs.lemmas.List.{append-nil, nil_from_length}
 use Rattle.std.specs.Option.{option_or}
 use Rattle.std.specs.Ordering.{nat_cmp, eq_by_cmp}
 use Rattle.std.specs.Cmp.{nat_cmp_total}
@@ -9,24 +8,26 @@ use Rattle.std.specs.FinMap.{FinMap, get, len, entries, get-from_entries, get-en
 use Rattle.std.specs.FinMap.Entries as entry
 use Rattle.ovs_types.specs.declared.schema.Table.{Table}
 use Rattle.ovs_links.specs.Sets.{AllOf, Among, Holds, Contradict, IsOfTables}
-use Rattle.ovs_links.specs.Steps.{FoldedValue}
-use Rattle.ovs_links.specs.Store.{Stored, max_links}
-use Rattle.ovs_links.specs.Kept.{IsKept, IsSound, from_links, find_prev, find_id, count_key}
+use Rattle.ovs_links.specs.Steps.{FoldedValue, tables_in}
+use Rattle.ovs_links.specs.Store.{max_links}
+use Rattle.ovs_links.specs.Kept.{AreApart, IsKept, IsSound, from_links, stored_of, find_prev, find_id, count_key}
 use Rattle.ovs_links.specs.Join.{Agree, AreJoinable, join}
-use Rattle.ovs_links.specs.MergeLists.{FitsIn, Meets, HasFork, HasLeast, new_links}
-use Rattle.ovs_links.specs.Answers.{Refutes}
-use Rattle.ovs_links.specs.Merging.{IsLeastFork, MergesAs, AreOfOneSource}
+use Rattle.ovs_links.specs.MergeLists.{FitsIn, HasFork, HasLeast, new_links}
+use Rattle.ovs_links.specs.Answers.{Refutes, AreOfOneSource}
+use Rattle.ovs_links.specs.Merging.{IsLeastFork, MergesAs, IsMergeFork}
+use Rattle.ovs_links.specs.Outcomes.{after_merge}
+use Rattle.ovs_links.specs.Parked.{parked_with}
 use Rattle.ovs_links.specs.declared.link.Link.{Link}
-use Rattle.ovs_links.specs.declared.answer.By.{By}
-use Rattle.ovs_links.specs.declared.answer.By.TheVariants.{Prev, Id}
-use Rattle.ovs_links.specs.declared.answer.MergeError.TheVariants.{Fork}
+use Rattle.ovs_links.specs.declared.answer.MergeError.{MergeError}
+use Rattle.ovs_links.specs.declared.answer.MergeError.TheVariants.{Fork, Full, NoMemory}
 use Rattle.ovs_links.specs.declared.merging.Contradiction.{Contradiction}
 use Rattle.ovs_links.proofs.ChainLemmas.{AllOf-append, AllOf-weaker}
 use Rattle.ovs_links.proofs.SetLemmas.{In, find_past, count_past, count_none, count-append, get-from_links, len-from_links, found_left, found_right, none_found, In_consistent, AllOf_In, AllOf-found}
 use Rattle.ovs_links.proofs.HistoryLemmas.{no_fork}
 use Rattle.ovs_links.proofs.KeptLemmas.{in_held, held_in}
-use Rattle.ovs_links.proofs.TakeLemmas.{fork_by_prev, none_prev, fork_by_id}
+use Rattle.ovs_links.proofs.TakeLemmas.{refutes, refuted}
 use Rattle.ovs_links.proofs.RunLemmas.{among_before, among_last}
+use Rattle.ovs_links.proofs.JoinLemmas.{get-join}
 
 not_Some : (x : Link) → Some x ≡ None → ⊥
 not_Some x e = cc
@@ -89,19 +90,6 @@ fits_agree ls ys n a =
       by_id = λ l m h k e. fits_id ls l m n (held_in ls l h) (AllOf-found (FitsIn ls) m.prev ys m a (held_in ys m k)) e;
     }
 
-refutes : (ls : List Link) (y : Link) (by : By) (p i : ℕ) → ((q : ℕ) → count_key (λ l. l.prev) q ls ≤ 1)
-    → Meets ls y by p i → Refutes (from_links ls) y by p i
-refutes ls y Prev p i n h = let t = fork_by_prev ls y h.0 h.1 h.2 in (h.0, t.0, t.1, t.2, h.3, h.4)
-refutes ls y Id p i n h =
-    let t = fork_by_id ls y h.1.0 n h.0 h.1.1 in
-    (none_prev ls y h.0, (h.1.0, t.0, t.1, t.2, h.1.2, h.1.3))
-
--- what refutes a link contradicts it
-refuted : (m : FinMap nat_cmp Link) (y : Link) (by : By) (p i : ℕ) → Refutes m y by p i
-    → (h : Link) × Holds m h × Contradict h y
-refuted m y Prev p i r = (r.0, r.1, r.2)
-refuted m y Id p i r = (r.1.0, r.1.1, r.1.2)
-
 AllOf-among : (S : Link → Type 0) (ls : List Link) (l : Link) → AllOf S ls → Among ls l → S l
 AllOf-among S [] l a h = absurd h
 AllOf-among S (x ∷ xs) l a (inl e) = subst S (sym e) a.0
@@ -127,11 +115,14 @@ least_fork ls ys f prevs ids others h =
 
 -- ---- links of one history
 
-pub merge_no_fork : (m t : FinMap nat_cmp Link) (ts : List Table) (by : By) (p i : ℕ)
-    → AreOfOneSource ts (Holds m) (Holds t) → MergesAs m t (Err (Fork by p i)) → ⊥
-merge_no_fork m t ts by p i k h =
+pub merge_no_fork : (m t : FinMap nat_cmp Link) (ts : List Table) (r : Result (Unit {0}) MergeError)
+    → AreOfOneSource ts (Holds m) (Holds t) → MergesAs m t r → IsMergeFork r → ⊥
+merge_no_fork m t ts (Ok u) k h fork = fork
+merge_no_fork m t ts (Err (Fork by p i)) k h fork =
     let held = h.1.contradicts in
-    no_fork (Holds m) ts h.0 held.0 (k.0, k.1, k.2, k.3 h.0 h.1.other) held.1 held.2
+    no_fork (Holds m) (Holds t) ts h.0 held.0 k h.1.other held.1 held.2
+merge_no_fork m t ts (Err Full) k h fork = fork
+merge_no_fork m t ts (Err NoMemory) k h fork = fork
 
 -- ---- the new links
 
@@ -202,18 +193,7 @@ AllOf-new S ls (y ∷ ys) a =
 
 -- ---- the union
 
-find-append : (q : ℕ) (xs ys : List (ℕ × Link))
-    → entry.find nat_cmp q (xs ++ ys) ≡ option_or (entry.find nat_cmp q xs) (entry.find nat_cmp q ys)
-find-append q [] ys = refl
-find-append q (x ∷ xs) ys =
-    elim (eq_by_cmp nat_cmp q x.0) as (λ b. cond b (Some x.1) (entry.find nat_cmp q (xs ++ ys)) ≡ option_or (cond b (Some x.1) (entry.find nat_cmp q xs)) (entry.find nat_cmp q ys)) [ true ↦ refl | false ↦ find-append q xs ys ]
-
-get-join : (s t : FinMap nat_cmp Link) (q : ℕ) → get (join s t) q ≡ option_or (get s q) (get t q)
-get-join s t q =
-    get-from_entries nat_cmp_total (entries s ++ entries t) q ∙ find-append q (entries s) (entries t)
-    ∙ ap (λ (o : Option Link). option_or o (entry.find nat_cmp q (entries t))) (sym (get-entries s q)) ∙ ap (λ (o : Option Link). option_or (get s q) o) (sym (get-entries t q))
-
-join_lists : (ls ys : List Link) → join (from_links ls) (from_links ys) ≡ from_links (ls ++ ys)
+pub join_lists : (ls ys : List Link) → join (from_links ls) (from_links ys) ≡ from_links (ls ++ ys)
 join_lists ls ys = same_map nat_cmp_total nat_cmp-IsAntisymmetric (join (from_links ls) (from_links ys)) (from_links (ls ++ ys)) (λ q.
     get-join (from_links ls) (from_links ys) q ∙ ap (λ (o : Option Link). option_or o (get (from_links ys) q)) (get-from_links ls q) ∙ ap (λ (o : Option Link). option_or (find_prev q ls) o) (get-from_links ys q) ∙ both q ∙ sym (get-from_links (ls ++ ys) q))
   where
@@ -245,68 +225,61 @@ pub len_join : (ls ys : List Link) → ((p : ℕ) → count_key (λ l. l.prev) p
 len_join ls ys m n =
     ap len (join_lists ls ys ∙ sym (links_new ls ys)) ∙ len-from_links (ls ++ new_links ls ys) (count_union (λ l. l.prev) ls ys m n (new_by_prev ls ys)) ∙ length-append ls (new_links ls ys)
 
--- what the lists of two stores stand in to each other where nothing contradicts
-pub record AreMergeable (chain parked chain2 parked2 : List Link) (f g : FoldedValue) : Type 0 where
-  pub mine : IsKept chain parked f
-  pub theirs : IsKept chain2 parked2 g
-  pub agree : AllOf (FitsIn (chain ++ parked)) (chain2 ++ parked2)
+-- ---- two lists of which none contradicts one of the other
 
-pub kept_merged : (chain parked chain2 parked2 : List Link) (f g : FoldedValue)
-    → AreMergeable chain parked chain2 parked2 f g
-    → f.database.schema.description.tables ≡ g.database.schema.description.tables
-    → length (chain ++ parked) + length (new_links (chain ++ parked) (chain2 ++ parked2)) ≤ max_links
-    → IsKept chain (parked ++ new_links (chain ++ parked) (chain2 ++ parked2)) f
-kept_merged chain parked chain2 parked2 f g k same n =
-    let ls = chain ++ parked in
-    let ys = chain2 ++ parked2 in
-    let added = new_links ls ys in
-    let tables = f.database.schema.description.tables in
-    let a = append_assoc chain parked added in
-    record {
-      prevs = subst (λ (x : List Link). (q : ℕ) → count_key (λ l. l.prev) q x ≤ 1) a (count_union (λ l. l.prev) ls ys k.mine.prevs k.theirs.prevs (new_by_prev ls ys));
-      ids = subst (λ (x : List Link). (q : ℕ) → count_key (λ l. l.id) q x ≤ 1) a (count_union (λ l. l.id) ls ys k.mine.ids k.theirs.ids (new_by_id ls ys k.agree));
-      sound = subst (λ (x : List Link). AllOf IsSound x) a (AllOf-append IsSound ls added k.mine.sound (AllOf-new IsSound ls ys k.theirs.sound));
-      changes = subst (λ (x : List Link). AllOf (IsOfTables tables) x) a (AllOf-append (IsOfTables tables) ls added k.mine.changes (AllOf-new (IsOfTables tables) ls ys (subst (λ (t : List Table). AllOf (IsOfTables t) ys) (sym same) k.theirs.changes)));
-      joined = k.mine.joined;
-      folded = k.mine.folded;
-      few = subst (λ (x : List Link). length x ≤ max_links) a (omega (arith, n, length-append ls added));
-    }
+module _ (ls ys : List Link) (mine : AreApart ls) (theirs : AreApart ys) (agree : AllOf (FitsIn ls) ys) where
+  pub merges : length ls + length (new_links ls ys) ≤ max_links → AreJoinable (from_links ls) (from_links ys)
+  merges n =
+      record {
+        agree = fits_agree ls ys mine.ids agree;
+        few = omega (arith, n, len_join ls ys mine.prevs theirs.prevs);
+      }
 
-pub merges : (chain parked chain2 parked2 : List Link) (f g : FoldedValue) → AreMergeable chain parked chain2 parked2 f g
-    → length (chain ++ parked) + length (new_links (chain ++ parked) (chain2 ++ parked2)) ≤ max_links
-    → AreJoinable (from_links (chain ++ parked)) (from_links (chain2 ++ parked2))
-merges chain parked chain2 parked2 f g k n =
-    record {
-      agree = fits_agree (chain ++ parked) (chain2 ++ parked2) k.mine.ids k.agree;
-      few = omega (arith, n, len_join (chain ++ parked) (chain2 ++ parked2) k.mine.prevs k.theirs.prevs);
-    }
+  pub too_many : max_links < length ls + length (new_links ls ys)
+      → Agree (from_links ls) (from_links ys) × (max_links < len (join (from_links ls) (from_links ys)))
+  too_many n = (fits_agree ls ys mine.ids agree, omega (arith, n, len_join ls ys mine.prevs theirs.prevs))
 
-pub too_many : (chain parked chain2 parked2 : List Link) (f g : FoldedValue) → AreMergeable chain parked chain2 parked2 f g
-    → max_links < length (chain ++ parked) + length (new_links (chain ++ parked) (chain2 ++ parked2))
-    → Agree (from_links (chain ++ parked)) (from_links (chain2 ++ parked2))
-    × (max_links < len (join (from_links (chain ++ parked)) (from_links (chain2 ++ parked2))))
-too_many chain parked chain2 parked2 f g k n = (
-  fits_agree (chain ++ parked) (chain2 ++ parked2) k.mine.ids k.agree,
-  omega (arith, n, len_join (chain ++ parked) (chain2 ++ parked2) k.mine.prevs k.theirs.prevs),
-)
+  -- where a link is new, the union has more
+  pub join_grows : 0 < length (new_links ls ys) → len (from_links ls) < len (join (from_links ls) (from_links ys))
+  join_grows n = omega (arith, n, len-from_links ls mine.prevs, len_join ls ys mine.prevs theirs.prevs)
 
--- where no link is new, the union is what is held
-pub join_nothing : (chain parked chain2 parked2 : List Link)
-    → length (new_links (chain ++ parked) (chain2 ++ parked2)) ≡ 0
-    → from_links (chain ++ parked) ≡ join (from_links (chain ++ parked)) (from_links (chain2 ++ parked2))
-join_nothing chain parked chain2 parked2 n =
-    let ls = chain ++ parked in
-    let ys = chain2 ++ parked2 in
-    ap from_links (sym (append-nil ls) ∙ ap (λ (x : List Link). ls ++ x) (sym (nil_from_length (new_links ls ys) n)))
-    ∙ links_new ls ys ∙ sym (join_lists ls ys)
+  apart_union : AreJoinable (from_links ls) (from_links ys) → AreApart (ls ++ new_links ls ys)
+  apart_union j =
+      record {
+        prevs = count_union (λ l. l.prev) ls ys mine.prevs theirs.prevs (new_by_prev ls ys);
+        ids = count_union (λ l. l.id) ls ys mine.ids theirs.ids (new_by_id ls ys agree);
+        few = omega (arith, j.few, len_join ls ys mine.prevs theirs.prevs, length-append ls (new_links ls ys));
+      }
 
--- and where one is, the union has more
-pub join_grows : (chain parked chain2 parked2 : List Link) (f g : FoldedValue)
-    → AreMergeable chain parked chain2 parked2 f g → 0 < length (new_links (chain ++ parked) (chain2 ++ parked2))
-    → len (from_links (chain ++ parked)) < len (join (from_links (chain ++ parked)) (from_links (chain2 ++ parked2)))
-join_grows chain parked chain2 parked2 f g k n = omega (arith, n, len-from_links (chain ++ parked) k.mine.prevs, len_join (chain ++ parked) (chain2 ++ parked2) k.mine.prevs k.theirs.prevs)
+-- ---- a store that was merged
 
--- a fact of two maps, seen as two stores
-pub on_views : (P : FinMap nat_cmp Link → FinMap nat_cmp Link → Type 0) (a b x y : Stored) → a ≡ x → b ≡ y
-    → P a.links b.links → P x.links y.links
-on_views P a b x y e f h = subst (λ (v : Stored). P x.links v.links) f (subst (λ (v : Stored). P v.links b.links) e h)
+module _ (chain parked chain2 parked2 : List Link) (f g : FoldedValue) (k : IsKept chain parked f) (h : IsKept chain2 parked2 g) where
+  abbrev Added : Result (Unit {0}) MergeError → List Link
+  Added r = parked_with chain parked (chain2 ++ parked2) r
+
+  abbrev Merges : Result (Unit {0}) MergeError → Type 0
+  Merges r = MergesAs (from_links (chain ++ parked)) (from_links (chain2 ++ parked2)) r
+
+  pub kept_merged : (r : Result (Unit {0}) MergeError) → tables_in f ≡ tables_in g
+      → Merges r → OnOk r (AllOf (FitsIn (chain ++ parked)) (chain2 ++ parked2)) → IsKept chain (Added r) f
+  kept_merged (Ok u) same j agree =
+      let ls = chain ++ parked in
+      let ys = chain2 ++ parked2 in
+      let added = new_links ls ys in
+      let tables = tables_in f in
+      let a = append_assoc chain parked added in
+      let changes = subst (λ (t : List Table). AllOf (IsOfTables t) ys) (sym same) h.changes in
+      record {
+        apart = subst AreApart a (apart_union ls ys k.apart h.apart agree j);
+        sound = subst (AllOf IsSound) a (AllOf-append IsSound ls added k.sound (AllOf-new IsSound ls ys h.sound));
+        changes = subst (AllOf (IsOfTables tables)) a (AllOf-append (IsOfTables tables) ls added k.changes (AllOf-new (IsOfTables tables) ls ys changes));
+        joined = k.joined;
+        folded = k.folded;
+      }
+  kept_merged (Err e) same merges agree = k
+
+  pub store_merged : (r : Result (Unit {0}) MergeError)
+      → stored_of chain (Added r) f ≡ after_merge (stored_of chain parked f) (stored_of chain2 parked2 g) r
+  store_merged (Ok u) =
+      ap (λ m. record { schema = f.database.schema; links = m; folded = chain }) (join_new chain parked (chain2 ++ parked2))
+  store_merged (Err e) = refl

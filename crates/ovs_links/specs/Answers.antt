@@ -46,12 +46,6 @@ TakesAs m l (Err (Fork link by p i)) = (link ≡ l) × Refutes m l by p i
 TakesAs m l (Err (Full link)) = (link ≡ l) × NonePrev m l × NoneId m l × (len m ≡ max_links)
 TakesAs m l (Err (NoMemory link)) = (link ≡ l) × NonePrev m l × NoneId m l × (len m < max_links)
 
--- what taking a link leaves
-abbrev pub TakesTo : Stored → Link → Result Took TakeError → Stored → Type 0
-TakesTo s l (Ok New) t = t ≡ record { schema = s.schema; links = insert s.links l.prev l; folded = s.folded }
-TakesTo s l (Ok Held) t = t ≡ s
-TakesTo s l (Err e) t = t ≡ s
-
 -- what appending a link answers, where no held link has its prev: held links can contradict it by id alone
 abbrev pub AppendsAs : FinMap nat_cmp Link → Link → Result (Unit {0}) TakeError → Type 0
 AppendsAs m l (Ok u) = TakesAs m l (Ok New)
@@ -60,11 +54,10 @@ AppendsAs m l (Err (Fork link Id p i)) = TakesAs m l (Err (Fork link Id p i))
 AppendsAs m l (Err (Full link)) = TakesAs m l (Err (Full link))
 AppendsAs m l (Err (NoMemory link)) = TakesAs m l (Err (NoMemory link))
 
--- what appending a link leaves: the link is held, and is the last that is folded
-abbrev pub AppendsTo : Stored → Link → Result (Unit {0}) TakeError → Stored → Type 0
-AppendsTo s l (Ok u) t =
-    t ≡ record { schema = s.schema; links = insert s.links l.prev l; folded = s.folded ++ l ∷ [] }
-AppendsTo s l (Err e) t = t ≡ s
+-- the store after appending a link is answered so: the link is held, and is the last that is folded
+abbrev pub after_append : Stored → Link → Result (Unit {0}) TakeError → Stored
+after_append s l (Ok u) = record { schema = s.schema; links = insert s.links l.prev l; folded = s.folded ++ l ∷ [] }
+after_append s l (Err e) = s
 
 abbrev pub IsFork : {T : Type 0} → Result T TakeError → Type 0
 IsFork (Ok t) = ⊥
@@ -81,8 +74,9 @@ IsSourceChain tables S ls =
     × (ls ≡ take (length ls) (links_of tables 0 no_rows h))
     × (rows_after tables no_rows ls ≡ rows_at no_rows h (length ls))
 
--- a link of the same history as all links of the set
-abbrev pub IsOfSource : List Table → (Link → Type 0) → Link → Type 0
-IsOfSource tables S l =
+-- all links of both sets come from one history
+abbrev pub AreOfOneSource : List Table → (Link → Type 0) → (Link → Type 0) → Type 0
+AreOfOneSource tables S T =
     (h : List Commit) × IsHistory tables no_rows h
-    × ((m : Link) → S m → Among (links_of tables 0 no_rows h) m) × Among (links_of tables 0 no_rows h) l
+    × ((l : Link) → S l → Among (links_of tables 0 no_rows h) l)
+    × ((l : Link) → T l → Among (links_of tables 0 no_rows h) l)

@@ -6,7 +6,7 @@ use Rattle.ovs_rows.specs.Row.{no_rows}
 use Rattle.ovs_links.specs.Link.{AreEnds}
 use Rattle.ovs_links.specs.Sets.{AllOf, IsOfTables}
 use Rattle.ovs_links.specs.Chains.{JoinUp}
-use Rattle.ovs_links.specs.Steps.{FoldedValue, folded_of}
+use Rattle.ovs_links.specs.Steps.{FoldedValue, folded_of, tables_in}
 use Rattle.ovs_links.specs.Store.{Stored, max_links}
 use Rattle.ovs_links.specs.declared.link.Link.{Link}
 
@@ -31,12 +31,16 @@ count_key f p (l ∷ ls) = (if f l == p then 1 else 0) + count_key f p ls
 abbrev pub stored_of : List Link → List Link → FoldedValue → Stored
 stored_of chain parked f = record { schema = f.database.schema; links = from_links (chain ++ parked); folded = chain }
 
--- no two share prev or id, all are of the tables, and the chain is folded
+-- no two share prev or id, and they are no more than a store takes
+pub record AreApart (ls : List Link) : Type 0 where
+  pub prevs : (p : ℕ) → count_key (λ l. l.prev) p ls ≤ 1
+  pub ids : (i : ℕ) → count_key (λ l. l.id) i ls ≤ 1
+  pub few : length ls ≤ max_links
+
+-- they are apart, all are links of the tables, and the chain is folded
 pub record IsKept (chain parked : List Link) (f : FoldedValue) : Type 0 where
-  pub prevs : (p : ℕ) → count_key (λ l. l.prev) p (chain ++ parked) ≤ 1
-  pub ids : (i : ℕ) → count_key (λ l. l.id) i (chain ++ parked) ≤ 1
+  pub apart : AreApart (chain ++ parked)
   pub sound : AllOf IsSound (chain ++ parked)
-  pub changes : AllOf (IsOfTables f.database.schema.description.tables) (chain ++ parked)
-  pub joined : JoinUp f.database.schema.description.tables 0 no_rows chain
+  pub changes : AllOf (IsOfTables (tables_in f)) (chain ++ parked)
+  pub joined : JoinUp (tables_in f) 0 no_rows chain
   pub folded : f ≡ folded_of f.database.schema chain
-  pub few : length (chain ++ parked) ≤ max_links

@@ -3,11 +3,16 @@ pub mod Sets
 pub mod Chains
 pub mod History
 pub mod Steps
+pub mod StepChains
 pub mod Store
 pub mod Kept
 pub mod Beside
 pub mod Answers
 pub mod Join
 pub mod MergeLists
+pub mod Parked
 pub mod Merging
 pub mod Runs
+pub mod Same
+pub mod Outcomes
+pub mod Settling

@@ -1,27 +1,20 @@
 -- The links of one list beside those of another.
-use Rattle.std.specs.Prelude.{◌≡◌, ◌≤◌, ◌⊎◌, ℕ, List, Option, Some, None, is_none, filter}
+use Rattle.std.specs.Prelude.{◌≡◌, ◌≤◌, ◌⊎◌, List, Option, Some, None, is_none, filter}
 use Rattle.ovs_links.specs.Sets.{Among, AllOf}
 use Rattle.ovs_links.specs.Kept.{find_prev}
-use Rattle.ovs_links.specs.Beside.{HasBeside}
+use Rattle.ovs_links.specs.Beside.{IsOther, HasBeside}
 use Rattle.ovs_links.specs.declared.link.Link.{Link}
 use Rattle.ovs_links.specs.declared.scan.Beside.TheVariants as beside
-use Rattle.ovs_links.specs.declared.answer.By.{By}
-use Rattle.ovs_links.specs.declared.answer.By.TheVariants.{Prev, Id}
 use Rattle.ovs_links.specs.declared.merging.Contradiction.{Contradiction}
 
 -- the list has this very link, or none that shares its prev or id
 abbrev pub FitsIn : List Link → Link → Type 0
 FitsIn ls y = HasBeside ls y beside.Same ⊎ HasBeside ls y beside.Nothing
 
--- the list has another with these ids, by prev before id
-abbrev pub Meets : List Link → Link → By → ℕ → ℕ → Type 0
-Meets ls y Prev p i = HasBeside ls y (beside.Prev p i)
-Meets ls y Id p i = HasBeside ls y (beside.Id p i)
-
 -- what of the list a link contradicts
 abbrev pub HasFork : List Link → Link → Option Contradiction → Type 0
 HasFork ls y None = FitsIn ls y
-HasFork ls y (Some f) = (y.id ≡ f.id) × Meets ls y f.by f.held_prev f.held_id
+HasFork ls y (Some f) = (y.id ≡ f.id) × IsOther f.by ls y f.held_prev f.held_id
 
 -- no link of the second list contradicts one of the first; or one does, and this is what the one with the least id does
 abbrev pub HasLeast : List Link → List Link → Option Contradiction → Type 0

@@ -35,9 +35,9 @@ rows_of s = rows_after (tables_of s) no_rows s.folded
 abbrev pub IsChainOf : Stored → List Link → Type 0
 IsChainOf s ls = IsLongestChain (tables_of s) 0 no_rows (Holds s.links) ls
 
--- the folded link with this number, counted from 1
-abbrev pub link_at : List Link → ℕ → Option Link
-link_at ls n = if n == 0 then None else slice_get ls (n - 1)
+-- the one with this number, counted from 1
+abbrev pub at_number : {A : Type 0} → List A → ℕ → Option A
+at_number xs n = if n == 0 then None else slice_get xs (n - 1)
 
 -- what is so of every store
 pub record IsStore (s : Stored) : Type 0 where

@@ -1,16 +1,33 @@
 //! A database with the steps that led to it.
 
-ghost use Rattle.std.specs.Prelude.{◌≡◌, [], true, IfOk, OnOk, OnErr};
+ghost use Rattle.std.specs.Prelude.{◌≡◌, ◌<◌, ◌==◌, ℕ, [], true, length, find, slice_index_or, Some, None, IfOk, OnOk, OnErr, IfSome, MatchOption};
+ghost use Rattle.std.specs.Option.{option_copied};
 ghost use Rattle.ovs_rows.specs.After.{fits};
 ghost use Rattle.ovs_links.specs.Sets.{IsOfTables};
-ghost use Rattle.ovs_links.specs.Steps.{folded_of, folded_with};
+ghost use Rattle.ovs_links.specs.Store.{at_number};
+ghost use Rattle.ovs_links.specs.Steps.{folded_of, folded_with, tables_in};
+ghost use Rattle.ovs_links.specs.StepChains.{IsFoldedChain, IsStepAt, ExtendsShown};
+ghost use Rattle.ovs_links.specs.declared.step.Step.{Step};
 
 use crate::link::Link;
 use crate::step::Step;
 use ovs_rows::Database;
-use ovs_types::{NoMemory, Schema};
+use ovs_types::{NoMemory, Schema, TxnId};
 use std::alloc::Global;
 use std::marker::Model;
+
+// The place of the first step with this id.
+fn place_of_step(steps: &[Step], id: TxnId) -> Option<usize>
+    ensures found { MatchOption result (find (λ (s : Step). s.id == id) steps.now ≡ None)
+        (λ k. (k < length steps.now) × ((d : Step) → (slice_index_or steps.now k d).id ≡ id)) }
+{
+    for (k, step) in steps.iter().enumerate() {
+        if step.id == id {
+            return Some(k);
+        }
+    }
+    None
+}
 
 /// A database, and one step for each link that was folded into it.
 #[derive(Drop)]
@@ -62,10 +79,42 @@ impl Folded {
         &self.steps
     }
 
+    /// How many steps there are.
+    pub fn chain_len(&self) -> usize
+        ensures value { result ≡ length self.now.steps }
+    {
+        self.steps.len()
+    }
+
+    /// The step with this number, counted from 1. `None` for 0 and past the last. On a chain it leads from the head
+    /// and the rows after the steps before it.
+    pub fn step(&self, n: usize) -> Option<&Step>
+        ensures value { option_copied result ≡ at_number self.now.steps n }
+        ensures leads { IsFoldedChain self.now → IfSome (option_copied result) (IsStepAt self.now n) }
+    {
+        if n == 0 {
+            return None;
+        }
+        self.steps.get(n - 1)
+    }
+
+    /// How many steps there are up to this id: 0 for the id 0, k for the id of the k-th step, else none. On a chain
+    /// each id stands at one place.
+    pub fn position_of(&self, id: TxnId) -> Option<usize>
+        ensures place { MatchOption result ((k : ℕ) → ¬ (ExtendsShown self.now k id)) (λ k. ExtendsShown self.now k id) }
+        ensures only { IsFoldedChain self.now → (k : ℕ) → ExtendsShown self.now k id → result ≡ Some k }
+    {
+        if id == TxnId::zero() {
+            return Some(0);
+        }
+        let k = place_of_step(self.steps.as_slice(), id)?;
+        Some(k + 1)
+    }
+
     /// Applies the change of a link, and adds its step. An `Err` changes nothing.
     pub(crate) fn fold(&mut self, alloc: Global, link: &Link) -> Result<(), NoMemory>
         requires fits { fits self.old.database.rows link.now.change ≡ true }
-        requires of_tables { IsOfTables self.old.database.schema.description.tables link.now }
+        requires of_tables { IsOfTables (tables_in self.old) link.now }
         ensures value { OnOk result (self.new ≡ folded_with self.old link.now) }
         ensures unchanged { OnErr result (self.new ≡ self.old) }
     {
@@ -80,9 +129,7 @@ impl Folded {
             id: link.id(),
             applied,
         };
-        match self.steps.push(step) {
-            Ok(()) => Ok(()),
-            Err(_) => unreachable!(),
-        }
+        self.steps.push_reserved(step);
+        Ok(())
     }
 }

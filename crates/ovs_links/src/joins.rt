@@ -1,11 +1,11 @@
 //! Laws of the union of two sets of links. Each is the contract of a function with nothing to do.
 
-ghost use Rattle.std.specs.Prelude.{◌≡◌, ◌≤◌, ◌⊎◌, ◌↔◌};
+ghost use Rattle.std.specs.Prelude.{◌≡◌, ◌≤◌, ◌↔◌};
 ghost use Rattle.std.specs.FinMap as map;
 ghost use Rattle.std.specs.Ordering.{nat_cmp};
-ghost use Rattle.ovs_links.specs.Sets.{Holds, IsLinkSet};
+ghost use Rattle.ovs_links.specs.Sets.{IsLinkSet};
 ghost use Rattle.ovs_links.specs.Store.{max_links};
-ghost use Rattle.ovs_links.specs.Join.{Agree, AreJoinable, join};
+ghost use Rattle.ovs_links.specs.Join.{Agree, AreJoinable, IsUnionOf, join};
 ghost use Rattle.ovs_links.specs.declared.link.Link.{Link};
 
 /// The union of two sets is the same in either order. So are the causes that there is none: whether the two agree,
@@ -34,11 +34,14 @@ pub fn join_associates()
     ensures same { (s t u : map.FinMap nat_cmp Link) → join (join s t) u ≡ join s (join t u) }
 {}
 
-/// The union of two sets that agree is the set of the links of both, and no other set is.
+/// The union of two sets that agree is the set of the links of both, and no other set is. There is one only where no
+/// link of the one contradicts one of the other; and one that a store takes, only where they are few enough together.
 pub fn join_is_union()
-    ensures members { (s t : map.FinMap nat_cmp Link) → IsLinkSet s → Agree s t
-        → (l : Link) → (Holds (join s t) l ↔ (Holds s l ⊎ Holds t l)) }
+    ensures members { (s t : map.FinMap nat_cmp Link) → IsLinkSet s → Agree s t → IsUnionOf s t (join s t) }
     ensures set { (s t : map.FinMap nat_cmp Link) → IsLinkSet s → IsLinkSet t → Agree s t → IsLinkSet (join s t) }
     ensures only { (s t u : map.FinMap nat_cmp Link) → IsLinkSet s → IsLinkSet t → IsLinkSet u
-        → ((l : Link) → (Holds u l ↔ (Holds s l ⊎ Holds t l))) → u ≡ join s t }
+        → IsUnionOf s t u → u ≡ join s t }
+    ensures agree { (s t u : map.FinMap nat_cmp Link) → IsLinkSet u → IsUnionOf s t u → Agree s t }
+    ensures joinable { (s t u : map.FinMap nat_cmp Link) → IsLinkSet s → IsLinkSet t → IsLinkSet u
+        → IsUnionOf s t u → map.len u ≤ max_links → AreJoinable s t }
 {}

@@ -6,7 +6,8 @@ ghost use Rattle.std.specs.Ordering.{nat_cmp};
 ghost use Rattle.ovs_types.specs.declared.schema.Table.{Table};
 ghost use Rattle.ovs_rows.specs.Row.{Rows};
 ghost use Rattle.ovs_links.specs.Link.{IsStart, AreEnds};
-ghost use Rattle.ovs_links.specs.Sets.{Holds, Among, AllOf, IsConsistent, IsLinkSet, IsOfTables};
+ghost use Rattle.ovs_links.specs.Sets.{Holds, Among, AllOf, Contradict, IsConsistent, IsLinkSet, IsOfTables};
+ghost use Rattle.ovs_links.specs.Join.{Agree};
 ghost use Rattle.ovs_links.specs.Chains.{IsLongestChain, JoinUp, rows_after};
 ghost use Rattle.ovs_links.specs.History.{Commit, IsHistory, links_of, rows_at};
 ghost use Rattle.ovs_links.specs.declared.link.Link.{Link};
@@ -26,6 +27,17 @@ pub fn longest_chain_exists()
     ensures exists { (tables : List Table) (start : ℕ) (opening : Rows) (s : map.FinMap nat_cmp Link)
         → IsStart start → IsLinkSet s → ((l : Link) → Holds s l → AreEnds l.prev l.id)
         → (ls : List Link) × IsLongestChain tables start opening (Holds s) ls }
+{}
+
+/// A set of links is consistent exactly where no two of it contradict each other, and two sets agree exactly where no
+/// link of the one contradicts one of the other.
+pub fn consistent_sets_have_no_contradiction()
+    ensures held { (s : map.FinMap nat_cmp Link) → IsConsistent (Holds s)
+        ↔ ((l m : Link) → Holds s l → Holds s m → ¬ (Contradict l m)) }
+    ensures listed { (ls : List Link) → IsConsistent (Among ls)
+        ↔ ((l m : Link) → Among ls l → Among ls m → ¬ (Contradict l m)) }
+    ensures agree { (s t : map.FinMap nat_cmp Link) → Agree s t
+        ↔ ((l m : Link) → Holds s l → Holds t m → ¬ (Contradict l m)) }
 {}
 
 /// The links of a history don't contradict each other, and their changes are of its tables.

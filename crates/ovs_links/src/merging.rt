@@ -1,24 +1,28 @@
-//! What two stores that are merged have beside each other.
+//! The links of one store beside those of another, and adding them.
 
 ghost use Rattle.std.specs.Prelude.{◌≡◌, ◌≤◌, ◌+◌, ◌++◌, ◌∷◌, [], List, OnOk, OnErr, is_none, length, take, vec_len};
 ghost use Rattle.ovs_links.specs.Chains.{IsPrefixOf};
 ghost use Rattle.ovs_links.specs.Store.{max_links};
-ghost use Rattle.ovs_links.specs.Kept.{find_prev};
-ghost use Rattle.ovs_links.specs.MergeLists.{HasFork, HasLeast, new_links};
+ghost use Rattle.ovs_links.specs.Sets.{AllOf};
+ghost use Rattle.ovs_links.specs.Kept.{AreApart, find_prev, from_links};
+ghost use Rattle.ovs_links.specs.MergeLists.{FitsIn, HasFork, HasLeast, new_links};
+ghost use Rattle.ovs_links.specs.Merging.{MergesAs};
+ghost use Rattle.ovs_links.specs.Parked.{parked_with};
 ghost use Rattle.ovs_links.specs.declared.link.Link.{Link};
 
-use crate::answer::By;
+use crate::answer::{By, MergeError};
 use crate::link::Link;
-use crate::scan::{Beside, beside_link, place_of_prev};
+use crate::scan::{Beside, beside_link, with_prev};
+use crate::store::MAX_LINKS;
 use ovs_types::{NoMemory, TxnId};
 
 /// A link that contradicts a held one: its id, what the two share, and the held one's ids.
 #[derive(Clone, Copy)]
-pub(crate) struct Contradiction {
-    pub(crate) id: TxnId,
-    pub(crate) by: By,
-    pub(crate) held_prev: TxnId,
-    pub(crate) held_id: TxnId,
+struct Contradiction {
+    id: TxnId,
+    by: By,
+    held_prev: TxnId,
+    held_id: TxnId,
 }
 
 /// The held link that a link contradicts.
@@ -27,15 +31,9 @@ fn contradiction_of(chain: &[Link], parked: &[Link], link: &Link) -> Option<Cont
 {
     match beside_link(chain, parked, link) {
         Beside::Nothing | Beside::Same => None,
-        Beside::Prev { prev, id } => Some(Contradiction {
+        Beside::Other { by, prev, id } => Some(Contradiction {
             id: link.id(),
-            by: By::Prev,
-            held_prev: prev,
-            held_id: id,
-        }),
-        Beside::Id { prev, id } => Some(Contradiction {
-            id: link.id(),
-            by: By::Id,
+            by,
             held_prev: prev,
             held_id: id,
         }),
@@ -83,7 +81,7 @@ fn least_after(
 }
 
 /// The link with the least id of two lists that contradicts one of two others.
-pub(crate) fn least_contradiction(
+fn least_contradiction(
     chain: &[Link],
     parked: &[Link],
     other_chain: &[Link],
@@ -99,10 +97,7 @@ pub(crate) fn least_contradiction(
 fn is_new(chain: &[Link], parked: &[Link], prev: TxnId) -> bool
     ensures value { result ≡ is_none (find_prev prev (chain.now ++ parked.now)) }
 {
-    match place_of_prev(chain, prev) {
-        Some(_) => false,
-        None => place_of_prev(parked, prev).is_none(),
-    }
+    with_prev(chain, parked, prev).is_none()
 }
 
 fn count_new_of(chain: &[Link], parked: &[Link], links: &[Link]) -> usize
@@ -119,12 +114,7 @@ fn count_new_of(chain: &[Link], parked: &[Link], links: &[Link]) -> usize
 }
 
 /// How many links of two lists have a prev that none of two others has.
-pub(crate) fn count_new(
-    chain: &[Link],
-    parked: &[Link],
-    other_chain: &[Link],
-    other_parked: &[Link],
-) -> usize
+fn count_new(chain: &[Link], parked: &[Link], other_chain: &[Link], other_parked: &[Link]) -> usize
     requires few { length other_chain.now + length other_parked.now ≤ max_links }
     ensures value { result
         ≡ length (new_links (chain.now ++ parked.now) (other_chain.now ++ other_parked.now)) }
@@ -191,7 +181,7 @@ fn copy_lists(
 
 /// Copies the links of two lists whose prev isn't held, which are this many, to the end of the parked ones. After
 /// `NoMemory` these are as they were.
-pub(crate) fn add_new(
+fn add_new(
     chain: &[Link],
     parked: &mut Vec<Link>,
     other_chain: &[Link],
@@ -212,5 +202,40 @@ pub(crate) fn add_new(
             parked.truncate(before);
             Err(NoMemory)
         }
+    }
+}
+
+/// Parks copies of all links of two lists that aren't held, unless one of them contradicts a held one or they are too
+/// many.
+pub(crate) fn merge_into(
+    chain: &[Link],
+    parked: &mut Vec<Link>,
+    other_chain: &[Link],
+    other_parked: &[Link],
+) -> Result<(), MergeError>
+    requires mine { AreApart (chain.now ++ parked.old.items) }
+    requires theirs { AreApart (other_chain.now ++ other_parked.now) }
+    ensures answer { MergesAs (from_links (chain.now ++ parked.old.items)) (from_links (other_chain.now ++ other_parked.now)) result }
+    ensures parked { parked.new.items
+        ≡ parked_with chain.now parked.old.items (other_chain.now ++ other_parked.now) result }
+    ensures agree { OnOk result (AllOf (FitsIn (chain.now ++ parked.old.items)) (other_chain.now ++ other_parked.now)) }
+{
+    if let Some(found) = least_contradiction(chain, parked, other_chain, other_parked) {
+        return Err(MergeError::Fork {
+            by: found.by,
+            held_prev: found.held_prev,
+            held_id: found.held_id,
+        });
+    }
+    let more = count_new(chain, parked, other_chain, other_parked);
+    if chain.len() + parked.len() + more > MAX_LINKS {
+        return Err(MergeError::Full);
+    }
+    if more == 0 {
+        return Ok(());
+    }
+    match add_new(chain, parked, other_chain, other_parked, more) {
+        Ok(()) => Ok(()),
+        Err(NoMemory) => Err(MergeError::NoMemory),
     }
 }

@@ -1,23 +1,27 @@
 //! A store of links with their longest chain.
 
-ghost use Rattle.std.specs.Prelude.{◌≡◌, ◌≤◌, ◌+◌, ◌↔◌, [], List, IsTrue, IfOk, IfSome, OnOk, OnErr, Some, length, take, true};
+ghost use Rattle.std.specs.Prelude.{◌≡◌, ◌≤◌, ◌+◌, ◌↔◌, [], ◌∷◌, IsTrue, IfOk, IfSome, OnOk, OnErr, Some, length, take, true};
 ghost use Rattle.std.specs.FinMap as map;
 ghost use Rattle.std.specs.Option.{option_copied};
 ghost use Rattle.ovs_rows.specs.After.{fits};
-ghost use Rattle.ovs_links.specs.Sets.{Holds, IsOfTables};
-ghost use Rattle.ovs_links.specs.Chains.{IsPrefixOf, head_after};
+ghost use Rattle.ovs_links.specs.Sets.{Holds, Among, IsOfTables};
+ghost use Rattle.ovs_links.specs.Chains.{head_after};
 ghost use Rattle.ovs_links.specs.Steps.{folded_of};
-ghost use Rattle.ovs_links.specs.Store.{Stored, IsStore, IsChainOf, tables_of, head_of, rows_of, link_at, max_links};
-ghost use Rattle.ovs_links.specs.Answers.{SettlesAs, TakesAs, TakesTo, AppendsAs, AppendsTo, IsSourceChain, IsOfSource, IsFork};
-ghost use Rattle.ovs_links.specs.Merging.{MergesAs, MergesTo, AreOfOneSource, IsMergeFork};
+ghost use Rattle.ovs_links.specs.StepChains.{IsFoldedChain};
+ghost use Rattle.ovs_links.specs.Store.{Stored, IsStore, IsChainOf, tables_of, head_of, rows_of, at_number, max_links};
+ghost use Rattle.ovs_links.specs.Answers.{SettlesAs, TakesAs, AppendsAs, after_append, AreOfOneSource, IsFork};
+ghost use Rattle.ovs_links.specs.Merging.{MergesAs, IsMergeFork};
+ghost use Rattle.ovs_links.specs.Outcomes.{take_answer, TellsTaking, after_take, merge_answer, TellsMerging, after_merge};
+ghost use Rattle.ovs_links.specs.Settling.{KeepsLinks, IsWholeChain, chain_of, settled_of, after_settle};
 ghost use Rattle.ovs_links.specs.declared.link.Link.{Link};
 
 use crate::answer::{By, MergeError, Settled, TakeError, Took};
 use crate::folded::Folded;
 use crate::link::Link;
-use crate::merging::{add_new, count_new, least_contradiction};
-use crate::scan::{Beside, beside_id, beside_link, place_of_id};
+use crate::merging::merge_into;
+use crate::scan::{Beside, beside_link, head_of, with_id};
 use crate::settling::{fold_next, settle_lists};
+use crate::taking::take_into;
 use ovs_rows::Database;
 use ovs_types::{NoMemory, Schema, TxnId};
 use std::alloc::Global;
@@ -35,7 +39,6 @@ pub struct LinkStore {
     chain: Vec<Link>,
     parked: Vec<Link>,
     folded: Folded,
-    head: TxnId,
 }
 
 impl Model for LinkStore {
@@ -47,7 +50,6 @@ impl Model for LinkStore {
     ghost use Rattle.ovs_types.specs.contracts.schema.Schema as schema_row;
     ghost use Rattle.ovs_links.specs.contracts.link.Link as link_row;
     ghost use Rattle.ovs_links.specs.declared.link.Link.{Link};
-    ghost use Rattle.ovs_links.specs.Chains.{head_after};
     ghost use Rattle.ovs_links.specs.Store.{Stored};
     ghost use Rattle.ovs_links.specs.Kept.{IsKept, stored_of};
 
@@ -61,8 +63,7 @@ impl Model for LinkStore {
 
     ghost view = { λ s. stored_of s.chain.items s.parked.items s.folded };
 
-    ghost invariant = { λ s.
-        IsKept s.chain.items s.parked.items s.folded × (s.head ≡ head_after 0 s.chain.items) };
+    ghost invariant = { λ s. IsKept s.chain.items s.parked.items s.folded };
 }
 
 impl LinkStore {
@@ -74,7 +75,6 @@ impl LinkStore {
             chain: Vec::new(alloc),
             parked: Vec::new(alloc),
             folded: Folded::new(alloc, schema)?,
-            head: TxnId::zero(),
         })
     }
 
@@ -85,38 +85,14 @@ impl LinkStore {
     pub fn take(&mut self, link: Link) -> Result<Took, TakeError>
         requires of_tables { IsOfTables (tables_of self.old) link }
         ensures answer { TakesAs self.old.links link result }
-        ensures after { TakesTo self.old link result self.new }
+        ensures exact { TellsTaking (take_answer self.old.links link) link result }
+        ensures after { self.new ≡ after_take self.old link result }
+        ensures store { IsStore self.new }
 
         // Links of one history are never refused as contradictions.
-        ensures source { IsOfSource (tables_of self.old) (Holds self.old.links) link → ¬ (IsFork result) }
+        ensures source { AreOfOneSource (tables_of self.old) (Holds self.old.links) (Among (link ∷ [])) → ¬ (IsFork result) }
     {
-        match beside_link(&self.chain, &self.parked, &link) {
-            Beside::Same => return Ok(Took::Held),
-            Beside::Prev { prev, id } => {
-                return Err(TakeError::Fork {
-                    link,
-                    by: By::Prev,
-                    held_prev: prev,
-                    held_id: id,
-                });
-            }
-            Beside::Id { prev, id } => {
-                return Err(TakeError::Fork {
-                    link,
-                    by: By::Id,
-                    held_prev: prev,
-                    held_id: id,
-                });
-            }
-            Beside::Nothing => {}
-        }
-        if self.len() >= MAX_LINKS {
-            return Err(TakeError::Full { link });
-        }
-        if let Err(failed) = self.parked.push(link) {
-            return Err(TakeError::NoMemory { link: failed.value });
-        }
-        Ok(Took::New)
+        take_into(&self.chain, &mut self.parked, link)
     }
 
     /// Adds a link that follows the head and fits the database, and folds it. No other link may follow the head, as
@@ -129,32 +105,26 @@ impl LinkStore {
         requires next { link.prev ≡ head_of self.old }
         requires fits { fits (rows_of self.old) link.change ≡ true }
         ensures answer { AppendsAs self.old.links link result }
-        ensures after { AppendsTo self.old link result self.new }
+        ensures after { self.new ≡ after_append self.old link result }
 
         // Links of one history are never refused as contradictions.
-        ensures source { IsOfSource (tables_of self.old) (Holds self.old.links) link → ¬ (IsFork result) }
+        ensures source { AreOfOneSource (tables_of self.old) (Holds self.old.links) (Among (link ∷ [])) → ¬ (IsFork result) }
 
         // The folded links are still the longest chain, where none that was parked follows this one.
         ensures longest { OnOk result (SettlesAs self.new Settled.Done → IsChainOf self.new self.new.folded) }
     {
-        if let Beside::Id { prev, id } = beside_id(&self.chain, &self.parked, &link) {
+        if let Some(held) = with_id(&self.chain, &self.parked, link.id()) {
             return Err(TakeError::Fork {
-                link,
                 by: By::Id,
-                held_prev: prev,
-                held_id: id,
+                held_prev: held.prev(),
+                held_id: held.id(),
+                link,
             });
         }
         if self.len() >= MAX_LINKS {
             return Err(TakeError::Full { link });
         }
-        if let Err(link) = fold_next(
-            alloc,
-            &mut self.chain,
-            &mut self.folded,
-            &mut self.head,
-            link,
-        ) {
+        if let Err(link) = fold_next(alloc, &mut self.chain, &mut self.folded, link) {
             return Err(TakeError::NoMemory { link });
         }
         Ok(())
@@ -168,65 +138,30 @@ impl LinkStore {
     pub fn merge(&mut self, other: &LinkStore) -> Result<(), MergeError>
         requires same_schema { tables_of self.old ≡ tables_of other.now }
         ensures answer { MergesAs self.old.links other.now.links result }
-        ensures after { MergesTo self.old other.now result self.new }
+        ensures exact { TellsMerging (merge_answer self.old.links other.now.links) result }
+        ensures after { self.new ≡ after_merge self.old other.now result }
+        ensures store { IsStore self.new }
 
         // Links of one history are never refused as contradictions.
         ensures source { AreOfOneSource (tables_of self.old) (Holds self.old.links) (Holds other.now.links)
             → ¬ (IsMergeFork result) }
     {
-        if let Some(found) = least_contradiction(
-            &self.chain,
-            &self.parked,
-            &other.chain,
-            &other.parked,
-        ) {
-            return Err(MergeError::Fork {
-                by: found.by,
-                held_prev: found.held_prev,
-                held_id: found.held_id,
-            });
-        }
-        let more = count_new(&self.chain, &self.parked, &other.chain, &other.parked);
-        if self.len() + more > MAX_LINKS {
-            return Err(MergeError::Full);
-        }
-        if more == 0 {
-            return Ok(());
-        }
-        let added = add_new(
-            &self.chain,
-            &mut self.parked,
-            &other.chain,
-            &other.parked,
-            more,
-        );
-        if let Err(NoMemory) = added {
-            return Err(MergeError::NoMemory);
-        }
-        Ok(())
+        merge_into(&self.chain, &mut self.parked, &other.chain, &other.parked)
     }
 
     /// Folds the longest chain. `Done` where no held link follows it, and `Stuck` where one does that doesn't fit.
     /// After `NoMemory` the links are the same, and a longer beginning of the chain may be folded.
     pub fn settle(&mut self, alloc: Global) -> Result<Settled, NoMemory>
-        ensures schema { self.new.schema ≡ self.old.schema }
-        ensures links { self.new.links ≡ self.old.links }
-        ensures prefix { IsPrefixOf self.old.folded self.new.folded }
+        ensures links { KeepsLinks self.old self.new }
         ensures settled { IfOk result (SettlesAs self.new) }
-        ensures longest { OnOk result (IsChainOf self.new self.new.folded) }
-        ensures only { OnOk result ((ls : List Link) → IsChainOf self.new ls → self.new.folded ≡ ls) }
+        ensures exact { IfOk result (λ answer. (answer ≡ settled_of self.old) × (self.new ≡ after_settle self.old)) }
+        ensures store { IsStore self.new }
 
-        // Where all links come from one history, the database is the source's after the longest unbroken chain.
-        ensures source { OnOk result (IsSourceChain (tables_of self.new) (Holds self.new.links) self.new.folded) }
+        // The chain that is folded then: no other is as long, and where all links come from one history it is the source's.
+        ensures whole { IsWholeChain self.old (chain_of self.old) }
         ensures unfinished { OnErr result (¬ (IsChainOf self.new self.new.folded)) }
     {
-        settle_lists(
-            alloc,
-            &mut self.chain,
-            &mut self.parked,
-            &mut self.folded,
-            &mut self.head,
-        )
+        settle_lists(alloc, &mut self.chain, &mut self.parked, &mut self.folded)
     }
 
     /// The last folded id, or 0.
@@ -234,7 +169,7 @@ impl LinkStore {
         ensures value { result ≡ head_of self.now }
         ensures store { IsStore self.now }
     {
-        self.head
+        head_of(&self.chain)
     }
 
     /// How many links are held.
@@ -281,17 +216,12 @@ impl LinkStore {
         ensures only { (k : _) → k ≤ length self.now.folded
             → head_after 0 (take k self.now.folded) ≡ id → result ≡ Some k }
     {
-        let chain = self.chain.as_slice();
-        if id == TxnId::zero() {
-            return Some(0);
-        }
-        let k = place_of_id(chain, id)?;
-        Some(k + 1)
+        self.folded.position_of(id)
     }
 
     /// The folded link with this number, counted from 1. `None` for 0 and past the last.
     pub fn link_at(&self, n: usize) -> Option<&Link>
-        ensures value { option_copied result ≡ link_at self.now.folded n }
+        ensures value { option_copied result ≡ at_number self.now.folded n }
     {
         if n == 0 {
             return None;
@@ -309,6 +239,7 @@ impl LinkStore {
     /// The database after the folded links, with one step for each of them.
     pub fn folded(&self) -> &Folded
         ensures value { result.now ≡ folded_of self.now.schema self.now.folded }
+        ensures chain { IsFoldedChain result.now }
     {
         &self.folded
     }

@@ -1,11 +1,23 @@
-use Rattle.ovs_links.proofs.BesideLemmas.{prevs_left, prevs_right, ids_beside}
+use Rattle.std.proofs.Common.{sym, ◌∙◌, ap, ℕ, ◌++◌, true≢false}
+use Rattle.ovs_links.specs.Kept.{find_prev, find_id}
+use Rattle.ovs_links.specs.declared.link.Link.{Link}
 use Rattle.ovs_links.proofs.scan.beside_link.Goals as goal
 
-pub returns-in_default-clause-found : goal.returns-in_default-clause-found
-returns-in_default-clause-found c = prevs_left c.args.chain.now c.args.parked.now c.args.link.now c.beside_by_prev.result c.beside_by_prev.ensures.found c.in_default.not-Nothing
+pub returns-in-Some-clause-found : goal.returns-in-Some-clause-found
+returns-in-Some-clause-found c =
+    let ls = c.args.chain.now ++ c.args.parked.now in
+    let held : Link = c.in-Some.held.now in (
+      held,
+      ap (λ (p : ℕ). find_prev p ls) (sym c.prev.ensures.value) ∙ sym c.in-Some.ensures.found,
+      λ e. true≢false (sym (c.if-same.ensures.value.1 e)),
+      c.prev-in-Some.ensures.value,
+      c.id.ensures.value,
+    )
 
-pub returns-in_default-beside_by_prev-clause-found : goal.returns-in_default-beside_by_prev-clause-found
-returns-in_default-beside_by_prev-clause-found c = prevs_right c.args.chain.now c.args.parked.now c.args.link.now c.beside_by_prev-2.result c.in-Nothing.ensures.found c.beside_by_prev-2.ensures.found c.in_default-beside_by_prev.not-Nothing
-
-pub returns-clause-found : goal.returns-clause-found
-returns-clause-found c = ids_beside c.args.chain.now c.args.parked.now c.args.link.now c.beside_id.result c.in-Nothing.ensures.found c.in-Nothing-beside_by_prev.ensures.found c.beside_id.ensures.found
+pub returns-in-Some-with_id-clause-found : goal.returns-in-Some-with_id-clause-found
+returns-in-Some-with_id-clause-found c =
+    let ls = c.args.chain.now ++ c.args.parked.now in
+    let held : Link = c.in-Some-with_id.held.now in (
+      ap (λ (p : ℕ). find_prev p ls) (sym c.prev.ensures.value) ∙ sym c.in_default.ensures.found,
+      (held, ap (λ (i : ℕ). find_id i ls) (sym c.id-2.ensures.value) ∙ sym c.in-Some-with_id.ensures.found, c.prev-in-Some-with_id.ensures.value, c.id-in-Some-with_id.ensures.value),
+    )

@@ -7,6 +7,6 @@ use Rattle.ovs_links.proofs.store.LinkStore.len.Goals as goal
 pub returns-clause-value : goal.returns-clause-value
 returns-clause-value c =
     let s = c.self.inside in
-    let h = len-from_links (s.chain.items ++ s.parked.items) c.self.invariant.0.prevs in
+    let h = len-from_links (s.chain.items ++ s.parked.items) c.self.invariant.apart.prevs in
     let v = ap (λ (v : Stored). len v.links) c.self.view_is in
     omega (arith, h, v, length-append s.chain.items s.parked.items)

@@ -7,7 +7,7 @@ use Rattle.ovs_links.proofs.store.LinkStore.parked.Goals as goal
 pub returns : goal.returns
 returns c =
     let s = c.self.inside in
-    let h = len-from_links (s.chain.items ++ s.parked.items) c.self.invariant.0.prevs in
+    let h = len-from_links (s.chain.items ++ s.parked.items) c.self.invariant.apart.prevs in
     let v = ap (λ (v : Stored). len v.links) c.self.view_is in
     let w = ap (λ (v : Stored). length v.folded) c.self.view_is in
     record { value = omega (arith, h, v, w, length-append s.chain.items s.parked.items) }

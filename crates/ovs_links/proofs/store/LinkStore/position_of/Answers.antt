@@ -1,49 +1,29 @@
-use Rattle.std.proofs.Common.{◌≡◌, ◌≢◌, ◌≤◌, List, [], ◌∷◌, length, take, refl, sym, ◌∙◌, ap, subst, arith, Some, true≢false, ◌+◌}
-use Rattle.std.proofs.lemmas.Bool.{eqb-true, eq-eqb}
+use Rattle.std.proofs.Common.{◌≡◌, ◌≤◌, ℕ, List, length, take, sym, ◌∙◌, subst, arith, Option, Some, None, IfSome, MatchOption}
 use Rattle.ovs_links.specs.Chains.{head_after}
+use Rattle.ovs_links.specs.Steps.{FoldedValue}
+use Rattle.ovs_links.specs.StepChains.{ExtendsShown}
 use Rattle.ovs_links.specs.Store.{Stored}
-use Rattle.ovs_links.specs.Kept.{IsSound}
+use Rattle.ovs_links.specs.Kept.{IsKept}
 use Rattle.ovs_links.specs.declared.link.Link.{Link}
-use Rattle.ovs_links.proofs.ChainLemmas.{AllOf-left}
-use Rattle.ovs_links.proofs.PositionLemmas.{head_after-found, position_once, nowhere, count_left}
+use Rattle.ovs_links.proofs.KeptLemmas.{kept_steps, kept_length, kept_head}
 use Rattle.ovs_links.proofs.store.LinkStore.position_of.Goals as goal
 
-pub returns-then-eq-clause-only : goal.returns-then-eq-clause-only
-returns-then-eq-clause-only c k le e =
-    let s = c.self.inside in
-    let kept = c.self.invariant.0 in
-    let zero_id : c.args.id ≡ 0 = eqb-true c.args.id c.zero.result (sym c.if-eq.ensures) ∙ c.zero.ensures.zero in
-    let folded : c.args.self.now.folded ≡ s.chain.items = ap (λ (v : Stored). v.folded) (sym c.self.view_is) in
-    let k_in : k ≤ length s.chain.items = subst (λ (ls : List Link). k ≤ length ls) folded le in
-    let ends : head_after 0 (take k s.chain.items) ≡ 0 = ap (λ (ls : List Link). head_after 0 (take k ls)) (sym folded) ∙ e ∙ zero_id in
-    ap Some (position_once s.chain.items 0 k (AllOf-left IsSound s.chain.items s.parked.items kept.sound) (count_left (λ l. l.id) s.chain.items s.parked.items kept.ids) (omega arith) k_in (none_taken s.chain.items ∙ sym ends))
-  where
-    none_taken : (ls : List Link) → head_after 0 (take 0 ls) ≡ 0
-    none_taken [] = refl
-    none_taken (x ∷ xs) = refl
+-- a place among the steps is one in the chain
+in_chain : (chain parked : List Link) (f : FoldedValue) (id : ℕ) (o : Option ℕ) → IsKept chain parked f
+    → MatchOption o ((k : ℕ) → ExtendsShown f k id → ⊥) (λ k. ExtendsShown f k id)
+    → IfSome o (λ k. (k ≤ length chain) × (head_after 0 (take k chain) ≡ id))
+in_chain chain parked f id None k at = tt
+in_chain chain parked f id (Some n) k at = (omega (arith, at.0, kept_length chain parked f k), sym (kept_head chain parked f n k) ∙ at.1)
 
 pub returns-clause-found : goal.returns-clause-found
 returns-clause-found c =
     let s = c.self.inside in
-    let found = rw c.as_slice-chain.ensures.value at c.in_ok-k.ensures.found in
-    subst (λ (v : Stored). (c.in_ok-k.k + 1 ≤ length v.folded) × (head_after 0 (take (c.in_ok-k.k + 1) v.folded) ≡ c.args.id)) c.self.view_is (omega (arith, found.0), head_after-found s.chain.items c.args.id c.in_ok-k.k found.0 found.1)
+    subst (λ (v : Stored). IfSome c.position_of.result (λ k. (k ≤ length v.folded) × (head_after 0 (take k v.folded) ≡ c.args.id))) c.self.view_is
+    (in_chain s.chain.items s.parked.items s.folded c.args.id c.position_of.result c.self.invariant c.position_of.ensures.place)
 
 pub returns-clause-only : goal.returns-clause-only
-returns-clause-only c k le e =
+returns-clause-only c n le e =
     let s = c.self.inside in
-    let kept = c.self.invariant.0 in
-    let found = rw c.as_slice-chain.ensures.value at c.in_ok-k.ensures.found in
-    let folded : c.args.self.now.folded ≡ s.chain.items = ap (λ (v : Stored). v.folded) (sym c.self.view_is) in
-    let k_in : k ≤ length s.chain.items = subst (λ (ls : List Link). k ≤ length ls) folded le in
-    let ends : head_after 0 (take k s.chain.items) ≡ c.args.id = ap (λ (ls : List Link). head_after 0 (take k ls)) (sym folded) ∙ e in
-    ap Some (position_once s.chain.items (c.in_ok-k.k + 1) k (AllOf-left IsSound s.chain.items s.parked.items kept.sound) (count_left (λ l. l.id) s.chain.items s.parked.items kept.ids) (omega (arith, found.0)) k_in (head_after-found s.chain.items c.args.id c.in_ok-k.k found.0 found.1 ∙ sym ends))
-
-pub returns-in_err-k-clause-only : goal.returns-in_err-k-clause-only
-returns-in_err-k-clause-only c k le e =
-    let s = c.self.inside in
-    let none = rw c.as_slice-chain.ensures.value at c.in_err-k.ensures.found in
-    let folded : c.args.self.now.folded ≡ s.chain.items = ap (λ (v : Stored). v.folded) (sym c.self.view_is) in
-    let k_in : k ≤ length s.chain.items = subst (λ (ls : List Link). k ≤ length ls) folded le in
-    let ends : head_after 0 (take k s.chain.items) ≡ c.args.id = ap (λ (ls : List Link). head_after 0 (take k ls)) (sym folded) ∙ e in
-    let past : c.args.id ≢ 0 = λ z. true≢false (sym (eq-eqb c.args.id c.zero.result (z ∙ sym c.zero.ensures.zero)) ∙ sym c.if-eq.ensures) in
-    absurd (nowhere s.chain.items c.args.id k none past k_in ends)
+    let k = c.self.invariant in
+    let at = subst (λ (v : Stored). (n ≤ length v.folded) × (head_after 0 (take n v.folded) ≡ c.args.id)) (sym c.self.view_is) (le, e) in
+    c.position_of.ensures.only (kept_steps s.chain.items s.parked.items s.folded k) n (omega (arith, at.0, kept_length s.chain.items s.parked.items s.folded k), kept_head s.chain.items s.parked.items s.folded n k ∙ at.1)

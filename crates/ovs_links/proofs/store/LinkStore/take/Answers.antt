@@ -1,110 +1,50 @@
-use Rattle.std.proofs.Common.{◌<◌, ◌++◌, List, length, refl, sym, ap, subst, arith, length-append}
-use Rattle.std.specs.FinMap.{len}
-use Rattle.ovs_links.specs.Sets.{Holds, IsOfTables}
-use Rattle.ovs_links.specs.Store.{Stored, max_links, tables_of}
-use Rattle.ovs_links.specs.Kept.{IsKept}
-use Rattle.ovs_links.specs.Answers.{NonePrev, NoneId}
+use Rattle.std.proofs.Common.{◌∙◌, sym, ap, subst, List}
+use Rattle.ovs_links.specs.Sets.{IsOfTables}
+use Rattle.ovs_links.specs.Store.{Stored, IsStore, tables_of}
+use Rattle.ovs_links.specs.Kept.{IsKept, stored_of}
+use Rattle.ovs_links.specs.Answers.{TakesAs}
+use Rattle.ovs_links.specs.Outcomes.{after_take}
 use Rattle.ovs_links.specs.declared.link.Link.{Link}
-use Rattle.ovs_links.proofs.SetLemmas.{len-from_links}
-use Rattle.ovs_links.proofs.HistoryLemmas.{no_fork}
-use Rattle.ovs_links.proofs.BesideLemmas.{held_same}
-use Rattle.ovs_links.proofs.TakeLemmas.{fork_by_prev, none_prev, fork_by_id, none_id, kept_push, links_push}
+use Rattle.ovs_links.proofs.KeptLemmas.{kept_store}
+use Rattle.ovs_links.proofs.TakeLemmas.{kept_take, store_take, take_no_fork}
+use Rattle.ovs_links.proofs.TakeOutcomes.{taking_tells}
 use Rattle.ovs_links.proofs.store.LinkStore.take.Goals as goal
 
-pub returns-in-Same-clause-answer : goal.returns-in-Same-clause-answer
-returns-in-Same-clause-answer c =
-    let s = c.self.inside in
-    let e = rw (c.deref.ensures.value, c.deref-2.ensures.value) at c.in-Same.ensures.found in
-    subst (λ (v : Stored). Holds v.links c.args.link) c.self.view_is (held_same (s.chain.items ++ s.parked.items) c.args.link e)
+pub take_into-requires : goal.take_into-requires
+take_into-requires c = record { apart = rw (c.deref.ensures.value) c.self.invariant.apart }
 
-pub returns-in-Prev-clause-answer : goal.returns-in-Prev-clause-answer
-returns-in-Prev-clause-answer c =
+pub invariant_of-self : goal.invariant_of-self
+invariant_of-self c =
     let s = c.self.inside in
-    let e = rw (c.deref.ensures.value, c.deref-2.ensures.value) at c.in-Prev.ensures.found in
-    let fork = fork_by_prev (s.chain.items ++ s.parked.items) c.args.link e.0 e.1 e.2 in
-    (refl, (e.0, subst (λ (v : Stored). Holds v.links e.0) c.self.view_is fork.0, fork.1, fork.2, e.3, e.4))
-
-pub returns-in-Id-clause-answer : goal.returns-in-Id-clause-answer
-returns-in-Id-clause-answer c =
-    let s = c.self.inside in
-    let e = rw (c.deref.ensures.value, c.deref-2.ensures.value) at c.in-Id.ensures.found in
-    let held = e.1.0 in
-    let fork = fork_by_id (s.chain.items ++ s.parked.items) c.args.link held c.self.invariant.0.prevs e.0 e.1.1 in (
-      refl,
-      (
-        subst (λ (v : Stored). NonePrev v.links c.args.link) c.self.view_is (none_prev (s.chain.items ++ s.parked.items) c.args.link e.0),
-        (held, subst (λ (v : Stored). Holds v.links held) c.self.view_is fork.0, fork.1, fork.2, e.1.2, e.1.3),
-      ),
-    )
-
-pub returns-then-len-ge-MAX_LINKS-clause-answer : goal.returns-then-len-ge-MAX_LINKS-clause-answer
-returns-then-len-ge-MAX_LINKS-clause-answer c =
-    let s = c.self.inside in
-    let ls = s.chain.items ++ s.parked.items in
-    let e = rw (c.deref.ensures.value, c.deref-2.ensures.value) at c.in-Nothing.ensures.found in
-    let few = c.self.invariant.0.few in
-    let n = len-from_links ls c.self.invariant.0.prevs in
-    let v = ap (λ (v : Stored). len v.links) c.self.view_is in (
-      refl,
-      subst (λ (v : Stored). NonePrev v.links c.args.link) c.self.view_is (none_prev ls c.args.link e.0),
-      subst (λ (v : Stored). NoneId v.links c.args.link) c.self.view_is (none_id ls c.args.link e.1),
-      omega (arith, few, n, v, length-append s.chain.items s.parked.items),
-    )
-
-pub returns-in-Err-clause-answer : goal.returns-in-Err-clause-answer
-returns-in-Err-clause-answer c =
-    let s = c.self.inside in
-    let ls = s.chain.items ++ s.parked.items in
-    let e = rw (c.deref.ensures.value, c.deref-2.ensures.value) at c.in-Nothing.ensures.found in
-    let n = len-from_links ls c.self.invariant.0.prevs in
-    let v = ap (λ (v : Stored). len v.links) c.self.view_is in (
-      c.in-Err.ensures.value_returned,
-      subst (λ (v : Stored). NonePrev v.links c.args.link) c.self.view_is (none_prev ls c.args.link e.0),
-      subst (λ (v : Stored). NoneId v.links c.args.link) c.self.view_is (none_id ls c.args.link e.1),
-      omega (arith, n, v, length-append s.chain.items s.parked.items),
-    )
-
-pub invariant_of-self-2 : goal.invariant_of-self-2
-invariant_of-self-2 c =
-    let s = c.self.inside in
-    let ls = s.chain.items ++ s.parked.items in
-    let e = rw (c.deref.ensures.value, c.deref-2.ensures.value) at c.in-Nothing.ensures.found in
-    let n = len-from_links ls c.self.invariant.0.prevs in
-    let v = ap (λ (v : Stored). len v.links) c.self.view_is in
-    let few : length ls < max_links = omega (arith, n, v) in
-    let changes = subst (λ (v : Stored). IsOfTables (tables_of v) c.args.link) (sym c.self.view_is) c.requires.of_tables in
-    let k = kept_push s.chain.items s.parked.items s.folded c.args.link c.self.invariant.0 e.0 e.1 c.beside_link.ensures.ends changes few in
-    (subst (λ (x : List Link). IsKept s.chain.items x s.folded) (sym c.in_default.ensures.items) k, c.self.invariant.1)
+    let answer = rw (c.deref.ensures.value) at c.take_into.ensures.answer in
+    let tables = subst (λ (v : Stored). IsOfTables (tables_of v) c.args.link) (sym c.self.view_is) c.requires.of_tables in
+    subst (λ (ps : List Link). IsKept s.chain.items ps s.folded) (sym c.take_into.ensures.parked)
+    (kept_take s.chain.items s.parked.items s.folded c.args.link c.self.invariant c.take_into.result c.take_into.ensures.ends tables answer)
 
 pub returns-clause-answer : goal.returns-clause-answer
 returns-clause-answer c =
+    let answer = rw (c.deref.ensures.value) at c.take_into.ensures.answer in
+    subst (λ (v : Stored). TakesAs v.links c.args.link c.take_into.result) c.self.view_is answer
+
+pub returns-clause-exact : goal.returns-clause-exact
+returns-clause-exact c =
     let s = c.self.inside in
-    let ls = s.chain.items ++ s.parked.items in
-    let e = rw (c.deref.ensures.value, c.deref-2.ensures.value) at c.in-Nothing.ensures.found in
-    let n = len-from_links ls c.self.invariant.0.prevs in
-    let v = ap (λ (v : Stored). len v.links) c.self.view_is in (
-      subst (λ (v : Stored). NonePrev v.links c.args.link) c.self.view_is (none_prev ls c.args.link e.0),
-      subst (λ (v : Stored). NoneId v.links c.args.link) c.self.view_is (none_id ls c.args.link e.1),
-      omega (arith, n, v, length-append s.chain.items s.parked.items),
-    )
+    let before = subst (λ (v : Stored). IsStore v) c.self.view_is (kept_store s.chain.items s.parked.items s.folded c.self.invariant) in
+    taking_tells c.args.self.now.links c.args.link c.take_into.result before.set (returns-clause-answer c)
 
 pub returns-clause-after : goal.returns-clause-after
 returns-clause-after c =
     let s = c.self.inside in
-    let e = rw (c.deref.ensures.value, c.deref-2.ensures.value) at c.in-Nothing.ensures.found in
-    rw (c.in_default.ensures.items, ← c.self.view_is) (ap (λ m. record { schema = s.folded.database.schema; links = m; folded = s.chain.items }) (links_push s.chain.items s.parked.items c.args.link e.0))
+    let answer = rw (c.deref.ensures.value) at c.take_into.ensures.answer in
+    ap (λ (ps : List Link). stored_of s.chain.items ps s.folded) c.take_into.ensures.parked
+    ∙ store_take s.chain.items s.parked.items s.folded c.args.link c.self.invariant c.take_into.result answer
+    ∙ ap (λ (v : Stored). after_take v c.args.link c.take_into.result) c.self.view_is
 
-pub returns-in-Prev-clause-source : goal.returns-in-Prev-clause-source
-returns-in-Prev-clause-source c k _ =
+pub returns-clause-store : goal.returns-clause-store
+returns-clause-store c =
     let s = c.self.inside in
-    let e = rw (c.deref.ensures.value, c.deref-2.ensures.value) at c.in-Prev.ensures.found in
-    let fork = fork_by_prev (s.chain.items ++ s.parked.items) c.args.link e.0 e.1 e.2 in
-    no_fork (Holds c.args.self.now.links) (tables_of c.args.self.now) c.args.link e.0 k (subst (λ (v : Stored). Holds v.links e.0) c.self.view_is fork.0) fork.1
+    kept_store s.chain.items c.take_into.new.parked.items s.folded (invariant_of-self c)
 
-pub returns-in-Id-clause-source : goal.returns-in-Id-clause-source
-returns-in-Id-clause-source c k _ =
-    let s = c.self.inside in
-    let e = rw (c.deref.ensures.value, c.deref-2.ensures.value) at c.in-Id.ensures.found in
-    let held = e.1.0 in
-    let fork = fork_by_id (s.chain.items ++ s.parked.items) c.args.link held c.self.invariant.0.prevs e.0 e.1.1 in
-    no_fork (Holds c.args.self.now.links) (tables_of c.args.self.now) c.args.link held k (subst (λ (v : Stored). Holds v.links held) c.self.view_is fork.0) fork.1
+pub returns-clause-source : goal.returns-clause-source
+returns-clause-source c one fork =
+    take_no_fork c.args.self.now.links (tables_of c.args.self.now) c.args.link c.take_into.result one (returns-clause-answer c) fork
