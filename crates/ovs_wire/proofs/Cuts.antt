@@ -1,6 +1,6 @@
 -- Streams one after another.
 use Rattle.std.specs.List.{concat}
-use Rattle.std.proofs.Common.{All, ◌≡◌, ℕ, List, [], ◌∷◌, ◌++◌, refl, ap, sym, ◌∙◌, subst, append_assoc, arith}
+use Rattle.std.proofs.Common.{All, ◌≡◌, ℕ, ◌<◌, inl, inr, List, [], ◌∷◌, ◌++◌, refl, ap, sym, ◌∙◌, subst, append_assoc, arith}
 use Rattle.std.proofs.lemmas.List.{append-nil}
 use Rattle.std.proofs.Math.Seq.{take-nil}
 use Rattle.std.proofs.lemmas.List.Elements.{All-append, All-nil, All-cons, All-head, All-tail}
@@ -81,11 +81,16 @@ only_fault r f h = record {
 
 pub nothing : IsUnfinished []
 nothing = record {
-  begins = λ lt. absurd (omega arith);
-  inside = λ k more le. absurd (omega arith);
-  nests = λ k. rw take-nil (omega arith);
-  fits = omega arith;
+  begun = record { begins = λ lt. absurd (omega arith); inside = λ k more le. absurd (omega arith) };
+  limits = record { nests = λ k. rw take-nil (omega arith); fits = omega arith };
 }
+
+-- white space is below the brackets
+pub no_space : (b : ℕ) → 32 < b → IsSpace b → ⊥
+no_space b above (inl e) = omega (arith, e)
+no_space b above (inr (inl e)) = omega (arith, e)
+no_space b above (inr (inr (inl e))) = omega (arith, e)
+no_space b above (inr (inr (inr e))) = omega (arith, e)
 
 pub only_space : (b : ℕ) → IsSpace b → AreFrames (b ∷ []) [] (Rest [])
 only_space b blank = record {
@@ -108,6 +113,12 @@ only_object o is = record {
   found_are = refl;
   ends = (refl, nothing);
 }
+
+-- white space alone
+pub spaces_only : (s : List ℕ) → All IsSpace s → AreFrames s [] (Rest [])
+spaces_only [] spaces = only_rest [] nothing
+spaces_only (b ∷ s) spaces = cut (b ∷ []) s [] [] [] (Rest []) (only_space b (All-head IsSpace b s spaces))
+    (spaces_only s (All-tail IsSpace b s spaces))
 
 -- feeding a piece to what follows the stream, by how the stream ended before
 follows_after : (stream piece : List ℕ) (taken : List (List ℕ)) (ending : Ending) (old new : Framing)

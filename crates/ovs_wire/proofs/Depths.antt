@@ -3,7 +3,7 @@ use Rattle.std.proofs.Common.{◌≡◌, ℕ, ◌+◌, ◌≤◌, ◌==◌, ◌|
 use Rattle.std.proofs.lemmas.Bool.{eqb-true}
 use Rattle.std.proofs.lemmas.List.Sums.{fold-append}
 use Rattle.std.proofs.lemmas.Grind.{common_steps}
-use Rattle.ovs_wire.specs.declared.place.Place.{Place}
+use Rattle.ovs_wire.specs.declared.framing.place.Place.{Place}
 use Rattle.ovs_wire.specs.Depth.{Side, Outside, Inside, Escaped, next, outside, level_after, depth}
 use Rattle.ovs_wire.specs.Place.{place_at, side_after, place_after}
 

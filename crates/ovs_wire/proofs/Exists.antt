@@ -1,10 +1,10 @@
 -- Each stream has frames.
 use Rattle.std.proofs.Common.{◌≡◌, ℕ, ◌<◌, ◌≤◌, ◌⊎◌, ⊎_elim, inl, inr, List, [], ◌∷◌, ◌++◌, length, refl, sym, subst, arith, append_assoc}
 use Rattle.std.proofs.lemmas.List.{append-nil}
-use Rattle.std.proofs.lemmas.Bool.{cases_lt, cases_order}
+use Rattle.std.proofs.lemmas.Bool.{cases_lt, cases_eq}
 use Rattle.ovs_wire.specs.declared.error.FrameError.{FrameError}
 use Rattle.ovs_wire.specs.declared.error.FrameError.TheVariants.{NotObject, TooDeep, TooLong}
-use Rattle.ovs_wire.specs.declared.limits.TheConstants.{MAX_MESSAGE_BYTES, MAX_NESTING}
+use Rattle.ovs_wire.specs.Limits.{most_nesting, most_bytes}
 use Rattle.ovs_wire.specs.Depth.{depth}
 use Rattle.ovs_wire.specs.Frames.{IsSpace, IsUnfinished, Breaks, Ending, Rest, Fault, AreFrames}
 use Rattle.ovs_wire.proofs.Cuts.{cut, fault_on, only_rest, only_fault, only_space, only_object, nothing}
@@ -13,17 +13,13 @@ use Rattle.ovs_wire.proofs.NextByte.{unfinished_more, object_whole, faulty, unfi
 abbrev Found : List ℕ → Type 0
 Found stream = (found : List (List ℕ)) × (ending : Ending) × AreFrames stream found ending
 
-equal : (m n : ℕ) → (m ≡ n) ⊎ (m ≡ n → ⊥)
-equal m n = ⊎_elim (λ (e : m ≡ n). inl e) (λ (o : (m < n) ⊎ (n < m)). inr
-    (λ e. ⊎_elim (λ (l : m < n). omega (arith, l, e)) (λ (l : n < m). omega (arith, l, e)) o)) (cases_order m n)
-
 either : {A B : Type 0} → A ⊎ (A → ⊥) → B ⊎ (B → ⊥) → (A ⊎ B) ⊎ ((A ⊎ B) → ⊥)
 either (inl a) q = inl (inl a)
 either (inr a) (inl b) = inl (inr b)
 either (inr a) (inr b) = inr (λ r. ⊎_elim a b r)
 
 blank : (b : ℕ) → IsSpace b ⊎ (IsSpace b → ⊥)
-blank b = either (equal b 32) (either (equal b 9) (either (equal b 13) (equal b 10)))
+blank b = either (cases_eq b 32) (either (cases_eq b 9) (either (cases_eq b 13) (cases_eq b 10)))
 
 breaks_now : (u : List ℕ) (b : ℕ) (f : FrameError) → IsUnfinished u → Breaks u b f → Found (u ++ b ∷ [])
 breaks_now u b f is breaks = ([], Fault f, only_fault (u ++ b ∷ []) f (faulty u b f is breaks))
@@ -35,9 +31,9 @@ first (a ∷ u) b is none other = absurd (omega arith)
 
 inner : (u : List ℕ) (b : ℕ) → IsUnfinished u → (length u ≡ 0 → b ≡ 123) → Found (u ++ b ∷ [])
 inner u b is head = ⊎_elim
-    (λ (deep : MAX_NESTING < depth (u ++ b ∷ [])). breaks_now u b TooDeep is (deeper u b is deep))
-    (λ (low : depth (u ++ b ∷ []) ≤ MAX_NESTING). ⊎_elim
-    (λ (short : length u < MAX_MESSAGE_BYTES). ⊎_elim
+    (λ (deep : most_nesting < depth (u ++ b ∷ [])). breaks_now u b TooDeep is (deeper u b is deep))
+    (λ (low : depth (u ++ b ∷ []) ≤ most_nesting). ⊎_elim
+    (λ (short : length u < most_bytes). ⊎_elim
     (λ (more : 0 < depth (u ++ b ∷ [])). (
       [],
       Rest (u ++ b ∷ []),
@@ -51,16 +47,16 @@ inner u b is head = ⊎_elim
           (object_whole u b is head (omega arith) short),
     ))
     (cases_lt 0 (depth (u ++ b ∷ []))))
-    (λ (long : MAX_MESSAGE_BYTES ≤ length u). breaks_now u b TooLong is (omega (arith, is.fits), low))
-    (cases_lt (length u) MAX_MESSAGE_BYTES))
-    (cases_lt MAX_NESTING (depth (u ++ b ∷ [])))
+    (λ (long : most_bytes ≤ length u). breaks_now u b TooLong is (omega (arith, is.limits.fits), low))
+    (cases_lt (length u) most_bytes))
+    (cases_lt most_nesting (depth (u ++ b ∷ [])))
 
 one_byte : (u : List ℕ) (b : ℕ) → IsUnfinished u → Found (u ++ b ∷ [])
 one_byte u b is = ⊎_elim
     (λ (none : length u ≡ 0). ⊎_elim (λ (e : b ≡ 123). inner u b is (λ _. e))
-    (λ (n : b ≡ 123 → ⊥). first u b is none n) (equal b 123))
+    (λ (n : b ≡ 123 → ⊥). first u b is none n) (cases_eq b 123))
     (λ (some : length u ≡ 0 → ⊥). inner u b is (λ none. absurd (some none)))
-    (equal (length u) 0)
+    (cases_eq (length u) 0)
 
 go_on : (x : List ℕ) (b : ℕ) (found : List (List ℕ)) (ending : Ending) → AreFrames x found ending
     → Found (x ++ b ∷ [])

@@ -4,6 +4,13 @@ pub mod NextByte
 pub mod Unique
 pub mod Exists
 pub mod Members
+pub mod Counts
+pub mod Over
+pub mod Words
+pub mod Lexing
+pub mod Levels
+pub mod Spelled
+pub mod Written
+pub mod Through
 pub mod Lists
 pub mod Spelling
-pub mod Texts

@@ -4,13 +4,13 @@ use Rattle.std.proofs.lemmas.List.{take_more, take-append-le, take_all, drop-app
 use Rattle.std.proofs.Math.Seq.{take-length}
 use Rattle.std.proofs.lemmas.Bool.{cases_lt}
 use Rattle.ovs_wire.specs.declared.error.FrameError.{FrameError}
-use Rattle.ovs_wire.specs.declared.limits.TheConstants.{MAX_MESSAGE_BYTES, MAX_NESTING}
+use Rattle.ovs_wire.specs.Limits.{most_nesting, most_bytes}
 use Rattle.std.proofs.lemmas.Grind.{common_steps}
-use Rattle.ovs_wire.specs.declared.place.Place.{Place}
+use Rattle.ovs_wire.specs.declared.framing.place.Place.{Place}
 use Rattle.ovs_wire.specs.Depth.{depth}
 use Rattle.ovs_wire.specs.Place.{place_after}
 use Rattle.ovs_wire.proofs.Depths.{by_one}
-use Rattle.ovs_wire.specs.Frames.{IsSpace, IsObject, IsUnfinished, HasFault, Breaks, Ending, Rest, Fault, AreFrames}
+use Rattle.ovs_wire.specs.Frames.{IsSpace, IsObject, IsUnfinished, IsWithinLimits, HasFault, Breaks, Ending, Rest, Fault, AreFrames}
 use Rattle.ovs_wire.proofs.Cuts.{cut, fault_on, only_rest, only_fault, only_space, only_object}
 
 -- a property of the beginnings of a list, at one more byte
@@ -27,26 +27,36 @@ head_more : (u : List ℕ) (b : ℕ) → (0 < length u → slice_index u 0 ≡ 1
 head_more [] b low here = here refl
 head_more (a ∷ u) b low here = low (omega arith)
 
-pub unfinished_more : (u : List ℕ) (b : ℕ) → IsUnfinished u → (length u ≡ 0 → b ≡ 123)
-    → 0 < depth (u ++ b ∷ []) → depth (u ++ b ∷ []) ≤ MAX_NESTING → length u < MAX_MESSAGE_BYTES
-    → IsUnfinished (u ++ b ∷ [])
-unfinished_more u b is head deep low short = record {
-  begins = λ _. head_more u b is.begins head;
-  inside = λ k more le. front_more (λ (l : List ℕ). 0 < depth l) u b k (λ h. is.inside k more h) deep;
-  nests = λ k. front_more (λ (l : List ℕ). depth l ≤ MAX_NESTING) u b k (λ h. is.nests k) low;
+-- within the limits with one more byte too
+limits_more : (u : List ℕ) (b : ℕ) → IsWithinLimits u → depth (u ++ b ∷ []) ≤ most_nesting
+    → length u < most_bytes → IsWithinLimits (u ++ b ∷ [])
+limits_more u b is low short = record {
+  nests = λ k. front_more (λ (l : List ℕ). depth l ≤ most_nesting) u b k (λ h. is.nests k) low;
   fits = omega (arith, length-append u (b ∷ []));
 }
 
+pub unfinished_more : (u : List ℕ) (b : ℕ) → IsUnfinished u → (length u ≡ 0 → b ≡ 123)
+    → 0 < depth (u ++ b ∷ []) → depth (u ++ b ∷ []) ≤ most_nesting → length u < most_bytes
+    → IsUnfinished (u ++ b ∷ [])
+unfinished_more u b is head deep low short = record {
+  begun = record {
+    begins = λ _. head_more u b is.begun.begins head;
+    inside = λ k more le. front_more (λ (l : List ℕ). 0 < depth l) u b k (λ h. is.begun.inside k more h) deep;
+  };
+  limits = limits_more u b is.limits low short;
+}
+
 pub object_whole : (u : List ℕ) (b : ℕ) → IsUnfinished u → (length u ≡ 0 → b ≡ 123) → depth (u ++ b ∷ []) ≡ 0
-    → length u < MAX_MESSAGE_BYTES → IsObject (u ++ b ∷ [])
+    → length u < most_bytes → IsObject (u ++ b ∷ [])
 object_whole u b is head deep short = record {
-  begins = (omega (arith, length-append u (b ∷ [])), head_more u b is.begins head);
-  ends = deep;
-  inside = λ k more lt. let le : k ≤ length u =
-      omega (arith, length-append u (b ∷ [])) in subst (λ (l : List ℕ). 0 < depth l)
-      (sym (take-append-le k u (b ∷ []) le)) (is.inside k more le);
-  nests = λ k. front_more (λ (l : List ℕ). depth l ≤ MAX_NESTING) u b k (λ h. is.nests k) (omega (arith, deep));
-  fits = omega (arith, length-append u (b ∷ []));
+  balanced = record {
+    begins = (omega (arith, length-append u (b ∷ [])), head_more u b is.begun.begins head);
+    ends = deep;
+    inside = λ k more lt. let le : k ≤ length u =
+        omega (arith, length-append u (b ∷ [])) in subst (λ (l : List ℕ). 0 < depth l)
+        (sym (take-append-le k u (b ∷ []) le)) (is.begun.inside k more le);
+  };
+  limits = limits_more u b is.limits (omega (arith, deep)) short;
 }
 
 pub faulty : (u : List ℕ) (b : ℕ) (f : FrameError) → IsUnfinished u → Breaks u b f → HasFault (u ++ b ∷ []) f
@@ -123,7 +133,7 @@ Next p b q = (before : List ℕ) → p ≡ place_after before → q ≡ place_af
 
 pub stands_more : (bytes : List ℕ) (i start : ℕ) (found : List (List ℕ)) (p q : Place)
     → Stands bytes i start found p → i < length bytes → (i - start ≡ 0 → get_or bytes i 0 ≡ 123)
-    → Next p (get_or bytes i 0) q → 0 < q.depth → q.depth ≤ MAX_NESTING → i - start < MAX_MESSAGE_BYTES
+    → Next p (get_or bytes i 0) q → 0 < q.depth → q.depth ≤ most_nesting → i - start < most_bytes
     → Stands bytes (i + 1) start found q
 stands_more bytes i start found p q s lt head next deep low short =
     let u = drop start (take i bytes) in
@@ -146,7 +156,7 @@ stands_more bytes i start found p q s lt head next deep low short =
 
 pub stands_whole : (bytes : List ℕ) (i start : ℕ) (found : List (List ℕ)) (p q : Place) (o : List ℕ)
     → Stands bytes i start found p → i < length bytes → (i - start ≡ 0 → get_or bytes i 0 ≡ 123)
-    → Next p (get_or bytes i 0) q → q.depth ≡ 0 → i - start < MAX_MESSAGE_BYTES
+    → Next p (get_or bytes i 0) q → q.depth ≡ 0 → i - start < most_bytes
     → o ≡ drop start (take (i + 1) bytes) → Stands bytes (i + 1) (i + 1) (found ++ o ∷ []) (place_after [])
 stands_whole bytes i start found p q o s lt head next deep short whole =
     let u = drop start (take i bytes) in
@@ -180,16 +190,16 @@ stands_fault bytes i start found p f s lt breaks =
     more bytes i found [] u (Fault f) lt s.frames (only_fault (u ++ b ∷ []) f h) in
     fault_now bytes (i + 1) found f (simp append-nil at frames)
 
-pub nests_now : (u : List ℕ) → IsUnfinished u → depth u ≤ MAX_NESTING
-nests_now u is = subst (λ (l : List ℕ). depth l ≤ MAX_NESTING) (take-length u) (is.nests (length u))
+pub nests_now : (u : List ℕ) → IsUnfinished u → depth u ≤ most_nesting
+nests_now u is = subst (λ (l : List ℕ). depth l ≤ most_nesting) (take-length u) (is.limits.nests (length u))
 
-some_before : (u : List ℕ) (b : ℕ) → MAX_NESTING < depth (u ++ b ∷ []) → 0 < length u
+some_before : (u : List ℕ) (b : ℕ) → most_nesting < depth (u ++ b ∷ []) → 0 < length u
 some_before [] b deep = absurd (omega (arith, by_one [] b, deep))
 some_before (a ∷ u) b deep = omega arith
 
 -- only place_after a byte, and one too many
-pub deeper : (u : List ℕ) (b : ℕ) → IsUnfinished u → MAX_NESTING < depth (u ++ b ∷ [])
-    → (0 < length u) × (depth (u ++ b ∷ []) ≡ MAX_NESTING + 1)
+pub deeper : (u : List ℕ) (b : ℕ) → IsUnfinished u → most_nesting < depth (u ++ b ∷ [])
+    → (0 < length u) × (depth (u ++ b ∷ []) ≡ most_nesting + 1)
 deeper u b is deep = (some_before u b deep, omega (arith, by_one u b, nests_now u is, deep))
 
 pub stands_last : (bytes : List ℕ) (i start : ℕ) (found : List (List ℕ)) (p : Place)
@@ -203,7 +213,7 @@ stands_last bytes i start found p s le =
     )
 
 pub depth_now : (bytes : List ℕ) (i start : ℕ) (found : List (List ℕ)) (p : Place)
-    → Stands bytes i start found p → p.depth ≤ MAX_NESTING
+    → Stands bytes i start found p → p.depth ≤ most_nesting
 depth_now bytes i start found p s =
     let u = drop start (take i bytes) in
     omega (arith, ap (λ a. a.depth) s.place, nests_now u (unfinished_now (take i bytes) found u s.frames))

@@ -5,9 +5,10 @@ use Rattle.std.proofs.lemmas.List.{append-nil}
 use Rattle.std.proofs.lemmas.List.Elements.{All-head, All-tail}
 use Rattle.ovs_wire.specs.declared.error.FrameError.{FrameError}
 use Rattle.ovs_wire.specs.declared.error.FrameError.TheVariants.{NotObject, TooDeep, TooLong, NoMemory}
-use Rattle.ovs_wire.specs.declared.limits.TheConstants.{MAX_MESSAGE_BYTES, MAX_NESTING}
+use Rattle.ovs_wire.specs.Limits.{most_nesting}
 use Rattle.ovs_wire.specs.Depth.{depth}
-use Rattle.ovs_wire.specs.Frames.{IsSpace, IsObject, IsUnfinished, HasFault, Breaks, Part, Space, Object, IsPart, bytes_of, joined, objects, Ending, Rest, Fault, EndsAs, AreFrames}
+use Rattle.ovs_wire.proofs.Cuts.{no_space}
+use Rattle.ovs_wire.specs.Frames.{IsSpace, IsBalanced, IsWithinLimits, IsUnfinished, HasFault, Breaks, Part, Space, Object, IsPart, bytes_of, joined, objects, Ending, Rest, Fault, EndsAs, AreFrames}
 
 -- of two beginnings of one list the shorter is a beginning of the longer
 take_front : (p q x y : List ℕ) → p ++ x ≡ q ++ y → length p ≤ length q → take (length p) q ≡ p
@@ -30,82 +31,78 @@ head_of [] x lt = absurd (omega arith)
 head_of (a ∷ p) x lt = refl
 
 no_blank : (b : ℕ) → IsSpace b → b ≡ 123 → ⊥
-no_blank b blank head = ⊎_elim (λ (h : b ≡ 32). omega (arith, h, head))
-    (λ (r : (b ≡ 9) ⊎ ((b ≡ 13) ⊎ (b ≡ 10))). ⊎_elim (λ (h : b ≡ 9). omega (arith, h, head))
-    (λ (r : (b ≡ 13) ⊎ (b ≡ 10)). ⊎_elim (λ (h : b ≡ 13). omega (arith, h, head))
-    (λ (h : b ≡ 10). omega (arith, h, head)) r) r) blank
+no_blank b blank head = no_space b (omega (arith, head)) blank
 
 -- an object is no beginning of a list whose beginnings up to there are deep
-not_in : (p q x y : List ℕ) → IsObject p → ((k : ℕ) → 0 < k → k ≤ length q → 0 < depth (take k q))
+not_in : (p q x y : List ℕ) → IsBalanced p → ((k : ℕ) → 0 < k → k ≤ length q → 0 < depth (take k q))
     → p ++ x ≡ q ++ y → length p ≤ length q → ⊥
 not_in p q x y o inside e le =
     let front : take (length p) q ≡ p = take_front p q x y e le in
     let deep : 0 < depth p = subst (λ (l : List ℕ). 0 < depth l) front (inside (length p) o.begins.0 le) in
     omega (arith, o.ends, deep)
 
-not_shorter : (p q x y : List ℕ) → IsObject p → IsObject q → p ++ x ≡ q ++ y → length p < length q → ⊥
+not_shorter : (p q x y : List ℕ) → IsBalanced p → IsBalanced q → p ++ x ≡ q ++ y → length p < length q → ⊥
 not_shorter p q x y a b e lt =
     let front : take (length p) q ≡ p = take_front p q x y e (omega arith) in
     let deep : 0 < depth p = subst (λ (l : List ℕ). 0 < depth l) front (b.inside (length p) a.begins.0 lt) in
     omega (arith, a.ends, deep)
 
 -- no part begins another
-one_object : (o q x y : List ℕ) → IsObject o → IsObject q → o ++ x ≡ q ++ y → (o ≡ q) × (x ≡ y)
-one_object o q x y s t e = ⊎_elim (λ (same : length o ≡ length q). same_length o q x y e same)
+one_balanced : (o q x y : List ℕ) → IsBalanced o → IsBalanced q → o ++ x ≡ q ++ y → (o ≡ q) × (x ≡ y)
+one_balanced o q x y s t e = ⊎_elim (λ (same : length o ≡ length q). same_length o q x y e same)
     (λ (r : (length o < length q) ⊎ (length q < length o)). ⊎_elim
     (λ (lt : length o < length q). absurd (not_shorter o q x y s t e lt))
     (λ (lt : length q < length o). absurd (not_shorter q o y x t s (sym e) lt)) r)
     (cases_order (length o) (length q))
 
-blank_object : (b : ℕ) (q x y : List ℕ) → IsSpace b → IsObject q → b ∷ x ≡ q ++ y → ⊥
+blank_object : (b : ℕ) (q x y : List ℕ) → IsSpace b → IsBalanced q → b ∷ x ≡ q ++ y → ⊥
 blank_object b q x y blank o e = no_blank b blank
     (ap (λ l. slice_index l 0) e ∙ head_of q y o.begins.0 ∙ o.begins.1)
 
 one_part : (p q : Part) (x y : List ℕ) → IsPart p → IsPart q → bytes_of p ++ x ≡ bytes_of q ++ y
     → (p ≡ q) × (x ≡ y)
 one_part (Space b) (Space c) x y s t e = (cc (e), cc (e))
-one_part (Space b) (Object q) x y s t e = absurd (blank_object b q x y s t e)
-one_part (Object o) (Space c) x y s t e = absurd (blank_object c o y x t s (sym e))
-one_part (Object o) (Object q) x y s t e = let r = one_object o q x y s t e in (ap Object r.0, r.1)
+one_part (Space b) (Object q) x y s t e = absurd (blank_object b q x y s t.balanced e)
+one_part (Object o) (Space c) x y s t e = absurd (blank_object c o y x t s.balanced (sym e))
+one_part (Object o) (Object q) x y s t e = let r = one_balanced o q x y s.balanced t.balanced e in (ap Object r.0, r.1)
 
 -- what is within the limits does not begin with a fault
 broken : (v before : List ℕ) (byte : ℕ) (f : FrameError) → slice_index v 0 ≡ 123
-    → ((k : ℕ) → depth (take k v) ≤ MAX_NESTING) → length v ≤ MAX_MESSAGE_BYTES
+    → IsWithinLimits v
     → take (length (before ++ byte ∷ [])) v ≡ before ++ byte ∷ [] → length (before ++ byte ∷ []) ≤ length v
     → Breaks before byte f → ⊥
-broken [] before byte f head nests fits front le breaks = omega (arith, length-append before (byte ∷ []))
-broken (a ∷ v) [] byte NotObject head nests fits front le breaks =
+broken [] before byte f head limits front le breaks = omega (arith, length-append before (byte ∷ []))
+broken (a ∷ v) [] byte NotObject head limits front le breaks =
     breaks.2 (sym (ap (λ l. slice_index l 0) front) ∙ head)
-broken (a ∷ v) (x ∷ before) byte NotObject head nests fits front le breaks = omega (arith, breaks.0)
-broken (a ∷ v) before byte TooDeep head nests fits front le breaks =
-    let low : depth (before ++ byte ∷ []) ≤ MAX_NESTING =
-    subst (λ (l : List ℕ). depth l ≤ MAX_NESTING) front (nests (length (before ++ byte ∷ []))) in
+broken (a ∷ v) (x ∷ before) byte NotObject head limits front le breaks = omega (arith, breaks.0)
+broken (a ∷ v) before byte TooDeep head limits front le breaks =
+    let low : depth (before ++ byte ∷ []) ≤ most_nesting =
+    subst (λ (l : List ℕ). depth l ≤ most_nesting) front (limits.nests (length (before ++ byte ∷ []))) in
     omega (arith, low, breaks.1)
-broken (a ∷ v) before byte TooLong head nests fits front le breaks =
-    omega (arith, length-append before (byte ∷ []), breaks.0, le, fits)
-broken (a ∷ v) before byte NoMemory head nests fits front le breaks = breaks
+broken (a ∷ v) before byte TooLong head limits front le breaks =
+    omega (arith, length-append before (byte ∷ []), breaks.0, le, limits.fits)
+broken (a ∷ v) before byte NoMemory head limits front le breaks = breaks
 
 -- a list that begins with a fault and with v
 fault_in : (r v x : List ℕ) (f : FrameError) (h : HasFault r f) → slice_index v 0 ≡ 123
-    → ((k : ℕ) → depth (take k v) ≤ MAX_NESTING) → length v ≤ MAX_MESSAGE_BYTES → r ≡ v ++ x
-    → length h.before < length v → ⊥
-fault_in r v x f h head nests fits e lt =
+    → IsWithinLimits v → r ≡ v ++ x → length h.before < length v → ⊥
+fault_in r v x f h head limits e lt =
     let w = h.before ++ h.byte ∷ [] in
     let le : length w ≤ length v = omega (arith, length-append h.before (h.byte ∷ [])) in
     let same : w ++ h.more ≡ v ++ x = append_assoc h.before (h.byte ∷ []) h.more ∙ sym h.whole ∙ e in
-    broken v h.before h.byte f head nests fits (take_front w v h.more x same le) le h.breaks
+    broken v h.before h.byte f head limits (take_front w v h.more x same le) le h.breaks
 
 -- what is unfinished has no fault
 unfinished_sound : (u : List ℕ) (f : FrameError) → IsUnfinished u → HasFault u f → ⊥
 unfinished_sound u f is h =
     let lt : length h.before < length u = omega
     (arith, ap length h.whole, length-append h.before (h.byte ∷ h.more)) in
-    fault_in u u [] f h (is.begins (omega arith)) is.nests is.fits (sym (append-nil u)) lt
+    fault_in u u [] f h (is.begun.begins (omega arith)) is.limits (sym (append-nil u)) lt
 
 blank_fault : (b : ℕ) (more before : List ℕ) (byte : ℕ) (after : List ℕ) (f : FrameError) → IsSpace b
     → b ∷ more ≡ before ++ byte ∷ after → IsUnfinished before → Breaks before byte f → ⊥
 blank_fault b more (a ∷ before) byte after f blank e is breaks =
-    no_blank b blank (ap (λ l. slice_index l 0) e ∙ is.begins (omega arith))
+    no_blank b blank (ap (λ l. slice_index l 0) e ∙ is.begun.begins (omega arith))
 blank_fault b more [] byte after NotObject blank e is breaks = let same : b ≡ byte =
     cc (e) in breaks.1 (subst IsSpace same blank)
 blank_fault b more [] byte after TooDeep blank e is breaks = omega (arith, breaks.0)
@@ -117,16 +114,16 @@ no_part : (p : Part) (r more : List ℕ) (ending : Ending) → IsPart p → Ends
     → ⊥
 no_part (Space b) r more (Rest s) part ends e =
     let lt : 0 < length r = omega (arith, ap length e) in
-    no_blank b part (sym (ap (λ l. slice_index l 0) e) ∙ ends.1.begins lt)
+    no_blank b part (sym (ap (λ l. slice_index l 0) e) ∙ ends.1.begun.begins lt)
 no_part (Object o) r more (Rest s) part ends e =
-    not_in o r more [] part ends.1.inside (sym e ∙ sym (append-nil r))
+    not_in o r more [] part.balanced ends.1.begun.inside (sym e ∙ sym (append-nil r))
     (omega (arith, ap length e, length-append o more))
 no_part (Space b) r more (Fault f) part ends e =
     blank_fault b more ends.before ends.byte ends.more f part (sym e ∙ ends.whole) ends.unfinished ends.breaks
 no_part (Object o) r more (Fault f) part ends e = ⊎_elim
-    (λ (lt : length ends.before < length o). fault_in r o more f ends part.begins.1 part.nests part.fits e lt)
-    (λ (le : length o ≤ length ends.before). not_in o ends.before more (ends.byte ∷ ends.more) part
-    ends.unfinished.inside (sym e ∙ ends.whole) le)
+    (λ (lt : length ends.before < length o). fault_in r o more f ends part.balanced.begins.1 part.limits e lt)
+    (λ (le : length o ≤ length ends.before). not_in o ends.before more (ends.byte ∷ ends.more) part.balanced
+    ends.unfinished.begun.inside (sym e ∙ ends.whole) le)
     (cases_lt (length ends.before) (length o))
 
 same_fault : (u : List ℕ) (b : ℕ) (f g : FrameError) → Breaks u b f → Breaks u b g → f ≡ g
@@ -151,11 +148,11 @@ one_fault r f g a b = ⊎_elim
     (subst (λ (c : ℕ). Breaks a.before c f) byte a.breaks)) b.breaks)
     (λ (r' : (length a.before < length b.before) ⊎ (length b.before < length a.before)). ⊎_elim
     (λ (lt : length a.before < length b.before). absurd
-    (fault_in r b.before (b.byte ∷ b.more) f a (b.unfinished.begins (omega arith)) b.unfinished.nests
-    b.unfinished.fits b.whole lt))
+    (fault_in r b.before (b.byte ∷ b.more) f a (b.unfinished.begun.begins (omega arith)) b.unfinished.limits
+    b.whole lt))
     (λ (lt : length b.before < length a.before). absurd
-    (fault_in r a.before (a.byte ∷ a.more) g b (a.unfinished.begins (omega arith)) a.unfinished.nests
-    a.unfinished.fits a.whole lt)) r')
+    (fault_in r a.before (a.byte ∷ a.more) g b (a.unfinished.begun.begins (omega arith)) a.unfinished.limits
+    a.whole lt)) r')
     (cases_order (length a.before) (length b.before))
 
 one_ending : (r : List ℕ) (e f : Ending) → EndsAs r e → EndsAs r f → e ≡ f

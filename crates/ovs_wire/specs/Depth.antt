@@ -1,5 +1,5 @@
 -- Strings and depth of JSON text. The bytes: 34 is a quote, 92 a backslash, 91 and 93 are [ and ], 123 and 125 { and }.
-use Rattle.std.specs.Prelude.{ℕ, ◌+◌, ◌-◌, ◌==◌, ◌||◌, if◌then◌else◌, Bool, List, [], ◌∷◌, fold}
+use Rattle.std.specs.Prelude.{ℕ, ◌+◌, ◌-◌, ◌==◌, ◌||◌, if◌then◌else◌, Bool, List, [], ◌∷◌, fold, count_by}
 
 -- where a byte stands: outside strings, inside one, or inside one and escaped by the backslash before it
 pub data Side : Type 0 where
@@ -19,9 +19,11 @@ outside side [] = []
 outside Outside (b ∷ bytes) = b ∷ outside (next Outside b) bytes
 outside side (b ∷ bytes) = outside (next side b) bytes
 
+-- { or [
 abbrev pub is_opener : ℕ → Bool
 is_opener b = (b == 123) || (b == 91)
 
+-- } or ]
 abbrev pub is_closer : ℕ → Bool
 is_closer b = (b == 125) || (b == 93)
 
@@ -32,3 +34,11 @@ level_after level b = if is_opener b then level + 1 else if is_closer b then lev
 -- the openers less the closers outside strings, never below 0
 abbrev pub depth : List ℕ → ℕ
 depth bytes = fold level_after 0 (outside Outside bytes)
+
+-- how many brackets open outside strings
+abbrev pub openers : List ℕ → ℕ
+openers bytes = count_by is_opener (outside Outside bytes)
+
+-- how many brackets close outside strings
+abbrev pub closers : List ℕ → ℕ
+closers bytes = count_by is_closer (outside Outside bytes)

@@ -1,34 +1,62 @@
 -- A stream of bytes is white space and objects, and then a rest that is no whole object yet, or a fault.
-use Rattle.std.specs.Prelude.{◌≡◌, ℕ, ◌+◌, ◌<◌, ◌≤◌, ◌⊎◌, List, [], ◌∷◌, ◌++◌, length, take, slice_index, All}
+use Rattle.std.specs.Prelude.{◌≡◌, ℕ, ◌+◌, ◌-◌, ◌<◌, ◌≤◌, ◌⊎◌, List, [], ◌∷◌, ◌++◌, length, take, slice_index, All}
 use Rattle.ovs_wire.specs.declared.error.FrameError.{FrameError}
 use Rattle.ovs_wire.specs.declared.error.FrameError.TheVariants.{NotObject, TooDeep, TooLong, NoMemory}
-use Rattle.ovs_wire.specs.declared.limits.TheConstants.{MAX_MESSAGE_BYTES, MAX_NESTING}
+use Rattle.ovs_wire.specs.Limits.{most_nesting, most_bytes}
 use Rattle.ovs_wire.specs.Depth.{depth}
 
 -- space, tab, CR or LF
 abbrev pub IsSpace : ℕ → Type 0
 IsSpace b = (b ≡ 32) ⊎ ((b ≡ 9) ⊎ ((b ≡ 13) ⊎ (b ≡ 10)))
 
--- balanced and within the limits: it begins with { and ends at the first place where the depth is 0 again
-pub record IsObject (o : List ℕ) : Type 0 where
+-- it begins with { and ends at the first place where the depth is 0 again
+pub record IsBalanced (o : List ℕ) : Type 0 where
   pub begins : (0 < length o) × (slice_index o 0 ≡ 123)
   pub ends : depth o ≡ 0
   pub inside : (k : ℕ) → 0 < k → k < length o → 0 < depth (take k o)
-  pub nests : (k : ℕ) → depth (take k o) ≤ MAX_NESTING
-  pub fits : length o ≤ MAX_MESSAGE_BYTES
 
--- nothing, or the beginning of an object that isn't whole yet, within the limits
-pub record IsUnfinished (r : List ℕ) : Type 0 where
+-- nothing, or the beginning of balanced bytes that aren't whole yet
+pub record IsBegun (r : List ℕ) : Type 0 where
   pub begins : 0 < length r → slice_index r 0 ≡ 123
   pub inside : (k : ℕ) → 0 < k → k ≤ length r → 0 < depth (take k r)
-  pub nests : (k : ℕ) → depth (take k r) ≤ MAX_NESTING
-  pub fits : length r ≤ MAX_MESSAGE_BYTES
+
+-- no place is too deep, and there are not too many bytes
+pub record IsWithinLimits (bytes : List ℕ) : Type 0 where
+  pub nests : (k : ℕ) → depth (take k bytes) ≤ most_nesting
+  pub fits : length bytes ≤ most_bytes
+
+-- the deepest place is this deep
+pub record IsNested (bytes : List ℕ) (n : ℕ) : Type 0 where
+  pub at_most : (k : ℕ) → depth (take k bytes) ≤ n
+  pub reached : (k : ℕ) × (depth (take k bytes) ≡ n)
+
+-- white space, these bytes, and white space
+pub record IsPadded (bytes : List ℕ) (o : List ℕ) : Type 0 where
+  pub before : List ℕ
+  pub after : List ℕ
+  pub whole : bytes ≡ before ++ (o ++ after)
+  pub spaces : All IsSpace before × All IsSpace after
+
+-- they neither begin nor end with white space
+abbrev pub IsBare : List ℕ → Type 0
+IsBare bytes =
+    (IsSpace (slice_index bytes 0) → ⊥) × (IsSpace (slice_index bytes (length bytes - 1)) → ⊥)
+
+-- a whole message
+pub record IsObject (o : List ℕ) : Type 0 where
+  pub balanced : IsBalanced o
+  pub limits : IsWithinLimits o
+
+-- nothing, or a message that isn't whole yet
+pub record IsUnfinished (r : List ℕ) : Type 0 where
+  pub begun : IsBegun r
+  pub limits : IsWithinLimits r
 
 -- after what is unfinished this byte is this fault
 abbrev pub Breaks : List ℕ → ℕ → FrameError → Type 0
 Breaks u b NotObject = (length u ≡ 0) × (IsSpace b → ⊥) × (b ≡ 123 → ⊥)
-Breaks u b TooDeep = (0 < length u) × (depth (u ++ b ∷ []) ≡ MAX_NESTING + 1)
-Breaks u b TooLong = (length u ≡ MAX_MESSAGE_BYTES) × (depth (u ++ b ∷ []) ≤ MAX_NESTING)
+Breaks u b TooDeep = (0 < length u) × (depth (u ++ b ∷ []) ≡ most_nesting + 1)
+Breaks u b TooLong = (length u ≡ most_bytes) × (depth (u ++ b ∷ []) ≤ most_nesting)
 Breaks u b NoMemory = ⊥
 
 -- what is unfinished, and then a byte that is a fault
@@ -45,10 +73,12 @@ pub data Part : Type 0 where
   Space : ℕ → Part
   Object : List ℕ → Part
 
+-- the byte is white space, or the bytes are an object
 abbrev pub IsPart : Part → Type 0
 IsPart (Space b) = IsSpace b
 IsPart (Object o) = IsObject o
 
+-- the bytes of one part
 abbrev pub bytes_of : Part → List ℕ
 bytes_of (Space b) = b ∷ []
 bytes_of (Object o) = o
@@ -58,6 +88,7 @@ abbrev pub joined : List Part → List ℕ
 joined [] = []
 joined (p ∷ ps) = bytes_of p ++ joined ps
 
+-- these objects, after the part if it is one too
 abbrev pub objects_with : Part → List (List ℕ) → List (List ℕ)
 objects_with (Space b) os = os
 objects_with (Object o) os = o ∷ os
@@ -72,6 +103,7 @@ pub data Ending : Type 0 where
   Rest : List ℕ → Ending
   Fault : FrameError → Ending
 
+-- the rest is unfinished, or it has the fault
 abbrev pub EndsAs : List ℕ → Ending → Type 0
 EndsAs r (Rest s) = (r ≡ s) × IsUnfinished r
 EndsAs r (Fault f) = HasFault r f

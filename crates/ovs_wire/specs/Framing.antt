@@ -8,9 +8,11 @@ pub record Framing : Type 0 where
   pub waiting : List (List ℕ)
   pub ending : Ending
 
+-- these messages wait, and the stream ends so
 abbrev pub framing : List (List ℕ) → Ending → Framing
 framing waiting ending = record { waiting = waiting; ending = ending }
 
+-- the fault, if there is one, else the rest
 abbrev pub ending_of : Option FrameError → List ℕ → Ending
 ending_of None rest = Rest rest
 ending_of (Some fault) rest = Fault fault
@@ -25,6 +27,7 @@ pub record Adds (old : Framing) (left : List ℕ) (piece : List ℕ) (new : Fram
   pub frames : AreFrames (left ++ piece) found new.ending
   pub waiting : new.waiting ≡ old.waiting ++ found
 
+-- the same, by how the stream ended before
 abbrev pub FeedsAfter : Ending → Framing → List ℕ → Framing → Type 0
 FeedsAfter (Rest left) old piece new = Adds old left piece new
 FeedsAfter (Fault fault) old piece new = new ≡ old
@@ -47,3 +50,30 @@ Answers (Fault fault) (Err e) = fault ≡ e
 -- the framing is that of the stream that was fed so far, of which these messages were taken
 abbrev pub Follows : List ℕ → List (List ℕ) → Framing → Type 0
 Follows stream taken now = AreFrames stream (taken ++ now.waiting) now.ending
+
+-- a call on a framer: a piece is fed, or a message taken
+pub data Call : Type 0 where
+  Feed : List ℕ → Call
+  Take : List ℕ → Call
+
+-- what one call does
+abbrev pub Steps : Call → Framing → Framing → Type 0
+Steps (Feed piece) old new = Feeds old piece new
+Steps (Take message) old new = Takes old message new
+
+-- these calls, one after another, lead from one framing to the other
+abbrev pub Leads : List Call → Framing → Framing → Type 0
+Leads [] old new = new ≡ old
+Leads (call ∷ calls) old new = (mid : Framing) × Steps call old mid × Leads calls mid new
+
+-- all that the calls fed
+abbrev pub fed : List Call → List ℕ
+fed [] = []
+fed (Feed piece ∷ calls) = piece ++ fed calls
+fed (Take message ∷ calls) = fed calls
+
+-- the messages that the calls took, in order
+abbrev pub taken : List Call → List (List ℕ)
+taken [] = []
+taken (Feed piece ∷ calls) = taken calls
+taken (Take message ∷ calls) = message ∷ taken calls

@@ -1,8 +1,8 @@
+pub mod Limits
 pub mod Depth
 pub mod Place
 pub mod Frames
 pub mod Framing
-pub mod JsonCode
 pub mod Named
 pub mod Message
 pub mod Reading

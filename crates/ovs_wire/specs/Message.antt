@@ -1,9 +1,13 @@
 -- What JSON spells as a message (JSON-RPC 1.0; RFC 7047 section 4).
-use Rattle.std.specs.Prelude.{◌≡◌, ◌≢◌, ◌⊎◌, ℕ, List, Option, Some, None, codes, IsSome, IsUtf8}
-use Rattle.serde_json.specs.Data.{Data, null, string, array, object, no_members, member}
+use Rattle.std.specs.Prelude.{◌≡◌, ◌≢◌, ◌⊎◌, ◌≤◌, ℕ, List, length, Option, Some, None, Result, Ok, Err, codes, IsSome, IsUtf8}
+use Rattle.serde_json.specs.Data.{Data, null, string, array, object, no_members, member, depth}
 use Rattle.serde_json.specs.Find.{get}
-use Rattle.serde_json.specs.Read.{read}
+use Rattle.serde_json.specs.Read.{read, max_depth}
 use Rattle.serde_json.specs.View.{items_of}
+use Rattle.ovs_wire.specs.Limits.{most_nesting, most_bytes}
+use Rattle.ovs_wire.specs.Frames.{IsBalanced, IsNested}
+use Rattle.ovs_wire.specs.declared.error.MessageError.{MessageError}
+use Rattle.ovs_wire.specs.declared.error.MessageError.TheVariants.{NotJson, BadShape, NoMemory}
 use Rattle.ovs_wire.specs.declared.message.Message.{Message}
 use Rattle.ovs_wire.specs.declared.message.Message.TheVariants.{Request, Reply, Notice}
 
@@ -38,6 +42,13 @@ IsText bytes d = IsUtf8 bytes × (read bytes ≡ Some d)
 abbrev pub Says : List ℕ → Message → Type 0
 Says bytes m = (d : Data) × IsText bytes d × Spells d m
 
+-- what a read of the bytes may answer
+abbrev pub Reads : List ℕ → Result Message MessageError → Type 0
+Reads bytes (Ok m) = Says bytes m
+Reads bytes (Err NotJson) = (d : Data) → IsText bytes d → ⊥
+Reads bytes (Err BadShape) = (d : Data) × IsText bytes d × ((m : Message) → Spells d m → ⊥)
+Reads bytes (Err NoMemory) = Unit {0}
+
 -- the message as JSON
 abbrev pub json : Message → Data
 json (Request method params id) = object (member (codes "id") id
@@ -46,3 +57,21 @@ json (Notice method params) = object (member (codes "id") null
     (member (codes "method") (string method) (member (codes "params") (array (items_of params)) no_members)))
 json (Reply result error id) = object (member (codes "error") error
     (member (codes "id") id (member (codes "result") result no_members)))
+
+-- what is written for the message: balanced text in UTF-8, as deep as its JSON, that says it where that is read
+pub record IsWritten (m : Message) (bytes : List ℕ) : Type 0 where
+  pub utf8 : IsUtf8 bytes
+  pub balanced : IsBalanced bytes
+  pub nested : IsNested bytes (depth (json m))
+  pub says : depth (json m) ≤ max_depth → Says bytes m
+
+-- what is written for the message, where that is within the limits
+pub record IsSent (m : Message) (bytes : List ℕ) : Type 0 where
+  pub written : IsWritten m bytes
+  pub nests : depth (json m) ≤ most_nesting
+  pub fits : length bytes ≤ most_bytes
+
+-- where there is memory, a read of the bytes gives the message
+abbrev pub ReadsBack : Message → List ℕ → Type 0
+ReadsBack m bytes = (answer : Result Message MessageError) → Reads bytes answer
+    → (answer ≡ Ok m) ⊎ (answer ≡ Err NoMemory)

@@ -1,22 +1,7 @@
-use std::alloc::{AllocError, AllocFailed};
+//! Why a stream or its bytes are refused.
+use ovs_json::NoMemory;
+use std::alloc::AllocError;
 use thiserror::Error;
-
-/// Memory ran out.
-#[derive(Clone, Copy, Debug, PartialEq, Eq, Error)]
-#[error("out of memory")]
-pub struct NoMemory;
-
-impl From<AllocError> for NoMemory {
-    fn from(_error: AllocError) -> NoMemory {
-        NoMemory
-    }
-}
-
-impl<T: Drop> From<AllocFailed<T>> for NoMemory {
-    fn from(_error: AllocFailed<T>) -> NoMemory {
-        NoMemory
-    }
-}
 
 /// Why a stream of bytes can't be split into messages any further.
 #[derive(Clone, Copy, Debug, PartialEq, Eq, Error)]
@@ -71,26 +56,4 @@ pub enum MessageError {
     /// Memory ran out.
     #[error("out of memory")]
     NoMemory,
-}
-
-impl From<NoMemory> for MessageError {
-    ghost use Rattle.std.specs.Prelude.{◌≡◌};
-    ghost use Rattle.ovs_wire.specs.declared.error.MessageError.TheVariants as faults;
-
-    ghost from_gives = { λ _ e. e ≡ faults.NoMemory };
-
-    fn from(_error: NoMemory) -> MessageError {
-        MessageError::NoMemory
-    }
-}
-
-impl From<AllocError> for MessageError {
-    ghost use Rattle.std.specs.Prelude.{◌≡◌};
-    ghost use Rattle.ovs_wire.specs.declared.error.MessageError.TheVariants as faults;
-
-    ghost from_gives = { λ _ e. e ≡ faults.NoMemory };
-
-    fn from(_error: AllocError) -> MessageError {
-        MessageError::NoMemory
-    }
 }

@@ -1,16 +1,24 @@
-ghost use Rattle.std.specs.Prelude.{◌≡◌, ◌≤◌, IfOk, IfErr, IsUtf8, false, length};
-ghost use Rattle.serde_json.specs.Data.{Data, depth};
-ghost use Rattle.serde_json.specs.Read.{max_depth};
+//! A JSON-RPC message: JSON read as one, and one written as JSON.
+ghost use Rattle.std.specs.Prelude.{◌≡◌, IfOk, false};
 ghost use Rattle.serde_json.specs.View.{view};
 ghost use Rattle.serde_json.specs.Written.{has_float, compact_text};
 
-use crate::error::{MessageError, NoMemory};
-use crate::id::Id;
-use crate::json_value::Json;
-use crate::limits::{MAX_MESSAGE_BYTES, MAX_NESTING};
-use crate::method::Method;
-use crate::params::Params;
-use crate::reading::message_of;
+mod id;
+mod laws;
+mod method;
+mod params;
+mod reading;
+
+use crate::error::MessageError;
+use crate::message::reading::message_of;
+pub use id::Id;
+pub use laws::{
+    a_text_says_one_message, any_text_of_an_object_is_one_frame, messages_come_through,
+    what_is_written_is_a_frame_or_a_fault, what_is_written_is_said,
+};
+pub use method::Method;
+use ovs_json::{Json, NoMemory};
+pub use params::Params;
 use serde_json::{Value, json};
 use std::alloc::{AllocError, Global};
 
@@ -37,22 +45,17 @@ pub enum Message {
 }
 
 impl Message {
-    ghost use Rattle.ovs_wire.specs.declared.message.Message.{Message};
-    ghost use Rattle.ovs_wire.specs.Frames.{IsObject};
-    ghost use Rattle.ovs_wire.specs.Message.{IsText, Spells, Says, json};
+    ghost use Rattle.ovs_wire.specs.Message.{Reads, IsWritten, json};
 
     /// The message that a text spells. Members that it doesn't know are ignored.
     ///
-    /// - `NotJson`: `serde_json` reads no value from the bytes: they are no JSON text in UTF-8, nest deeper than 127,
-    ///   or have a number too large for a double or an escaped surrogate without its pair.
-    /// - `BadShape`: the JSON is no message.
-    /// - `NoMemory`: memory ran out, perhaps before a fault was found.
+    /// - `NotJson`: `serde_json` reads no value from the bytes: they are no JSON text in UTF-8 (RFC 8259), nest deeper
+    ///   than 127, or have a number too large for a double or an escaped surrogate without its pair.
+    /// - `BadShape`: they are JSON that spells no message.
+    /// - `NoMemory`.
     #[tactic(auto, using(crate::proofs::Lists::items_again, crate::proofs::Lists::list_again))]
     pub fn read(alloc: Global, bytes: &[u8]) -> Result<Message, MessageError>
-        ensures ok { IfOk result (λ m. Says bytes.now m) }
-        ensures not_json { result ≡ Err MessageError.NotJson → (d : Data) → IsText bytes.now d → ⊥ }
-        ensures bad_shape { result ≡ Err MessageError.BadShape
-            → (d : Data) × IsText bytes.now d × ((m : Message) → Spells d m → ⊥) }
+        ensures reads { Reads bytes.now result }
     {
         match Value::from_slice(alloc, bytes) {
             Ok(value) => message_of(value).ok_or(MessageError::BadShape),
@@ -65,17 +68,14 @@ impl Message {
     }
 
     /// The message as compact JSON text, its members in ascending order of their names. It reads back as this
-    /// message, where that nests at most 127 deep. `NoMemory` is its only error, after which the message is gone too.
-    #[tactic(auto, using(crate::proofs::Texts::message_is_object))]
-    pub fn write(self, alloc: Global) -> Result<Vec<u8>, NoMemory>
-        ensures utf8 { IfOk result (λ b. IsUtf8 b.items) }
-        ensures text { IfOk result (λ b. has_float (json self) ≡ false → b.items ≡ compact_text (json self)) }
-        ensures says { IfOk result (λ b. depth (json self) ≤ max_depth → Says b.items self) }
-        // It is one object of a stream.
-        ensures frame { IfOk result (λ b. has_float (json self) ≡ false → depth (json self) ≤ MAX_NESTING
-            → length b.items ≤ MAX_MESSAGE_BYTES → IsObject b.items) }
+    /// message, where that nests at most 127 deep. `NoMemory` is its only error.
+    pub fn write(&self, alloc: Global) -> Result<Vec<u8>, NoMemory>
+        ensures written { IfOk result (λ b. IsWritten self.now b.items) }
+        ensures text { IfOk result (λ b. has_float (json self.now) ≡ false
+            → b.items ≡ compact_text (json self.now)) }
     {
-        let value = value_of(alloc, self)?;
+        let message = self.copy()?;
+        let value = value_of(alloc, message)?;
         let bytes = value.to_vec(alloc)?;
         Ok(bytes)
     }

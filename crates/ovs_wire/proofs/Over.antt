@@ -1,0 +1,128 @@
+-- Balanced bytes above the limits.
+use Rattle.std.proofs.Common.{◌≡◌, ℕ, zero, suc, ◌+◌, ◌<◌, ◌≤◌, ◌⊎◌, ⊎_elim, inl, inr, List, [], ◌∷◌, ◌++◌, length, take, drop, get_or, sym, ap, ◌∙◌, subst, arith, add-one, append_assoc, length-append}
+use Rattle.std.proofs.lemmas.Bool.{cases_lt}
+use Rattle.std.proofs.lemmas.List.{take_more, take_all, take-append-drop, length-take-le, take-append-le}
+use Rattle.std.proofs.Math.Seq.{take-length}
+use Rattle.ovs_wire.specs.declared.error.FrameError.{FrameError}
+use Rattle.ovs_wire.specs.declared.error.FrameError.TheVariants.{TooDeep, TooLong}
+use Rattle.ovs_wire.specs.Limits.{most_nesting, most_bytes}
+use Rattle.ovs_wire.specs.Depth.{depth}
+use Rattle.ovs_wire.specs.Frames.{IsBalanced, IsUnfinished, HasFault, Breaks, AreFrames, Fault}
+use Rattle.ovs_wire.proofs.Cuts.{nothing, only_fault}
+use Rattle.ovs_wire.proofs.NextByte.{unfinished_more, deeper}
+
+-- a fault at the byte after the first k
+fault_after : (o : List ℕ) (k : ℕ) (f : FrameError) → k < length o → IsUnfinished (take k o)
+    → Breaks (take k o) (get_or o k 0) f → HasFault o f
+fault_after o k f lt is breaks = record {
+  before = take k o;
+  byte = get_or o k 0;
+  more = drop (k + 1) o;
+  whole = sym (take-append-drop (k + 1) o) ∙ ap (λ l. l ++ drop (k + 1) o) (take_more o k 0 lt) ∙ append_assoc
+      (take k o) (get_or o k 0 ∷ []) (drop (k + 1) o);
+  unfinished = is;
+  breaks = breaks;
+}
+
+-- one byte further within the limits of length
+one_more : (o : List ℕ) (k : ℕ) → IsBalanced o → k + 1 < length o → k < most_bytes → IsUnfinished (take k o)
+    → IsUnfinished (take (k + 1) o) ⊎ HasFault o TooDeep
+one_more o k is lt short unfinished =
+    let b = get_or o k 0 in
+    let next : take (k + 1) o ≡ take k o ++ b ∷ [] = take_more o k 0 (omega arith) in
+    let len : length (take k o) ≡ k = length-take-le k o (omega arith) in
+    ⊎_elim
+    (λ (deep : most_nesting < depth (take k o ++ b ∷ [])).
+    inr (fault_after o k TooDeep (omega arith) unfinished (deeper (take k o) b unfinished deep)))
+    (λ (low : depth (take k o ++ b ∷ []) ≤ most_nesting).
+    inl (subst IsUnfinished (sym next)
+    (unfinished_more (take k o) b unfinished
+    (λ none. ap (λ i. get_or o i 0) (omega (arith, len, none)) ∙ is.begins.1)
+    (subst (λ (l : List ℕ). 0 < depth l) next (is.inside (k + 1) (omega arith) lt)) low (omega (arith, len, short)))))
+    (cases_lt most_nesting (depth (take k o ++ b ∷ [])))
+
+up_to : (o : List ℕ) (k : ℕ) → IsBalanced o → k < length o → k ≤ most_bytes
+    → IsUnfinished (take k o) ⊎ HasFault o TooDeep
+up_to o zero is lt short = inl nothing
+up_to o (suc k) is lt short = ⊎_elim
+    (λ (unfinished : IsUnfinished (take k o)).
+    subst (λ (i : ℕ). IsUnfinished (take i o) ⊎ HasFault o TooDeep) (add-one k)
+    (one_more o k is (omega arith) (omega arith) unfinished))
+    (λ (deep : HasFault o TooDeep). inr deep) (up_to o k is (omega arith) (omega arith))
+
+-- a place that is too deep, with no more bytes before it than the limit
+deep_after : (o : List ℕ) (k : ℕ) → IsBalanced o → k < length o → k ≤ most_bytes
+    → most_nesting < depth (take (k + 1) o) → HasFault o TooDeep
+deep_after o k is lt short deep = ⊎_elim
+    (λ (unfinished : IsUnfinished (take k o)).
+    fault_after o k TooDeep lt unfinished (deeper (take k o) (get_or o k 0) unfinished
+    (subst (λ (l : List ℕ). most_nesting < depth l) (take_more o k 0 lt) deep)))
+    (λ (h : HasFault o TooDeep). h) (up_to o k is lt short)
+
+deep_at : (o : List ℕ) (k : ℕ) → IsBalanced o → k ≤ length o → k ≤ most_bytes + 1
+    → most_nesting < depth (take k o) → HasFault o TooDeep
+deep_at o zero is le short deep = absurd (omega arith)
+deep_at o (suc k) is le short deep = deep_after o k is (omega arith) (omega arith)
+    (subst (λ (i : ℕ). most_nesting < depth (take i o)) (sym (add-one k)) deep)
+
+pub too_deep : (o : List ℕ) (k : ℕ) → IsBalanced o → k ≤ most_bytes + 1 → most_nesting < depth (take k o)
+    → AreFrames o [] (Fault TooDeep)
+too_deep o k is short deep = only_fault o TooDeep (⊎_elim
+    (λ (lt : k < length o). deep_at o k is (omega (arith, lt)) short deep)
+    (λ (le : length o ≤ k). absurd (omega (arith, ap depth (take_all k o le), is.ends, deep)))
+    (cases_lt k (length o)))
+
+-- the same of bytes within the limit of length, whichever place it is
+pub deep_frames : (o : List ℕ) (k : ℕ) → IsBalanced o → length o ≤ most_bytes → most_nesting < depth (take k o)
+    → AreFrames o [] (Fault TooDeep)
+deep_frames o k is fits deep = ⊎_elim
+    (λ (lt : k < length o). too_deep o k is (omega (arith, lt, fits)) deep)
+    (λ (le : length o ≤ k). absurd (omega (arith, ap depth (take_all k o le), is.ends, deep)))
+    (cases_lt k (length o))
+
+-- a fault that is too deep stands at a place that is
+deep_place : (o : List ℕ) → HasFault o TooDeep
+    → (k : ℕ) × (k ≤ most_bytes + 1) × (most_nesting < depth (take k o))
+deep_place o h =
+    let n = length (h.before ++ h.byte ∷ []) in
+    let front : take n o ≡ h.before ++ h.byte ∷ [] =
+    ap (take n) (h.whole ∙ sym (append_assoc h.before (h.byte ∷ []) h.more)) ∙ take-append-le n
+    (h.before ++ h.byte ∷ []) h.more (omega arith) ∙ take-length (h.before ++ h.byte ∷ []) in (
+      n,
+      omega (arith, length-append h.before (h.byte ∷ []), h.unfinished.limits.fits),
+      omega (arith, ap depth front, h.breaks.1),
+    )
+
+-- more bytes than the limit, and no place that is too deep up to the one too many
+long_by : (o : List ℕ) → most_bytes < length o → ((k : ℕ) → k ≤ most_bytes + 1 → depth (take k o) ≤ most_nesting)
+    → IsUnfinished (take most_bytes o) → HasFault o TooLong
+long_by o long low unfinished = fault_after o most_bytes TooLong long unfinished (
+  length-take-le most_bytes o (omega arith),
+  subst (λ (l : List ℕ). depth l ≤ most_nesting)
+      (take_more o most_bytes 0 long) (low (most_bytes + 1) (omega arith)),
+)
+
+pub too_long : (o : List ℕ) → IsBalanced o → most_bytes < length o
+    → ((k : ℕ) → k ≤ most_bytes + 1 → depth (take k o) ≤ most_nesting) → AreFrames o [] (Fault TooLong)
+too_long o is long low = only_fault o TooLong (⊎_elim (long_by o long low)
+    (λ (h : HasFault o TooDeep). let at = deep_place o h in absurd (omega (arith, low at.0 at.1, at.2)))
+    (up_to o most_bytes is long (omega arith)))
+
+-- the byte that is one too many is one of the two faults
+either_by : (o : List ℕ) → IsBalanced o → most_bytes < length o → IsUnfinished (take most_bytes o)
+    → AreFrames o [] (Fault TooDeep) ⊎ AreFrames o [] (Fault TooLong)
+either_by o is long unfinished =
+    let next : take (most_bytes + 1) o ≡ take most_bytes o ++ get_or o most_bytes 0 ∷ [] = take_more o most_bytes 0 long in
+    ⊎_elim
+    (λ (deep : most_nesting < depth (take (most_bytes + 1) o)). inl
+    (only_fault o TooDeep (deep_after o most_bytes is long (omega arith) deep)))
+    (λ (low : depth (take (most_bytes + 1) o) ≤ most_nesting). inr
+    (only_fault o TooLong (fault_after o most_bytes TooLong long unfinished
+    (length-take-le most_bytes o (omega arith), subst (λ (l : List ℕ). depth l ≤ most_nesting) next low))))
+    (cases_lt most_nesting (depth (take (most_bytes + 1) o)))
+
+-- above the limit of length it is one of the two
+pub either : (o : List ℕ) → IsBalanced o → most_bytes < length o
+    → AreFrames o [] (Fault TooDeep) ⊎ AreFrames o [] (Fault TooLong)
+either o is long = ⊎_elim (either_by o is long) (λ (h : HasFault o TooDeep). inl (only_fault o TooDeep h))
+    (up_to o most_bytes is long (omega arith))

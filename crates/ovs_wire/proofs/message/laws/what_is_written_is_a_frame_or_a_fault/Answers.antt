@@ -1,0 +1,11 @@
+use Rattle.ovs_wire.proofs.Over.{either}
+use Rattle.ovs_wire.proofs.Through.{sent_frame, written_deep, written_long}
+use Rattle.ovs_wire.proofs.message.laws.what_is_written_is_a_frame_or_a_fault.Goals as goal
+
+pub returns : goal.returns
+returns c = record {
+  frame = sent_frame;
+  too_deep = written_deep;
+  too_long = written_long;
+  either = λ m bytes is deep long. either bytes is.balanced long;
+}

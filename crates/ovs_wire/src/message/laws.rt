@@ -1,0 +1,55 @@
+//! Laws on texts and the messages that they say.
+ghost use Rattle.std.specs.Prelude.{◌≡◌, ◌<◌, ◌≤◌, ◌⊎◌, ◌++◌, ◌∷◌, [], ℕ, List, length};
+ghost use Rattle.std.specs.List.{concat, AllZip};
+ghost use Rattle.serde_json.specs.Data.{object, Members, depth};
+ghost use Rattle.serde_json.specs.Read.{max_depth};
+ghost use Rattle.ovs_wire.specs.declared.error.FrameError.TheVariants.{TooDeep, TooLong};
+ghost use Rattle.ovs_wire.specs.declared.message.Message.{Message};
+ghost use Rattle.ovs_wire.specs.Limits.{most_nesting, most_bytes};
+ghost use Rattle.ovs_wire.specs.Frames.{Rest, Fault, IsBalanced, IsWithinLimits, IsObject, IsPadded, IsBare, AreFrames};
+ghost use Rattle.ovs_wire.specs.Framing.{Framing, IsNew, Call, Leads, fed, taken};
+ghost use Rattle.ovs_wire.specs.Message.{IsText, Says, IsWritten, IsSent, ReadsBack, json};
+
+/// A text says one message at most.
+pub fn a_text_says_one_message()
+    ensures law { (bytes : List ℕ) (m n : Message) → Says bytes m → Says bytes n → m ≡ n }
+{}
+
+/// Every text of a JSON object, however it is spelled, is balanced bytes, perhaps with white space around them; and
+/// where it is within the limits it is one frame of a stream.
+pub fn any_text_of_an_object_is_one_frame()
+    ensures balanced { (bytes : List ℕ) (ms : Members) → IsText bytes (object ms)
+        → (o : List ℕ) × IsPadded bytes o × IsBalanced o }
+    ensures bare { (bytes : List ℕ) (ms : Members) → IsText bytes (object ms) → IsBare bytes → IsBalanced bytes }
+    ensures frame { (bytes : List ℕ) (ms : Members) → IsText bytes (object ms) → IsWithinLimits bytes
+        → (o : List ℕ) × IsPadded bytes o × IsObject o × AreFrames bytes (o ∷ []) (Rest []) }
+{}
+
+/// What is written for a message that nests at most 127 deep is text that says this message and no other.
+pub fn what_is_written_is_said()
+    ensures law { (m : Message) (bytes : List ℕ) → IsWritten m bytes → depth (json m) ≤ max_depth
+        → Says bytes m × ((n : Message) → Says bytes n → n ≡ m) }
+{}
+
+/// What is written is one frame within the limits. Above one of them it is this fault and nothing else, and above both
+/// it is one of the two.
+pub fn what_is_written_is_a_frame_or_a_fault()
+    ensures frame { (m : Message) (bytes : List ℕ) → IsSent m bytes → AreFrames bytes (bytes ∷ []) (Rest []) }
+    ensures too_deep { (m : Message) (bytes : List ℕ) → IsWritten m bytes → most_nesting < depth (json m)
+        → length bytes ≤ most_bytes → AreFrames bytes [] (Fault TooDeep) }
+    ensures too_long { (m : Message) (bytes : List ℕ) → IsWritten m bytes → depth (json m) ≤ most_nesting
+        → most_bytes < length bytes → AreFrames bytes [] (Fault TooLong) }
+    ensures either { (m : Message) (bytes : List ℕ) → IsWritten m bytes → most_nesting < depth (json m)
+        → most_bytes < length bytes
+        → AreFrames bytes [] (Fault TooDeep) ⊎ AreFrames bytes [] (Fault TooLong) }
+{}
+
+/// Messages come through: where what is written for them is fed to a new framer one after another, in whatever pieces,
+/// what was taken so far reads as the first messages, in order; and as all of them once all was fed and none waits.
+pub fn messages_come_through()
+    ensures law { (messages : List Message) (texts : List (List ℕ)) (calls : List Call) (later : List ℕ)
+        (new now : Framing) → AllZip IsSent messages texts → IsNew new → Leads calls new now
+        → fed calls ++ later ≡ concat texts
+        → (read : List Message) × (left : List Message) × (messages ≡ read ++ left)
+        × AllZip ReadsBack read (taken calls) × (later ≡ [] → now.waiting ≡ [] → left ≡ []) }
+{}
