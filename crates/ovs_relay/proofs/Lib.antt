@@ -1,15 +1,2 @@
-pub mod Breaks
-pub mod Taking
-pub mod Sent
-pub mod Texts
-pub mod Way
-pub mod Spent
-pub mod JsonLines
-pub mod Same
-pub mod Values
-pub mod Intakes
-pub mod Closings
-pub mod Merges
-pub mod BothTexts
 pub mod CommandFaults
 pub mod CommandLines

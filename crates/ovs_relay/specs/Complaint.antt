@@ -1,7 +1,7 @@
 -- What the program says on standard error.
 use Rattle.std.specs.Prelude.{ℕ}
-use Rattle.ovs_relay.specs.declared.run.RunEnd.{RunEnd}
-use Rattle.ovs_relay.specs.declared.run.RunEnd.TheVariants as ends
+use Rattle.ovs_script.specs.declared.run_end.RunEnd.{RunEnd}
+use Rattle.ovs_script.specs.declared.run_end.RunEnd.TheVariants as ends
 use Rattle.ovs_relay.specs.declared.complaint.Complaint.{Complaint}
 use Rattle.ovs_relay.specs.declared.complaint.Complaint.TheVariants.{NotUtf8, Unopened, UnreadFile, UnreadInput, Unwritten, TurnsSpent, NoMemory}
 

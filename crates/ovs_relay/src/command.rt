@@ -11,7 +11,7 @@ use thiserror::Error;
 
 /// What a command line asks for.
 #[derive(Debug, Drop)]
-pub enum Task {
+pub(crate) enum Task {
     /// Fold a schema and links from standard input, and merge the links of this file.
     Fold { merge: Option<String> },
     /// Print this text and end.
@@ -20,7 +20,7 @@ pub enum Task {
 
 /// Why a command line asks for nothing.
 #[derive(Debug, Drop, Error)]
-pub enum CommandFault {
+pub(crate) enum CommandFault {
     /// The words are off; one line says how.
     #[error("{0}")]
     Usage(String),
@@ -31,7 +31,7 @@ pub enum CommandFault {
 
 impl CommandFault {
     /// The exit status of the program: 2 a fault of the command line, 3 memory gave out.
-    pub fn status(&self) -> u8
+    pub(crate) fn status(&self) -> u8
         ensures value { result ≡ fault_status self.now }
     {
         match self {

@@ -1,16 +1,16 @@
 //! What the program says on standard error of a device, of memory or of the words that it was called with.
 
 ghost use Rattle.std.specs.Prelude.{◌≡◌, ◌↔◌, Some, IfSome, is_none};
-ghost use Rattle.ovs_relay.specs.RunEnd.{is_whole, status_of};
+ghost use Rattle.ovs_script.specs.RunEnd.{is_whole, status_of};
 ghost use Rattle.ovs_relay.specs.Complaint.{complaint_status, SaysWhy};
 
-use crate::run::RunEnd;
+use ovs_script::RunEnd;
 use thiserror::Error;
 
 /// Why the program ends with status 2 or 3, other than by a fault that `command` tells. A path is shown in quotes and with
 /// its line breaks escaped, so that each is one line.
 #[derive(Clone, Copy, Debug, PartialEq, Eq, Error)]
-pub enum Complaint<'a> {
+pub(crate) enum Complaint<'a> {
     /// A word of the command line is no UTF-8.
     #[error("a word of the command line is no UTF-8")]
     NotUtf8,
@@ -36,7 +36,7 @@ pub enum Complaint<'a> {
 
 impl<'a> Complaint<'a> {
     /// The exit status of the program: 2 a fault of the command line, 3 memory, a device or the calls gave out.
-    pub fn status(self) -> u8
+    pub(crate) fn status(self) -> u8
         ensures value { result ≡ complaint_status self.entry }
     {
         match self {
@@ -48,7 +48,7 @@ impl<'a> Complaint<'a> {
 
 /// What to say of the end of a run over the input and perhaps a file: nothing where all is written. A read fault is the
 /// file's where the input's reader has counted no failure.
-pub fn complaint_of<'a>(
+pub(crate) fn complaint_of<'a>(
     end: RunEnd,
     file: Option<&'a str>,
     input_failures: u64,

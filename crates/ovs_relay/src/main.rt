@@ -1,41 +1,14 @@
 //! A relay tier for OVSDB: the program and its commands.
 #![tactic(auto)]
 
-mod closing;
 mod command;
-#[cfg(test)]
-mod command_tests;
 mod complaint;
 #[cfg(test)]
-mod complaint_tests;
-mod fault;
-mod fold;
-#[cfg(test)]
-mod fold_limits_tests;
-#[cfg(test)]
-mod fold_tests;
-mod intake;
-mod line;
-mod lines;
-#[cfg(test)]
-mod merge_tests;
-mod merging;
-mod pending;
-mod reading;
-mod run;
-mod script;
-mod sending;
-mod stores;
-#[cfg(test)]
 mod tests;
-mod turns;
-mod two_texts;
-mod window;
-mod words;
 
 use command::{Task, command};
 use complaint::{Complaint, complaint_of};
-use fold::fold_run;
+use ovs_fold::fold_run;
 use ovs_wire::Counted;
 use std::fmt::Display;
 use std::fs::File;

@@ -1,0 +1,72 @@
+-- What the lines of the script `fold` say: a schema, and links.
+use Rattle.std.specs.Prelude.{ℕ, List, Bool, not, ◌&&◌, ◌==◌, ◌^◌, Option, Some, None, Result, Ok, Err, nat_le, if◌then◌else◌, option_map, option_and_then}
+use Rattle.std.specs.Option.{ok_or}
+use Rattle.serde_json.specs.Data.{Data}
+use Rattle.serde_json.specs.Find.{as_str, as_object}
+use Rattle.ovs_json.specs.Parts.{json_of, three_items}
+use Rattle.ovs_types.specs.Id.{read_id}
+use Rattle.ovs_types.specs.Results.{◌>>=◌}
+use Rattle.ovs_types.specs.Schema.{SchemaValue}
+use Rattle.ovs_types.specs.SchemaReading.{read_description}
+use Rattle.ovs_types.specs.declared.schema.Table.{Table}
+use Rattle.ovs_types.specs.declared.schema.Description.{Description}
+use Rattle.ovs_types.specs.declared.schema.error.SchemaError.{SchemaError}
+use Rattle.ovs_rows.specs.declared.error.ChangeError.{ChangeError}
+use Rattle.ovs_rows.specs.Change.{Actions}
+use Rattle.ovs_rows.specs.ChangeReading.{read_change}
+use Rattle.ovs_links.specs.Link.{LinkValue}
+use Rattle.ovs_fold.specs.declared.words.Refusal.{Refusal}
+use Rattle.ovs_fold.specs.declared.words.Refusal.TheVariants as link
+use Rattle.ovs_fold.specs.declared.words.SchemaRefusal.{SchemaRefusal}
+use Rattle.ovs_fold.specs.declared.words.SchemaRefusal.TheVariants as schema
+
+-- ---- the schema's line
+
+abbrev pub schema_with : Data → Result Description SchemaError → Result SchemaValue SchemaRefusal
+schema_with d (Ok description) = Ok (record { description = description; json = d })
+schema_with d (Err fault) = Err (schema.BadSchema fault)
+
+abbrev pub schema_of_json : Data → Result SchemaValue SchemaRefusal
+schema_of_json d = schema_with d (read_description d)
+
+-- the schema that a line gives, or why it is refused; None is a line above the limit
+abbrev pub schema_of_line : Option (List ℕ) → Result SchemaValue SchemaRefusal
+schema_of_line None = Err schema.TooLong
+schema_of_line (Some line) = ok_or (json_of line) schema.BadJson >>= schema_of_json
+
+-- ---- a link's line
+
+-- two texts and an object
+abbrev pub texts_and_object : Data × Data × Data → Option (List ℕ × List ℕ × Data)
+texts_and_object p =
+    option_and_then (λ prev. option_and_then (λ id. option_map (λ members. (prev, id, p.2)) (as_object p.2)) (as_str p.1)) (as_str p.0)
+
+-- the texts of two ids, and a change's JSON
+abbrev pub parts_of : Data → Option (List ℕ × List ℕ × Data)
+parts_of d = option_and_then texts_and_object (three_items d)
+
+abbrev pub change_or_refusal : Result Actions ChangeError → Result Actions Refusal
+change_or_refusal (Ok change) = Ok change
+change_or_refusal (Err fault) = Err (link.BadChange fault)
+
+-- an id of a commit, and not the one before it
+abbrev pub are_ends : ℕ → ℕ → Bool
+are_ends prev id = nat_le (2 ^ 64) id && not (id == prev)
+
+abbrev pub link_between : ℕ → ℕ → Actions → Result LinkValue Refusal
+link_between prev id change = if are_ends prev id then Ok (record { prev = prev; id = id; change = change }) else Err link.BadId
+
+abbrev pub link_of_parts : List Table → List ℕ × List ℕ × Data → Result LinkValue Refusal
+link_of_parts tables parts = do
+  prev ← ok_or (read_id parts.0) link.BadId
+  id ← ok_or (read_id parts.1) link.BadId
+  change ← change_or_refusal (read_change tables parts.2)
+  link_between prev id change
+
+abbrev pub link_of_json : List Table → Data → Result LinkValue Refusal
+link_of_json tables d = ok_or (parts_of d) link.BadShape >>= link_of_parts tables
+
+-- the link that a line gives, or why it is refused before it is taken
+abbrev pub link_of_line : List Table → Option (List ℕ) → Result LinkValue Refusal
+link_of_line tables None = Err link.TooLong
+link_of_line tables (Some line) = ok_or (json_of line) link.BadJson >>= link_of_json tables

@@ -1,0 +1,43 @@
+-- The words for what becomes of a line.
+use Rattle.std.specs.Prelude.{ℕ, List, ◌++◌, Result, Ok, Err, codes}
+use Rattle.std.specs.Fmt.{decimal}
+use Rattle.ovs_types.specs.Id.{id_text}
+use Rattle.ovs_types.specs.SchemaFaults as schemas
+use Rattle.ovs_rows.specs.Faults.{change_word}
+use Rattle.ovs_fold.specs.declared.words.Refusal.{Refusal}
+use Rattle.ovs_fold.specs.declared.words.Refusal.TheVariants as link
+use Rattle.ovs_fold.specs.declared.words.SchemaRefusal.{SchemaRefusal}
+use Rattle.ovs_fold.specs.declared.words.SchemaRefusal.TheVariants as schema
+use Rattle.ovs_fold.specs.declared.words.Outcome.{Outcome}
+use Rattle.ovs_fold.specs.declared.words.Outcome.TheVariants.{Took, Held, Refused}
+
+-- why a link's line is refused; of a fork, the two ids of the held link
+abbrev pub link_word : Refusal → List ℕ
+link_word link.TooLong = codes "too-long"
+link_word link.BadJson = codes "bad-json"
+link_word link.BadShape = codes "bad-shape"
+link_word link.BadId = codes "bad-id"
+link_word (link.BadChange fault) = change_word fault
+link_word (link.Fork prev id) = codes "fork " ++ (id_text prev ++ (codes " " ++ id_text id))
+link_word link.Full = codes "full"
+
+-- why a schema's line is refused
+abbrev pub schema_word : SchemaRefusal → List ℕ
+schema_word schema.TooLong = codes "too-long"
+schema_word schema.BadJson = codes "bad-json"
+schema_word (schema.BadSchema fault) = schemas.schema_word fault
+
+-- the line that is all there is of a refused schema
+abbrev pub schema_line : SchemaRefusal → List ℕ
+schema_line refusal = codes "schema refused " ++ (schema_word refusal ++ codes "\n")
+
+-- the line for link line n
+abbrev pub outcome_line : ℕ → Outcome → List ℕ
+outcome_line n Took = decimal n ++ codes " took\n"
+outcome_line n Held = decimal n ++ codes " held\n"
+outcome_line n (Refused refusal) = decimal n ++ (codes " refused " ++ (link_word refusal ++ codes "\n"))
+
+-- the line that tells how two stores were merged
+abbrev pub merge_line : Result (Unit {0}) Refusal → List ℕ
+merge_line (Ok u) = codes "merge ok\n"
+merge_line (Err refusal) = codes "merge refused " ++ (link_word refusal ++ codes "\n")

@@ -1,0 +1,150 @@
+//! What the lines of the script `fold` say.
+
+ghost use Rattle.std.specs.Prelude.{◌≡◌, ◌≢◌, IfOk, OnOk, option_map};
+ghost use Rattle.serde_json.specs.View.{view};
+ghost use Rattle.ovs_rows.specs.ChangeReading.{read_change};
+ghost use Rattle.ovs_rows.specs.Change.{IsChangeOf};
+ghost use Rattle.ovs_fold.specs.Reading.{schema_of_json, schema_of_line, parts_of, change_or_refusal, link_between, link_of_parts, link_of_json, link_of_line};
+
+use crate::words::{Refusal, SchemaRefusal};
+use ovs_json::{read_json, three_items};
+use ovs_links::Link;
+use ovs_rows::{Change, ChangeError};
+use ovs_types::{DatumError, NoMemory, Schema, SchemaError, TxnId};
+use serde_json::Value;
+use std::alloc::Global;
+
+// A fault of a schema as a refusal, but for want of memory.
+fn schema_refusal(fault: SchemaError) -> Result<SchemaRefusal, NoMemory>
+    ensures value { IfOk result (λ refusal. refusal ≡ SchemaRefusal.BadSchema fault) }
+    ensures fault { OnOk result (fault ≢ SchemaError.NoMemory) }
+{
+    match fault {
+        SchemaError::NoMemory => Err(NoMemory),
+        _ => Ok(SchemaRefusal::BadSchema(fault)),
+    }
+}
+
+fn schema_of_json(alloc: Global, value: &Value) -> Result<Result<Schema, SchemaRefusal>, NoMemory>
+    ensures value { IfOk result (λ schema. schema ≡ schema_of_json (view value.now)) }
+{
+    match Schema::read(alloc, value) {
+        Ok(schema) => Ok(Ok(schema)),
+        Err(fault) => Ok(Err(schema_refusal(fault)?)),
+    }
+}
+
+/// The schema that a line gives, or why it is refused. `None` is a line above the limit.
+pub(crate) fn schema_of_line(
+    alloc: Global,
+    line: Option<&[u8]>,
+) -> Result<Result<Schema, SchemaRefusal>, NoMemory>
+    ensures value { IfOk result (λ schema. schema ≡ schema_of_line (option_map (λ l. l.now) line.entry)) }
+{
+    let Some(line) = line else {
+        return Ok(Err(SchemaRefusal::TooLong));
+    };
+    match read_json(alloc, line)? {
+        None => Ok(Err(SchemaRefusal::BadJson)),
+        Some(value) => schema_of_json(alloc, &value),
+    }
+}
+
+// The texts of two ids, and a change's JSON.
+fn parts_of(value: &Value) -> Option<(&str, &str, &Value)>
+    ensures value { option_map (λ p. (p.0.now, p.1.now, view p.2.now)) result ≡ parts_of (view value.now) }
+{
+    let (prev, id, change) = three_items(value)?;
+    let prev = prev.as_str()?;
+    let id = id.as_str()?;
+    let _ = change.as_object()?;
+    Some((prev, id, change))
+}
+
+// A fault of a change as a refusal, but for want of memory.
+fn change_refusal(fault: ChangeError) -> Result<Refusal, NoMemory>
+    ensures value { IfOk result (λ refusal. refusal ≡ Refusal.BadChange fault) }
+    ensures fault { OnOk result (fault ≢ ChangeError.NoMemory) }
+{
+    match fault {
+        ChangeError::NoMemory | ChangeError::Datum(DatumError::NoMemory) => Err(NoMemory),
+        _ => Ok(Refusal::BadChange(fault)),
+    }
+}
+
+fn change_of(
+    alloc: Global,
+    value: &Value,
+    schema: &Schema,
+) -> Result<Result<Change, Refusal>, NoMemory>
+    ensures value { IfOk result (λ change. change ≡ change_or_refusal (read_change schema.now.description.tables (view value.now))) }
+    ensures tables { IfOk result (λ change. IfOk change (IsChangeOf schema.now.description.tables)) }
+{
+    match Change::read(alloc, value, schema) {
+        Ok(change) => Ok(Ok(change)),
+        Err(fault) => Ok(Err(change_refusal(fault)?)),
+    }
+}
+
+fn link_between(prev: TxnId, id: TxnId, change: Change) -> Result<Link, Refusal>
+    ensures value { result ≡ link_between prev id change }
+{
+    match Link::new(prev, id, change) {
+        Ok(link) => Ok(link),
+        Err(_) => Err(Refusal::BadId),
+    }
+}
+
+fn link_of_parts(
+    alloc: Global,
+    prev: &str,
+    id: &str,
+    change: &Value,
+    schema: &Schema,
+) -> Result<Result<Link, Refusal>, NoMemory>
+    ensures value { IfOk result (λ link. link ≡ link_of_parts schema.now.description.tables (prev.now, id.now, view change.now)) }
+    ensures tables { IfOk result (λ link. IfOk link (λ l. IsChangeOf schema.now.description.tables l.change)) }
+{
+    let Ok(prev) = TxnId::read(prev) else {
+        return Ok(Err(Refusal::BadId));
+    };
+    let Ok(id) = TxnId::read(id) else {
+        return Ok(Err(Refusal::BadId));
+    };
+    match change_of(alloc, change, schema)? {
+        Ok(change) => Ok(link_between(prev, id, change)),
+        Err(refusal) => Ok(Err(refusal)),
+    }
+}
+
+fn link_of_json(
+    alloc: Global,
+    value: &Value,
+    schema: &Schema,
+) -> Result<Result<Link, Refusal>, NoMemory>
+    ensures value { IfOk result (λ link. link ≡ link_of_json schema.now.description.tables (view value.now)) }
+    ensures tables { IfOk result (λ link. IfOk link (λ l. IsChangeOf schema.now.description.tables l.change)) }
+{
+    match parts_of(value) {
+        None => Ok(Err(Refusal::BadShape)),
+        Some((prev, id, change)) => link_of_parts(alloc, prev, id, change, schema),
+    }
+}
+
+/// The link that a line gives, or why it is refused before it is taken. `None` is a line above the limit.
+pub(crate) fn link_of_line(
+    alloc: Global,
+    line: Option<&[u8]>,
+    schema: &Schema,
+) -> Result<Result<Link, Refusal>, NoMemory>
+    ensures value { IfOk result (λ link. link ≡ link_of_line schema.now.description.tables (option_map (λ l. l.now) line.entry)) }
+    ensures tables { IfOk result (λ link. IfOk link (λ l. IsChangeOf schema.now.description.tables l.change)) }
+{
+    let Some(line) = line else {
+        return Ok(Err(Refusal::TooLong));
+    };
+    match read_json(alloc, line)? {
+        None => Ok(Err(Refusal::BadJson)),
+        Some(value) => link_of_json(alloc, &value, schema),
+    }
+}
