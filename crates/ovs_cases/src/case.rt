@@ -1,0 +1,101 @@
+//! A case by its first word.
+
+use crate::fault::Fault;
+use crate::{changes, data, devices, folds, ids, messages, schemas, scripts, stores, streams};
+use ovs_types::Schema;
+use serde_json::Value;
+use std::alloc::Global;
+
+/// The argument at a place; the word is at 0.
+pub(crate) fn part(parts: &[Value], at: usize) -> Result<&Value, Fault> {
+    parts.get(at).ok_or(Fault::Malformed)
+}
+
+/// The same where it is a text.
+pub(crate) fn text(parts: &[Value], at: usize) -> Result<&str, Fault> {
+    part(parts, at)?.as_str().ok_or(Fault::Malformed)
+}
+
+/// The same where it is a list.
+pub(crate) fn list(parts: &[Value], at: usize) -> Result<&[Value], Fault> {
+    match part(parts, at)?.as_array() {
+        Some(items) => Ok(items.as_slice()),
+        None => Err(Fault::Malformed),
+    }
+}
+
+/// A word as an answer.
+pub(crate) fn word(alloc: Global, word: &str) -> Result<String, Fault> {
+    Ok(String::from_str(alloc, word)?)
+}
+
+/// `true` or `false`.
+pub(crate) fn truth(alloc: Global, truth: bool) -> Result<String, Fault> {
+    word(alloc, if truth { "true" } else { "false" })
+}
+
+// The cases that are asked of the schema in use.
+fn of_schema(alloc: Global, schema: &Schema, what: &str, parts: &[Value]) -> Result<String, Fault> {
+    match what {
+        "find" => schemas::find(alloc, schema, parts),
+        "change" => changes::change(alloc, schema, parts),
+        "same change" => changes::same(alloc, schema, parts),
+        "database" => changes::database(alloc, schema, parts),
+        "told" => changes::told(alloc, schema, parts),
+        "difference of databases" => changes::difference(alloc, schema, parts),
+        "store" => stores::store(alloc, schema, parts),
+        "fold" => folds::fold(alloc, schema, parts),
+        _ => Err(Fault::Malformed),
+    }
+}
+
+// The cases that need none.
+fn alone(alloc: Global, what: &str, parts: &[Value]) -> Result<Option<String>, Fault> {
+    let answer = match what {
+        "id" => ids::id(alloc, parts)?,
+        "row id" => ids::row_id(alloc, parts)?,
+        "name" => ids::name(alloc, parts)?,
+        "schema" => schemas::schema(alloc, parts)?,
+        "schema as JSON" => schemas::json(alloc, parts)?,
+        "same schema" => schemas::same(alloc, parts)?,
+        "datum" => data::datum(alloc, parts)?,
+        "atom" => data::atom(alloc, parts)?,
+        "same datum" => data::same(alloc, parts)?,
+        "difference" => data::difference(alloc, parts)?,
+        "default" => data::default(alloc, parts)?,
+        "contains" => data::contains(alloc, parts)?,
+        "get" => data::get(alloc, parts)?,
+        "includes" => data::includes(alloc, parts)?,
+        "has keys" => data::has_keys(alloc, parts)?,
+        "frames" => streams::frames(alloc, parts)?,
+        "cut anywhere" => streams::cut_anywhere(alloc, parts)?,
+        "message" => messages::message(alloc, parts)?,
+        "counted" => devices::counted(alloc, parts)?,
+        "fold bytes" => folds::fold_bytes(alloc, parts)?,
+        "script" => scripts::script(alloc, parts)?,
+        "silent script" => scripts::over_silence(alloc)?,
+        _ => return Ok(None),
+    };
+    Ok(Some(answer))
+}
+
+/// What a case answers.
+pub(crate) fn answer(
+    alloc: Global,
+    schema: &mut Option<Schema>,
+    parts: &[Value],
+) -> Result<String, Fault> {
+    let what = text(parts, 0)?;
+    if what == "use" {
+        let read = Schema::read(alloc, part(parts, 1)?).map_err(|_| Fault::Malformed)?;
+        *schema = Some(read);
+        return word(alloc, "ok");
+    }
+    match alone(alloc, what, parts)? {
+        Some(answer) => Ok(answer),
+        None => {
+            let schema = schema.as_ref().ok_or(Fault::Malformed)?;
+            of_schema(alloc, schema, what, parts)
+        }
+    }
+}

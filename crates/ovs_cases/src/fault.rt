@@ -1,0 +1,52 @@
+//! Why a case has no answer.
+
+use ovs_types::NoMemory;
+use std::alloc::{AllocError, AllocFailed};
+
+#[derive(Clone, Copy, Debug, PartialEq, Eq)]
+pub(crate) enum Fault {
+    /// The line is no case.
+    Malformed,
+    /// No link has such ids.
+    BadId,
+    /// Memory ran out.
+    NoMemory,
+}
+
+impl Fault {
+    pub(crate) fn word(self) -> &'static str {
+        match self {
+            Fault::Malformed => "no such case",
+            Fault::BadId => "bad-id",
+            Fault::NoMemory => "no memory",
+        }
+    }
+}
+
+impl From<NoMemory> for Fault {
+    fn from(_error: NoMemory) -> Fault {
+        Fault::NoMemory
+    }
+}
+
+impl From<AllocError> for Fault {
+    fn from(_error: AllocError) -> Fault {
+        Fault::NoMemory
+    }
+}
+
+impl<T: Drop> From<AllocFailed<T>> for Fault {
+    fn from(_error: AllocFailed<T>) -> Fault {
+        Fault::NoMemory
+    }
+}
+
+impl From<serde_json::Error> for Fault {
+    fn from(error: serde_json::Error) -> Fault {
+        if error.is_memory() {
+            Fault::NoMemory
+        } else {
+            Fault::Malformed
+        }
+    }
+}

@@ -1,0 +1,127 @@
+//! Runs of the script `fold`. In what it reads and in what it writes a letter stands for the id that is written with
+//! it, `0` for the id of zeros and `r` for a row's.
+
+use crate::case::{list, part};
+use crate::fault::Fault;
+use crate::streams::add_bytes_of;
+use ovs_fold::fold_run;
+use ovs_script::RunEnd;
+use ovs_types::Schema;
+use ovs_wire::Counted;
+use serde_json::Value;
+use std::alloc::Global;
+
+const IDS: [(&str, &str); 6] = [
+    ("0", "00000000-0000-0000-0000-000000000000"),
+    ("a", "aaaaaaaa-aaaa-4aaa-8aaa-aaaaaaaaaaaa"),
+    ("b", "bbbbbbbb-bbbb-4bbb-8bbb-bbbbbbbbbbbb"),
+    ("c", "cccccccc-cccc-4ccc-8ccc-cccccccccccc"),
+    ("d", "dddddddd-dddd-4ddd-8ddd-dddddddddddd"),
+    ("r", "11111111-1111-4111-8111-111111111111"),
+];
+
+// The text with one part in the place of another, wherever that stands.
+fn replaced(alloc: Global, text: &str, part: &str, by: &str) -> Result<String, Fault> {
+    let mut told = String::new(alloc);
+    for (number, between) in text.split(part).enumerate() {
+        if number > 0 {
+            told.push_str(by)?;
+        }
+        told.push_str(between)?;
+    }
+    Ok(told)
+}
+
+// A line as it is read: each text of one letter is spelled out.
+fn spelled_out(alloc: Global, line: &Value) -> Result<String, Fault> {
+    let mut text = line.to_string(alloc)?;
+    for (letter, id) in IDS {
+        let short = format!(in alloc; "\"{letter}\"")?;
+        let long = format!(in alloc; "\"{id}\"")?;
+        text = replaced(alloc, text.as_str(), short.as_str(), long.as_str())?;
+    }
+    Ok(text)
+}
+
+// What was written in one line, the ids as letters.
+fn shortened(alloc: Global, text: &str) -> Result<String, Fault> {
+    let mut text = replaced(alloc, text, "\n", " | ")?;
+    for (letter, id) in IDS {
+        text = replaced(alloc, text.as_str(), id, letter)?;
+    }
+    Ok(text)
+}
+
+// A text is a line as it stands, any other value its JSON.
+fn add_lines(alloc: Global, text: &mut Vec<u8>, lines: &[Value]) -> Result<(), Fault> {
+    for line in lines {
+        match line {
+            Value::String(line) => text.extend_from_slice(line.as_bytes())?,
+            line => text.extend_from_slice(spelled_out(alloc, line)?.as_bytes())?,
+        }
+        text.push(b'\n')?;
+    }
+    Ok(())
+}
+
+/// How a run ended, in a word.
+pub(crate) fn end_word(end: RunEnd) -> &'static str {
+    match end {
+        RunEnd::Clean => "clean",
+        RunEnd::Refused => "refused",
+        RunEnd::ReadFault => "read fault",
+        RunEnd::WriteFault => "write fault",
+        RunEnd::TurnsSpent => "turns spent",
+        RunEnd::NoMemory => "no memory",
+    }
+}
+
+// What is written, how the run ended, and whether a second text stayed unread.
+fn run(alloc: Global, input: &[u8], second: Option<&[u8]>) -> Result<String, Fault> {
+    let mut reader = Counted::new(input);
+    let mut merge = second.map(Counted::new);
+    let mut writer = Counted::new(Vec::new(alloc));
+    let end = fold_run(alloc, &mut reader, &mut merge, &mut writer);
+    let written = writer.into_inner();
+    let Ok(text) = std::str::from_utf8(written.as_slice()) else {
+        return Err(Fault::Malformed);
+    };
+    let text = shortened(alloc, text)?;
+    let end = end_word(end);
+    let unread = match merge {
+        Some(second) if second.calls() == 0 => ", file unread",
+        _ => "",
+    };
+    Ok(format!(in alloc; "{text}{end}{unread}")?)
+}
+
+/// `["fold", [LINK, ..]]`, or with the links of a file as a second list: the schema in use, and then these lines.
+pub(crate) fn fold(alloc: Global, schema: &Schema, parts: &[Value]) -> Result<String, Fault> {
+    let mut input = Vec::new(alloc);
+    let schema = schema.to_json()?;
+    input.extend_from_slice(schema.to_string(alloc)?.as_bytes())?;
+    input.push(b'\n')?;
+    add_lines(alloc, &mut input, list(parts, 1)?)?;
+    if parts.len() == 2 {
+        return run(alloc, input.as_slice(), None);
+    }
+    let mut second = Vec::new(alloc);
+    add_lines(alloc, &mut second, list(parts, 2)?)?;
+    run(alloc, input.as_slice(), Some(second.as_slice()))
+}
+
+/// `["fold bytes", [PIECE, ..]]`, or with a file's as a second list: the pieces one after another are what is read.
+pub(crate) fn fold_bytes(alloc: Global, parts: &[Value]) -> Result<String, Fault> {
+    let mut input = Vec::new(alloc);
+    for piece in list(parts, 1)? {
+        add_bytes_of(alloc, &mut input, piece)?;
+    }
+    if parts.len() == 2 {
+        return run(alloc, input.as_slice(), None);
+    }
+    let mut second = Vec::new(alloc);
+    for piece in list(parts, 2)? {
+        add_bytes_of(alloc, &mut second, piece)?;
+    }
+    run(alloc, input.as_slice(), Some(second.as_slice()))
+}

@@ -1,0 +1,66 @@
+//! Ids and names.
+
+use crate::case::{text, word};
+use crate::fault::Fault;
+use ovs_types::{RowId, TxnId, is_id, is_name};
+use serde_json::Value;
+use std::alloc::Global;
+
+/// `["id", TEXT]`: the id in lower case, and whether it is a start id or that of a commit.
+pub(crate) fn id(alloc: Global, parts: &[Value]) -> Result<String, Fault> {
+    match TxnId::read(text(parts, 1)?) {
+        Ok(id) => {
+            let text = id.to_text(alloc)?;
+            let kind = if id.is_start() { "start" } else { "commit" };
+            Ok(format!(in alloc; "{text} {kind}")?)
+        }
+        Err(_) => word(alloc, "bad-id"),
+    }
+}
+
+/// `["row id", TEXT]`: the id in lower case, and its number.
+pub(crate) fn row_id(alloc: Global, parts: &[Value]) -> Result<String, Fault> {
+    match RowId::read(text(parts, 1)?) {
+        Ok(id) => {
+            let text = id.to_text(alloc)?;
+            let number = id.value();
+            Ok(format!(in alloc; "{text} {number:x}")?)
+        }
+        Err(_) => word(alloc, "bad-id"),
+    }
+}
+
+/// `["name", TEXT]`: whether it is an `<id>`, and one that isn't reserved.
+pub(crate) fn name(alloc: Global, parts: &[Value]) -> Result<String, Fault> {
+    let text = text(parts, 1)?;
+    match (is_id(text), is_name(text)) {
+        (true, true) => word(alloc, "name"),
+        (true, false) => word(alloc, "reserved"),
+        (false, false) => word(alloc, "neither"),
+        (false, true) => word(alloc, "a name that is no id"),
+    }
+}
+
+/// A commit's id: a letter stands for the id that is written with it, `0` for the start, other texts for themselves.
+pub(crate) fn commit(text: &str) -> Result<TxnId, Fault> {
+    Ok(match text {
+        "0" => TxnId::zero(),
+        "a" => TxnId::from_value(0xaaaaaaaa_aaaa_4aaa_8aaa_aaaaaaaaaaaa),
+        "b" => TxnId::from_value(0xbbbbbbbb_bbbb_4bbb_8bbb_bbbbbbbbbbbb),
+        "c" => TxnId::from_value(0xcccccccc_cccc_4ccc_8ccc_cccccccccccc),
+        "d" => TxnId::from_value(0xdddddddd_dddd_4ddd_8ddd_dddddddddddd),
+        _ => TxnId::read(text).map_err(|_| Fault::Malformed)?,
+    })
+}
+
+/// The letter of an id, where it has one.
+pub(crate) fn letter(id: TxnId) -> &'static str {
+    match id.value() {
+        0 => "0",
+        0xaaaaaaaa_aaaa_4aaa_8aaa_aaaaaaaaaaaa => "a",
+        0xbbbbbbbb_bbbb_4bbb_8bbb_bbbbbbbbbbbb => "b",
+        0xcccccccc_cccc_4ccc_8ccc_cccccccccccc => "c",
+        0xdddddddd_dddd_4ddd_8ddd_dddddddddddd => "d",
+        _ => "?",
+    }
+}

@@ -1,0 +1,227 @@
+//! Stores of links: what they answer, and what stands in them after that. The ids of commits are letters.
+
+ghost use Rattle.std.specs.Prelude.{◌≡◌, IfOk};
+ghost use Rattle.ovs_links.specs.Sets.{IsOfTables};
+ghost use Rattle.ovs_links.specs.Store.{tables_of};
+
+use crate::case::{list, part, text, truth, word};
+use crate::fault::Fault;
+use crate::ids::{commit, letter};
+use ovs_links::{By, Link, LinkStore, MergeError, Settled, TakeError, Took};
+use ovs_rows::Change;
+use ovs_types::{Schema, TxnId};
+use serde_json::Value;
+use std::alloc::Global;
+
+// The link of three arguments: the ids and the change.
+fn link(alloc: Global, schema: &Schema, parts: &[Value]) -> Result<Link, Fault>
+    ensures tables { IfOk result (IsOfTables schema.now.description.tables) }
+{
+    let [prev, id, change] = parts else {
+        return Err(Fault::Malformed);
+    };
+    let prev = commit(prev.as_str().ok_or(Fault::Malformed)?)?;
+    let id = commit(id.as_str().ok_or(Fault::Malformed)?)?;
+    let Ok(change) = Change::read(alloc, change, schema) else {
+        return Err(Fault::Malformed);
+    };
+    match Link::new(prev, id, change) {
+        Ok(link) => Ok(link),
+        Err(_) => Err(Fault::BadId),
+    }
+}
+
+fn fork_text(alloc: Global, by: By, prev: TxnId, id: TxnId) -> Result<String, Fault> {
+    let shared = match by {
+        By::Prev => "prev",
+        By::Id => "id",
+    };
+    let prev = letter(prev);
+    let id = letter(id);
+    Ok(format!(in alloc; "fork by {shared} with {prev} {id}")?)
+}
+
+fn refused_text(alloc: Global, error: &TakeError) -> Result<String, Fault> {
+    match error {
+        TakeError::Fork {
+            by,
+            held_prev,
+            held_id,
+            ..
+        } => fork_text(alloc, *by, *held_prev, *held_id),
+        TakeError::Full { .. } => word(alloc, "full"),
+        TakeError::NoMemory { .. } => Err(Fault::NoMemory),
+    }
+}
+
+fn take(alloc: Global, store: &mut LinkStore, parts: &[Value]) -> Result<String, Fault>
+    ensures tables { tables_of store.new ≡ tables_of store.old }
+{
+    let link = link(alloc, store.schema(), parts)?;
+    match store.take(link) {
+        Ok(Took::New) => word(alloc, "new"),
+        Ok(Took::Held) => word(alloc, "held"),
+        Err(error) => refused_text(alloc, &error),
+    }
+}
+
+// Where no held link follows the head, and where this one does and fits.
+fn append_link(alloc: Global, store: &mut LinkStore, link: Link) -> Result<String, Fault>
+    requires tables { IsOfTables (tables_of store.old) link }
+    ensures tables { tables_of store.new ≡ tables_of store.old }
+{
+    if !matches!(store.settle(alloc)?, Settled::Done) {
+        return word(alloc, "not settled");
+    }
+    if link.prev() != store.head() || !store.database().fits(link.change()) {
+        return word(alloc, "not next");
+    }
+    match store.append(alloc, link) {
+        Ok(()) => word(alloc, "appended"),
+        Err(error) => refused_text(alloc, &error),
+    }
+}
+
+fn append(alloc: Global, store: &mut LinkStore, parts: &[Value]) -> Result<String, Fault>
+    ensures tables { tables_of store.new ≡ tables_of store.old }
+{
+    let link = link(alloc, store.schema(), parts)?;
+    append_link(alloc, store, link)
+}
+
+fn settle(alloc: Global, store: &mut LinkStore) -> Result<String, Fault>
+    ensures tables { tables_of store.new ≡ tables_of store.old }
+{
+    match store.settle(alloc)? {
+        Settled::Done => word(alloc, "done"),
+        Settled::Stuck(id) => {
+            let id = letter(id);
+            Ok(format!(in alloc; "stuck at {id}")?)
+        }
+    }
+}
+
+fn take_all(alloc: Global, store: &mut LinkStore, links: &[Value]) -> Result<(), Fault>
+    ensures tables { tables_of store.new ≡ tables_of store.old }
+{
+    for parts in links {
+        let parts = parts.as_array().ok_or(Fault::Malformed)?;
+        let _ = take(alloc, store, parts.as_slice())?;
+    }
+    Ok(())
+}
+
+// A settled store of these links.
+fn settled(alloc: Global, schema: &Schema, links: &[Value]) -> Result<LinkStore, Fault>
+    ensures tables { IfOk result (λ store. tables_of store ≡ schema.now.description.tables) }
+{
+    let mut store = LinkStore::new(alloc, schema)?;
+    take_all(alloc, &mut store, links)?;
+    let _ = store.settle(alloc)?;
+    Ok(store)
+}
+
+fn merge_refusal(alloc: Global, error: &MergeError) -> Result<String, Fault> {
+    match error {
+        MergeError::Fork {
+            by,
+            held_prev,
+            held_id,
+        } => fork_text(alloc, *by, *held_prev, *held_id),
+        MergeError::Full => word(alloc, "full"),
+        MergeError::NoMemory => Err(Fault::NoMemory),
+    }
+}
+
+fn merge(alloc: Global, store: &mut LinkStore, links: &[Value]) -> Result<String, Fault>
+    ensures tables { tables_of store.new ≡ tables_of store.old }
+{
+    let other = settled(alloc, store.schema(), links)?;
+    match store.merge(&other) {
+        Ok(()) => word(alloc, "merged"),
+        Err(error) => merge_refusal(alloc, &error),
+    }
+}
+
+fn position(alloc: Global, store: &LinkStore, id: TxnId) -> Result<String, Fault> {
+    match store.position_of(id) {
+        Some(place) => Ok(format!(in alloc; "{place}")?),
+        None => word(alloc, "none"),
+    }
+}
+
+fn link_at(alloc: Global, store: &LinkStore, number: &Value) -> Result<String, Fault> {
+    let number = number.as_u64().ok_or(Fault::Malformed)?;
+    match store.link_at(number as usize) {
+        Some(link) => word(alloc, letter(link.id())),
+        None => word(alloc, "none"),
+    }
+}
+
+// What the store answers to a question that changes nothing.
+fn looked_up(alloc: Global, store: &LinkStore, parts: &[Value]) -> Result<String, Fault> {
+    match text(parts, 0)? {
+        "position" => position(alloc, store, commit(text(parts, 1)?)?),
+        "link at" => link_at(alloc, store, part(parts, 1)?),
+        "holds" => {
+            let link = link(alloc, store.schema(), list(parts, 1)?)?;
+            truth(alloc, store.holds(&link))
+        }
+        _ => Err(Fault::Malformed),
+    }
+}
+
+// What the store answers to an event.
+fn event(alloc: Global, store: &mut LinkStore, parts: &[Value]) -> Result<String, Fault>
+    ensures tables { tables_of store.new ≡ tables_of store.old }
+{
+    let [what, link @ ..] = parts else {
+        return Err(Fault::Malformed);
+    };
+    match what.as_str().ok_or(Fault::Malformed)? {
+        "take" => take(alloc, store, link),
+        "append" => append(alloc, store, link),
+        "settle" => settle(alloc, store),
+        "merge" => merge(alloc, store, list(parts, 1)?),
+        _ => looked_up(alloc, store, parts),
+    }
+}
+
+// The head, how many links are held and parked, and of copies of the steps the ids and how many rows each named.
+fn state(alloc: Global, store: &LinkStore) -> Result<String, Fault> {
+    let head = letter(store.head());
+    let held = store.len();
+    let parked = store.parked();
+    let mut told = format!(in alloc; "head {head}, {held} held, {parked} parked:")?;
+    for step in store.folded().steps() {
+        let step = step.copy()?;
+        let prev = letter(step.prev);
+        let id = letter(step.id);
+        let rows = step.applied.rows().len();
+        let step = format!(in alloc; " {prev}{id}/{rows}")?;
+        told.push_str(step.as_str())?;
+    }
+    Ok(told)
+}
+
+// What the store answers to the events, and what stands in it then.
+fn events(alloc: Global, store: &mut LinkStore, events: &[Value]) -> Result<String, Fault> {
+    let mut told = String::new(alloc);
+    for parts in events {
+        let parts = parts.as_array().ok_or(Fault::Malformed)?;
+        let answer = event(alloc, store, parts.as_slice())?;
+        told.push_str(answer.as_str())?;
+        told.push_str("; ")?;
+    }
+    let state = state(alloc, store)?;
+    told.push_str(state.as_str())?;
+    Ok(told)
+}
+
+/// `["store", [EVENT, ..]]`: what a new store answers to the events, and what stands in it then. An event is `["take",
+/// PREV, ID, CHANGE]`, the same with `append`, `["settle"]`, `["merge", [[PREV, ID, CHANGE], ..]]`, or a question:
+/// `["position", ID]`, `["link at", NUMBER]`, `["holds", [PREV, ID, CHANGE]]`.
+pub(crate) fn store(alloc: Global, schema: &Schema, parts: &[Value]) -> Result<String, Fault> {
+    let mut store = LinkStore::new(alloc, schema)?;
+    events(alloc, &mut store, list(parts, 1)?)
+}
