@@ -1,5 +1,5 @@
 -- The tests of "includes" and "excludes" say what each element and each pair says.
-use Rattle.std.proofs.Common.{◌≡◌, List, [], ◌∷◌, Bool, true, false, cond, ◌||◌, Option, Some, None, refl, sym, ap, subst, ◌∙◌}
+use Rattle.std.proofs.Common.{◌≡◌, List, [], ◌∷◌, Bool, true, false, cond, ◌&&◌, ◌||◌, Option, Some, None, refl, sym, ap, subst, ◌∙◌}
 use Rattle.std.specs.Prelude.{◌↔◌, not}
 use Rattle.std.specs.List.{list_all}
 use Rattle.std.specs.Option.{option_eq}
@@ -80,3 +80,8 @@ excludes_map d ps a = (
   )),
   λ h. hold_pairs (λ p. not (has_pair d p)) ps a (λ k v e. isnt_true (has_pair d (record { key = k; value = v })) (λ present. h.1 k v e ((is_atom (value_in k d) v).0 present))),
 )
+
+-- where there are no pairs, the elements decide
+pub elements_decide : (b : Bool) → b ≡ (b && true)
+elements_decide true = refl
+elements_decide false = refl

@@ -9,6 +9,7 @@ pub mod Laws
 pub mod Gathering
 pub mod Writings
 pub mod Settled
+pub mod Scanning
 pub mod ReadingSteps
 pub mod NamedRowLaws
 pub mod CellSteps

@@ -1,11 +1,12 @@
 //! Databases, and carrying out a change in one.
 
-ghost use Rattle.std.specs.Prelude.{◌≡◌, ◌≢◌, ◌↔◌, IfOk, IfErr, IsTrue, MatchOption, OnErr};
+ghost use Rattle.std.specs.Prelude.{◌≡◌, ◌≢◌, ◌↔◌, ◌∷◌, [], Some, IfOk, IfErr, IsTrue, MatchOption, OnErr};
 ghost use Rattle.std.specs.List.{list_any};
 ghost use Rattle.std.specs.FinMap.{get, entries};
 ghost use Rattle.std.specs.Option.{option_copied};
 ghost use Rattle.ovs_rows.specs.Row.{AreRowsOf, no_rows};
 ghost use Rattle.ovs_rows.specs.Change.{IsChangeOf};
+ghost use Rattle.ovs_rows.specs.Scanning.{rows_past, IsPastLast, IsNext};
 ghost use Rattle.ovs_rows.specs.After.{Fits, Tells, action_fits, fits, is_taken, IsCarriedOut};
 
 mod applying;
@@ -21,7 +22,7 @@ use crate::database::row_map::RowMap;
 use crate::error::ApplyError;
 use crate::place::Place;
 use crate::row::Row;
-use ovs_types::{NoMemory, Schema, TxnId};
+use ovs_types::{NoMemory, RowId, Schema, TxnId};
 use std::alloc::Global;
 use std::marker::Model;
 
@@ -86,6 +87,16 @@ impl Database {
         ensures value { option_copied result ≡ get self.now.rows place }
     {
         self.rows.get(place)
+    }
+
+    /// The row of the table of this number with the least id above another, or of all, and its id; `None` where there is
+    /// none. No memory is taken.
+    pub fn next_row(&self, table: usize, after: Option<RowId>) -> Option<(RowId, &Row)>
+        ensures least { MatchOption result (IsPastLast table after self.now.rows) (λ r. IsNext table after self.now.rows r.0 r.1.now) }
+        // The rows that are left are this one, and those after it.
+        ensures rest { MatchOption result (rows_past table after self.now.rows ≡ []) (λ r. rows_past table after self.now.rows ≡ (record { table = table; id = r.0 }, r.1.now) ∷ rows_past table (Some r.0) self.now.rows) }
+    {
+        self.rows.next_row(table, after)
     }
 
     // Whether an inserted row is absent, and another present.

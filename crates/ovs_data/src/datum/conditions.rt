@@ -3,7 +3,7 @@
 ghost use Rattle.std.specs.Prelude.{◌≡◌, ◌↔◌, IsTrue, not};
 ghost use Rattle.std.specs.List.{list_all};
 ghost use Rattle.ovs_data.specs.Datum.{has_element};
-ghost use Rattle.ovs_data.specs.Conditions.{Includes, Excludes, has_pair};
+ghost use Rattle.ovs_data.specs.Conditions.{Includes, Excludes, has_pair, includes, excludes};
 
 use crate::atom::Atom;
 use crate::datum::Datum;
@@ -13,6 +13,7 @@ impl Datum {
     /// Whether each element and each pair of `other` is one of this datum's.
     pub fn includes(&self, other: &Datum) -> bool
         ensures includes { IsTrue result ↔ Includes self.now other.now }
+        ensures value { result ≡ includes self.now other.now }
     {
         match other {
             Datum::Set(atoms) => self.has_all(atoms.as_slice()),
@@ -23,6 +24,7 @@ impl Datum {
     /// Whether no element and no pair of `other` is one of this datum's.
     pub fn excludes(&self, other: &Datum) -> bool
         ensures excludes { IsTrue result ↔ Excludes self.now other.now }
+        ensures value { result ≡ excludes self.now other.now }
     {
         match other {
             Datum::Set(atoms) => self.has_none(atoms.as_slice()),

@@ -1,15 +1,27 @@
 //! Rows by place.
 
-ghost use Rattle.std.specs.Prelude.{◌≡◌, OnOk, OnErr, IsOk, IsSome};
+ghost use Rattle.std.specs.Prelude.{◌≡◌, ◌∷◌, [], Some, MatchOption, OnOk, OnErr, IsOk, IsSome};
 ghost use Rattle.std.specs.FinMap.{empty, insert, remove, get, entries};
 ghost use Rattle.std.specs.Option.{option_copied};
+ghost use Rattle.ovs_rows.specs.Scanning.{start_of, rows_past, IsPastLast, IsNext};
 
 use crate::place::Place;
 use crate::row::Row;
-use ovs_types::NoMemory;
+use ovs_types::{NoMemory, RowId};
 use std::alloc::Global;
 use std::collections::BTreeMap;
 use std::marker::Model;
+use std::ops::Bound;
+
+// Where the rows of a table begin that come after an id, if there is one.
+fn start_of(table: usize, after: Option<RowId>) -> Bound<Place>
+    ensures value { result ≡ start_of table after }
+{
+    match after {
+        Some(id) => Bound::Excluded(Place { table, id }),
+        None => Bound::Included(Place::first(table)),
+    }
+}
 
 /// The rows of a database, by place.
 #[derive(Drop)]
@@ -66,6 +78,22 @@ impl RowMap {
         ensures value { self.new ≡ remove self.old place }
     {
         let _ = self.rows.remove(&place);
+    }
+
+    /// The row of a table with the least id above another, or of all.
+    pub(crate) fn next_row(&self, table: usize, after: Option<RowId>) -> Option<(RowId, &Row)>
+        ensures least { MatchOption result (IsPastLast table after self.now) (λ r. IsNext table after self.now r.0 r.1.now) }
+        ensures rest { MatchOption result (rows_past table after self.now ≡ []) (λ r. rows_past table after self.now ≡ (record { table = table; id = r.0 }, r.1.now) ∷ rows_past table (Some r.0) self.now) }
+    {
+        let (place, row) = self
+            .as_map()
+            .range((start_of(table, after), Bound::Unbounded))
+            .next()?;
+        if place.table == table {
+            Some((place.id, row))
+        } else {
+            None
+        }
     }
 
     /// The rows in the order of their places.

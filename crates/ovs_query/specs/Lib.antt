@@ -1,0 +1,5 @@
+pub mod Shown
+pub mod Conditions
+pub mod RowWriting
+pub mod View
+pub mod Faults

@@ -1,0 +1,14 @@
+//! Selects, conditions and monitors (RFC 7047 sections 4.1.5, 5.1 and 5.2.2; ovsdb-server(7)).
+#![tactic(auto)]
+
+mod clauses;
+mod conditions;
+mod error;
+mod monitor;
+mod select;
+mod shown;
+
+pub use conditions::Conditions;
+pub use error::QueryError;
+pub use monitor::{Monitor, Notation};
+pub use select::Select;
