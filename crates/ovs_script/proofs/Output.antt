@@ -8,7 +8,7 @@ use Rattle.ovs_script.specs.declared.run_end.RunEnd.{RunEnd}
 use Rattle.ovs_script.specs.declared.run_end.RunEnd.TheVariants as ends
 use Rattle.ovs_script.specs.Sending.{AppendsAllBut, AppendsBeginning}
 use Rattle.ovs_script.specs.Said.{TellsSaid, WritesSaid}
-use Rattle.ovs_script.proofs.Sent.{sent_then}
+use Rattle.ovs_script.proofs.Sent.{sent_then, beginning_sent}
 
 nothing : {A : Type 0} (of : Option A) → IfSome of (λ t. Unit {0})
 nothing None = tt
@@ -75,19 +75,7 @@ module _ {A : Type 0} (before now new : Option (List ℕ)) (waiting : List ℕ) 
   pub gave_up : (of : Option A) (output : A → List ℕ) → IfSome of (λ t. (others : List ℕ) × AppendsAllBut before now ([] ++ output t) (waiting ++ others))
       → AppendsBeginning now new waiting → IfSome of (λ t. AppendsBeginning before new (output t))
   gave_up None output so_far sent = tt
-  gave_up (Some t) output so_far sent =
-      let lost = sent.0 in
-      let part = sent.1 in
-      let others = so_far.0 in
-      let old = so_far.1 in (
-        lost ++ others,
-        (
-          old.0 ++ part.0,
-          Appends-trans before now new old.0 part.0 old.1 part.1,
-          old.2 ∙ ap (λ l. old.0 ++ (l ++ others)) part.2 ∙ ap (λ l. old.0 ++ l) (append_assoc part.0 lost others)
-              ∙ sym (append_assoc old.0 part.0 (lost ++ others)),
-        ),
-      )
+  gave_up (Some t) output so_far sent = beginning_sent before now new (output t) waiting so_far.0 so_far.1 sent
 
   -- all that was said is written, where the end is a read fault or want of memory
   pub said_written : (of : Option A) (AtRead AtMemory : A → List ℕ → Type 0) (fault : Fault) (end : RunEnd)

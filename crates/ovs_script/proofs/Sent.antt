@@ -35,6 +35,21 @@ unsent writer waited waiting others same = (others, ([], Appends-nil writer, ap 
 pub nothing_sent : (writer : Option (List ℕ)) (waiting : List ℕ) → AppendsBeginning writer writer waiting
 nothing_sent writer waiting = (waiting, ([], Appends-nil writer, refl))
 
+-- of what waited a beginning is sent, and the rest is lost
+pub beginning_sent : (before now new : Option (List ℕ)) (text waiting others : List ℕ) → AppendsAllBut before now text (waiting ++ others) → AppendsBeginning now new waiting
+    → AppendsBeginning before new text
+beginning_sent before now new text waiting others old sent =
+    let lost = sent.0 in
+    let part = sent.1 in (
+      lost ++ others,
+      (
+        old.0 ++ part.0,
+        Appends-trans before now new old.0 part.0 old.1 part.1,
+        old.2 ∙ ap (λ l. old.0 ++ (l ++ others)) part.2 ∙ ap (λ l. old.0 ++ l) (append_assoc part.0 lost others)
+            ∙ sym (append_assoc old.0 part.0 (lost ++ others)),
+      ),
+    )
+
 -- one text behind another: of the first this waits, and it stands before the second
 pub sent_then : (before now new : Option (List ℕ)) (waited first second waiting rest : List ℕ) → AppendsAllBut before now (waited ++ first) waiting
     → AppendsAllBut now new (waiting ++ second) rest → AppendsAllBut before new (waited ++ (first ++ second)) rest

@@ -10,6 +10,7 @@ use Rattle.ovs_script.specs.Lines.{lines_of, ended_lines, kept, IsUnbroken, IsCu
 use Rattle.ovs_script.specs.Rules.{Rules, answers_from, answers_to, state_from, state_after}
 use Rattle.ovs_script.specs.Texts.{AreAnswersToFirst, HaveAllEnded, HearsRead}
 use Rattle.ovs_script.specs.Said.{TellsSaid}
+use Rattle.ovs_script.proofs.Sent.{beginning_sent}
 use Rattle.ovs_script.proofs.Breaks.{AreUnbroken, AreUnbroken-append, text_of, text_of-append, ended_lines-text_of, ended_first}
 
 -- ---- the lines of two parts
@@ -288,18 +289,8 @@ lost_by : {S : Type 0} (rules : Rules S) (first : S) (start before now new : Opt
     → Begun rules first start before now waited waiting → AppendsBeginning now new waiting → none ≡ [] → Begun rules first start before new waited none
 lost_by rules first None before now new waited waiting none so_far sent empty = tt
 lost_by rules first (Some text) before now new waited waiting none so_far sent empty =
-    let lost = sent.0 in
-    let part = sent.1 in
-    let others = so_far.0 in
-    let old = so_far.1 in (
-      lost ++ others,
-      (
-        old.0 ++ part.0,
-        Appends-trans before now new old.0 part.0 old.1 part.1,
-        old.2 ∙ ap (λ l. old.0 ++ (l ++ others)) part.2 ∙ ap (λ l. old.0 ++ l) (append_assoc part.0 lost others)
-            ∙ sym (append_assoc old.0 part.0 (lost ++ others)) ∙ ap (λ l. (old.0 ++ part.0) ++ (l ++ (lost ++ others))) (sym empty),
-      ),
-    )
+    let part = beginning_sent before now new (waited ++ answers_to rules first text) waiting so_far.0 so_far.1 sent in
+    (part.0, subst (λ (l : List ℕ). AppendsAllBut before new (waited ++ answers_to rules first text) (l ++ part.0)) (sym empty) part.1)
 
 pub begun_lost : {S : Type 0} (rules : Rules S) (first : S) (start before now new : Option (List ℕ)) (waited waiting none : List ℕ) (s : S) (n : ℕ) (left : Option (List ℕ))
     → Progress rules first start before now waited waiting s n left → AppendsBeginning now new waiting → none ≡ []

@@ -5,7 +5,7 @@ use Rattle.std.proofs.lemmas.List.{append-nil}
 use Rattle.std.proofs.Math.Seq.{take-nil}
 use Rattle.std.proofs.lemmas.List.Elements.{All-append, All-nil, All-cons, All-head, All-tail}
 use Rattle.ovs_wire.specs.declared.error.FrameError.{FrameError}
-use Rattle.ovs_wire.specs.Frames.{Part, Space, Object, IsPart, IsSpace, IsObject, bytes_of, joined, objects, Ending, Rest, Fault, AreFrames, IsUnfinished, HasFault}
+use Rattle.ovs_wire.specs.Frames.{Part, Space, Object, IsPart, IsSpace, IsObject, bytes_of, joined, objects, Ending, Rest, Fault, EndsAs, AreFrames, IsUnfinished, HasFault}
 use Rattle.ovs_wire.specs.Framing.{Framing, IsNew, FeedsAfter, Feeds, Takes, Follows}
 
 pub joined-append : (ps qs : List Part) → joined (ps ++ qs) ≡ joined ps ++ joined qs
@@ -57,27 +57,15 @@ fault_on x y found f a =
       };
     }
 
+-- a stream of which no part is whole
+nothing_found : (r : List ℕ) (ending : Ending) → EndsAs r ending → AreFrames r [] ending
+nothing_found r ending ends = record { parts = []; rest = r; whole = refl; each = All-nil IsPart; found_are = refl; ends = ends }
+
 pub only_rest : (r : List ℕ) → IsUnfinished r → AreFrames r [] (Rest r)
-only_rest r u = record {
-  parts = [];
-  rest = r;
-  whole = refl;
-  each = All-nil IsPart;
-  found_are = refl;
-  ends =
-      (refl, u);
-}
+only_rest r u = nothing_found r (Rest r) (refl, u)
 
 pub only_fault : (r : List ℕ) (f : FrameError) → HasFault r f → AreFrames r [] (Fault f)
-only_fault r f h = record {
-  parts = [];
-  rest = r;
-  whole = refl;
-  each = All-nil IsPart;
-  found_are = refl;
-  ends =
-      h;
-}
+only_fault r f h = nothing_found r (Fault f) h
 
 pub nothing : IsUnfinished []
 nothing = record {
