@@ -1,7 +1,9 @@
 //! A case by its first word.
 
 use crate::fault::Fault;
-use crate::{changes, data, devices, folds, ids, messages, schemas, scripts, stores, streams};
+use crate::{
+    changes, data, devices, folds, ids, messages, queries, schemas, scripts, stores, streams,
+};
 use ovs_types::Schema;
 use serde_json::Value;
 use std::alloc::Global;
@@ -45,6 +47,10 @@ fn of_schema(alloc: Global, schema: &Schema, what: &str, parts: &[Value]) -> Res
         "difference of databases" => changes::difference(alloc, schema, parts),
         "store" => stores::store(alloc, schema, parts),
         "fold" => folds::fold(alloc, schema, parts),
+        "transact" => queries::transact(alloc, schema, parts),
+        "monitor" => queries::monitor(alloc, schema, parts),
+        "initial" => queries::initial(alloc, schema, parts),
+        "updates" => queries::updates(alloc, schema, parts),
         _ => Err(Fault::Malformed),
     }
 }

@@ -2,6 +2,7 @@
 
 ghost use Rattle.std.specs.Prelude.{◌≡◌, IfOk};
 ghost use Rattle.ovs_rows.specs.Change.{IsChangeOf};
+ghost use Rattle.ovs_query.specs.Updates.{AreTouchedOf};
 
 use crate::case::{list, part, truth, word};
 use crate::fault::Fault;
@@ -99,6 +100,24 @@ fn apply(
     answer(alloc, &applied)
 }
 
+/// Carries out a change as the commit of this number, and gives what it did.
+pub(crate) fn applied(
+    alloc: Global,
+    database: &mut Database,
+    value: &Value,
+    number: usize,
+) -> Result<Applied, Fault>
+    ensures schema { database.new.schema ≡ database.old.schema }
+    ensures touched { IfOk result (AreTouchedOf database.old.schema.description.tables) }
+{
+    let id = commit(IDS.get(number).ok_or(Fault::Malformed)?)?;
+    let change = read(alloc, database.schema(), value)?;
+    match database.apply(alloc, &change, id) {
+        Ok(applied) => Ok(applied),
+        Err(_) => Err(Fault::Malformed),
+    }
+}
+
 fn step(
     alloc: Global,
     database: &mut Database,
@@ -121,8 +140,8 @@ fn steps(alloc: Global, database: &mut Database, changes: &[Value]) -> Result<()
     Ok(())
 }
 
-// The database after the changes that fit, one after the other.
-fn after(alloc: Global, schema: &Schema, changes: &[Value]) -> Result<Database, Fault>
+/// The database after the changes that fit, one after the other.
+pub(crate) fn after(alloc: Global, schema: &Schema, changes: &[Value]) -> Result<Database, Fault>
     ensures schema { IfOk result (λ database. database.schema ≡ schema.now) }
 {
     let mut database = Database::empty(alloc, schema)?;

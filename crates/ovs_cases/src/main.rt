@@ -13,6 +13,7 @@ mod fault;
 mod folds;
 mod ids;
 mod messages;
+mod queries;
 mod schemas;
 mod scripts;
 mod stores;

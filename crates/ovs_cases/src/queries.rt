@@ -1,0 +1,111 @@
+//! Read-only transactions and monitors. The first change of a list has the id `a`, the second `b`, and so on.
+
+ghost use Rattle.std.specs.Prelude.{◌≡◌, IfOk};
+ghost use Rattle.ovs_query.specs.Updates.{AreTouchedOf};
+ghost use Rattle.ovs_query.specs.View.{IsMonitorOf};
+
+use crate::case::{list, part, text, word};
+use crate::changes::{after, applied};
+use crate::fault::Fault;
+use ovs_query::{Monitor, Notation, QueryError, read_only, transact_read};
+use ovs_rows::{Applied, Database};
+use ovs_types::Schema;
+use serde_json::Value;
+use std::alloc::Global;
+
+/// `["transact", [CHANGE, ..], [OPERATION, ..]]`: the results from the database after the changes.
+pub(crate) fn transact(alloc: Global, schema: &Schema, parts: &[Value]) -> Result<String, Fault> {
+    let operations = list(parts, 2)?;
+    if !read_only(operations) {
+        return word(alloc, "not read-only");
+    }
+    let database = after(alloc, schema, list(parts, 1)?)?;
+    let results = transact_read(alloc, &database, operations)?;
+    Ok(results.to_string(alloc)?)
+}
+
+fn notation(parts: &[Value]) -> Result<Notation, Fault> {
+    match text(parts, 1)? {
+        "update" => Ok(Notation::Update),
+        "update2" => Ok(Notation::Update2),
+        "update3" => Ok(Notation::Update3),
+        _ => Err(Fault::Malformed),
+    }
+}
+
+/// `["monitor", NOTATION, REQUESTS]`: `ok`, or why there is no such monitor.
+pub(crate) fn monitor(alloc: Global, schema: &Schema, parts: &[Value]) -> Result<String, Fault> {
+    match Monitor::read(alloc, notation(parts)?, part(parts, 2)?, schema) {
+        Ok(_) => word(alloc, "ok"),
+        Err(QueryError::NoMemory) => Err(Fault::NoMemory),
+        Err(fault) => word(alloc, fault.text()),
+    }
+}
+
+fn read(alloc: Global, schema: &Schema, parts: &[Value]) -> Result<Monitor, Fault>
+    ensures tables { IfOk result (λ monitor. IsMonitorOf schema.now.description.tables monitor.watches) }
+{
+    match Monitor::read(alloc, notation(parts)?, part(parts, 2)?, schema) {
+        Ok(monitor) => Ok(monitor),
+        Err(_) => Err(Fault::Malformed),
+    }
+}
+
+/// `["initial", NOTATION, REQUESTS, [CHANGE, ..]]`: what a monitor shows at first of the database after the changes.
+pub(crate) fn initial(alloc: Global, schema: &Schema, parts: &[Value]) -> Result<String, Fault> {
+    let monitor = read(alloc, schema, parts)?;
+    let database = after(alloc, schema, list(parts, 3)?)?;
+    let rows = monitor.initial(alloc, &database)?;
+    Ok(rows.to_string(alloc)?)
+}
+
+// What the monitor tells of a step in its notation.
+fn told(
+    alloc: Global,
+    schema: &Schema,
+    monitor: &Monitor,
+    notation: Notation,
+    applied: &Applied,
+) -> Result<String, Fault>
+    requires monitor { IsMonitorOf schema.now.description.tables monitor.now.watches }
+    requires touched { AreTouchedOf schema.now.description.tables applied.now }
+{
+    let updates = match notation {
+        Notation::Update => monitor.update1(alloc, applied)?,
+        Notation::Update2 | Notation::Update3 => monitor.update2(alloc, applied)?,
+    };
+    Ok(updates.to_string(alloc)?)
+}
+
+fn step(
+    alloc: Global,
+    database: &mut Database,
+    monitor: &Monitor,
+    notation: Notation,
+    change: &Value,
+    number: usize,
+) -> Result<String, Fault>
+    requires monitor { IsMonitorOf database.old.schema.description.tables monitor.now.watches }
+    ensures schema { database.new.schema ≡ database.old.schema }
+{
+    let done = applied(alloc, database, change, number)?;
+    told(alloc, database.schema(), monitor, notation, &done)
+}
+
+/// `["updates", NOTATION, REQUESTS, [CHANGE, ..], [CHANGE, ..]]`: what a monitor tells of each of the last changes.
+pub(crate) fn updates(alloc: Global, schema: &Schema, parts: &[Value]) -> Result<String, Fault> {
+    let notation = notation(parts)?;
+    let monitor = read(alloc, schema, parts)?;
+    let before = list(parts, 3)?;
+    let mut database = after(alloc, schema, before)?;
+    let mut lines = String::new(alloc);
+    for (number, change) in list(parts, 4)?.iter().enumerate() {
+        let number = before.len().saturating_add(number);
+        let line = step(alloc, &mut database, &monitor, notation, change, number)?;
+        if !lines.is_empty() {
+            lines.push_str(" | ")?;
+        }
+        lines.push_str(line.as_str())?;
+    }
+    Ok(lines)
+}
