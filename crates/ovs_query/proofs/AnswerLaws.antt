@@ -1,5 +1,5 @@
 -- The results of a transaction: one for each operation, its own up to the first that fails, and null after it.
-use Rattle.std.proofs.Common.{◌≡◌, ℕ, zero, suc, ◌<◌, List, [], ◌∷◌, length, Bool, true, false, Some, refl, sym, ap, ◌∙◌, arith}
+use Rattle.std.proofs.Common.{◌≡◌, ℕ, zero, suc, ◌<◌, List, [], ◌∷◌, length, Bool, true, false, Some, refl, ap, ◌∙◌, arith}
 use Rattle.std.specs.Prelude.{is_err, slice_get}
 use Rattle.serde_json.specs.Data.{Data, null}
 use Rattle.serde_json.specs.View.{items_of}

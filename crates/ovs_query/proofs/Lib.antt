@@ -5,3 +5,7 @@ pub mod SelectLaws
 pub mod QueryFaulty
 pub mod ShownFields
 pub mod AnswerLaws
+pub mod TableSteps
+pub mod MonitorLaws
+pub mod MonitorFaulty
+pub mod Watching

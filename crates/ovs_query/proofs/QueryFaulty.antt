@@ -1,12 +1,12 @@
 -- The fault that reading a select gives is the worst that the value has.
-use Rattle.std.proofs.Common.{◌≡◌, ℕ, ◌≤◌, List, Option, Some, None, Ok, Err, refl, sym, ap, arith}
-use Rattle.std.specs.Prelude.{codes, option_and_then, ◌⊎◌}
+use Rattle.std.proofs.Common.{◌≡◌, List, Option, Some, None, Ok, Err, refl, ap, arith}
+use Rattle.std.specs.Prelude.{codes, option_and_then}
 use Rattle.std.specs.Option.{ok_or}
-use Rattle.serde_json.specs.Data.{Data, Items}
+use Rattle.serde_json.specs.Data.{Data}
 use Rattle.serde_json.specs.Find.{get, as_str, as_array}
 use Rattle.ovs_json.specs.FirstFault.{IsWorst}
 use Rattle.ovs_json.specs.Parts.{three_items}
-use Rattle.ovs_json.specs.Results.{◌>>=◌, result_map}
+use Rattle.ovs_json.specs.Results.{◌>>=◌}
 use Rattle.ovs_json.proofs.FaultOrder.{map_worst, both_worst, spelled_worst}
 use Rattle.ovs_data.specs.declared.column.Column.{Column}
 use Rattle.ovs_data.specs.declared.datum.Datum.{Datum}
@@ -21,7 +21,7 @@ use Rattle.ovs_query.specs.declared.shown.Shown.{Shown}
 use Rattle.ovs_query.specs.Faults.{Read, rank}
 use Rattle.ovs_query.specs.ConditionReading.{field_named, test_named, column_for, in_condition, plain, read_condition, read_conditions, shown_field, read_shown, read_each_shown, read_listed, all_shown, read_columns}
 use Rattle.ovs_query.specs.SelectReading.{read_where, read_parts, read_select}
-use Rattle.ovs_query.specs.QueryFaults.{InNeeded, InOptional, SomeItem, InShown, InColumns, InPlain, InTest, InCondition, InConditions, InParts, InSelect}
+use Rattle.ovs_query.specs.QueryFaults.{InNeeded, InOptional, SomeItem, InShown, InColumns, InPlain, InCondition, InConditions, InParts, InSelect}
 use Rattle.ovs_query.proofs.Items.{items_worst}
 use Rattle.ovs_query.proofs.SelectLaws.{plain_found, plain_only}
 

@@ -1,18 +1,17 @@
 -- What is read as a select is spelled so, and what is spelled so is read.
-use Rattle.std.proofs.Common.{◌≡◌, ℕ, ◌<◌, List, [], ◌∷◌, Bool, true, false, cond, Option, Some, None, Ok, Err, refl, sym, ap, subst, ◌∙◌}
-use Rattle.std.specs.Prelude.{codes, option_and_then, option_map, length, slice_get}
+use Rattle.std.proofs.Common.{◌≡◌, ℕ, List, Bool, true, false, cond, Option, Some, None, Ok, Err, refl, sym, ap, subst, ◌∙◌}
+use Rattle.std.specs.Prelude.{codes, option_and_then}
 use Rattle.std.specs.Cmp.Lexicographic.{bytes_decides}
 use Rattle.std.specs.Option.{ok_or}
 use Rattle.serde_json.specs.Data.{Data, string, array, Items, no_items, item}
 use Rattle.serde_json.specs.Find.{get, as_str, as_array}
 use Rattle.ovs_json.specs.Items.{SpellsEach}
 use Rattle.ovs_json.specs.Parts.{three_of, three_items}
-use Rattle.ovs_json.proofs.Steps.{bind_found, map_found, ok_or_found, same_value, array_of, string_of, string_part, part_found}
+use Rattle.ovs_json.proofs.Steps.{bind_found, map_found, ok_or_found, same_value, array_of, string_of, string_part}
 use Rattle.ovs_json.proofs.Found.{then_found, some_is}
 use Rattle.ovs_json.proofs.FaultOrder.{both_found}
 use Rattle.ovs_data.specs.declared.column.Column.{Column}
 use Rattle.ovs_data.specs.declared.datum.Datum.{Datum}
-use Rattle.ovs_data.specs.declared.error.DatumError.{DatumError}
 use Rattle.ovs_data.proofs.Spellings.{datum_found, datum_only}
 use Rattle.ovs_types.specs.declared.schema.NamedColumn.{NamedColumn}
 use Rattle.ovs_types.specs.declared.schema.Table.{Table}
@@ -25,10 +24,9 @@ use Rattle.ovs_query.specs.declared.conditions.Condition.{Condition}
 use Rattle.ovs_query.specs.declared.error.QueryError.{QueryError}
 use Rattle.ovs_query.specs.declared.error.QueryError.TheVariants.{UnknownTable, UnknownColumn, BadCondition, BadOperation}
 use Rattle.ovs_query.specs.declared.select.Select.{Select}
-use Rattle.ovs_query.specs.declared.shown.Field.{Field}
 use Rattle.ovs_query.specs.declared.shown.Shown.{Shown}
 use Rattle.ovs_query.specs.Faults.{Read, rank}
-use Rattle.ovs_query.specs.ConditionReading.{is, field_named, test_named, column_for, in_condition, plain, read_condition, read_conditions, shown_field, read_shown, read_each_shown, read_listed, all_shown, read_columns}
+use Rattle.ovs_query.specs.ConditionReading.{is, field_named, test_named, column_for, in_condition, plain, read_condition, read_conditions, shown_field, read_shown, read_each_shown, all_shown, read_columns}
 use Rattle.ovs_query.specs.SelectReading.{read_where, read_parts, read_select}
 use Rattle.ovs_query.specs.SelectSpelling.{three, name_of, SpellsShown, SpellsColumns, SpellsCondition, SpellsSelect}
 use Rattle.ovs_query.proofs.Items.{items_found, items_only}

@@ -1,11 +1,11 @@
 -- What is read as a shown column is a field of its table under its name.
-use Rattle.std.proofs.Common.{◌≡◌, ℕ, zero, suc, ◌+◌, ◌<◌, List, [], ◌∷◌, Bool, true, false, cond, Option, Some, None, refl, sym, ap, subst, ◌∙◌, arith, length}
-use Rattle.std.specs.Prelude.{codes, option_map, slice_get, option_and_then}
+use Rattle.std.proofs.Common.{◌≡◌, ℕ, suc, ◌+◌, List, [], ◌∷◌, Bool, true, false, cond, Option, Some, None, refl, sym, ap, subst, ◌∙◌, arith}
+use Rattle.std.specs.Prelude.{codes, option_map, slice_get}
 use Rattle.std.specs.List.{AllByRecursion}
 use Rattle.serde_json.specs.Data.{Data, Items, no_items, item}
 use Rattle.serde_json.specs.Find.{get}
 use Rattle.ovs_json.specs.Items.{SpellsEach}
-use Rattle.ovs_json.proofs.Found.{some_is, option_map_found}
+use Rattle.ovs_json.proofs.Found.{some_is}
 use Rattle.ovs_data.specs.declared.column.Column.{Column}
 use Rattle.ovs_data.specs.declared.datum.Datum.{Datum}
 use Rattle.ovs_types.specs.declared.schema.NamedColumn.{NamedColumn}

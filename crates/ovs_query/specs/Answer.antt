@@ -1,8 +1,8 @@
 -- What a transaction that only reads answers, from one database (RFC 7047 section 4.1.3).
-use Rattle.std.specs.Prelude.{◌≡◌, ◌<◌, ℕ, List, [], ◌∷◌, Bool, true, false, ◌||◌, Option, Some, None, is_err, Result, Ok, Err, if◌then◌else◌, codes, option_and_then, length, slice_get}
+use Rattle.std.specs.Prelude.{◌≡◌, ◌<◌, ℕ, List, [], ◌∷◌, Bool, true, false, ◌||◌, Some, is_err, Result, Ok, Err, if◌then◌else◌, codes, option_and_then, length, slice_get}
 use Rattle.std.specs.Option.{ok_or}
 use Rattle.serde_json.specs.Data.{Data, null, string, object, no_members, Items, no_items, item}
-use Rattle.serde_json.specs.Find.{get, get_item, as_str}
+use Rattle.serde_json.specs.Find.{get, as_str}
 use Rattle.serde_json.specs.View.{view}
 use Rattle.serde_json.specs.declared.value.Value.{Value}
 use Rattle.ovs_json.specs.Parts.{is_first}

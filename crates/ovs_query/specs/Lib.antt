@@ -8,3 +8,6 @@ pub mod SelectReading
 pub mod SelectSpelling
 pub mod QueryFaults
 pub mod Answer
+pub mod MonitorReading
+pub mod MonitorSpelling
+pub mod MonitorFaults

@@ -1,5 +1,5 @@
 -- Why a JSON value is no select and no monitor: which faults it has, wherever they stand in it.
-use Rattle.std.specs.Prelude.{◌≡◌, ◌⊎◌, ℕ, List, Option, Some, None, codes, option_and_then}
+use Rattle.std.specs.Prelude.{◌≡◌, ◌⊎◌, List, Option, Some, None, codes, option_and_then}
 use Rattle.serde_json.specs.Data.{Data, Items, no_items, item}
 use Rattle.serde_json.specs.Find.{get, as_str, as_array}
 use Rattle.ovs_json.specs.Parts.{three_items}

@@ -6,4 +6,6 @@
 mod columns;
 pub(crate) mod conditions;
 mod fields;
+mod monitor;
+mod requests;
 pub(crate) mod select;
