@@ -1,2 +1,11 @@
 pub mod Members
 pub mod OneRow
+pub mod Items
+pub mod SelectLaws
+pub mod QueryFaulty
+pub mod ShownFields
+pub mod AnswerLaws
+pub mod TableSteps
+pub mod MonitorLaws
+pub mod MonitorFaulty
+pub mod Watching

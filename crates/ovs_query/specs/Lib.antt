@@ -3,3 +3,11 @@ pub mod Conditions
 pub mod RowWriting
 pub mod View
 pub mod Faults
+pub mod ConditionReading
+pub mod SelectReading
+pub mod SelectSpelling
+pub mod QueryFaults
+pub mod Answer
+pub mod MonitorReading
+pub mod MonitorSpelling
+pub mod MonitorFaults

@@ -5,10 +5,13 @@ mod clauses;
 mod conditions;
 mod error;
 mod monitor;
+mod reading;
 mod select;
 mod shown;
+mod transact;
 
 pub use conditions::Conditions;
 pub use error::QueryError;
 pub use monitor::{Monitor, Notation};
 pub use select::Select;
+pub use transact::{read_only, transact_read};

@@ -1,0 +1,147 @@
+-- What is watched, table after table: what the members lead to is, for each table, what is last asked of it.
+use Rattle.std.proofs.Common.{◌≡◌, ℕ, zero, suc, ◌<◌, List, [], ◌∷◌, length, Bool, true, false, true≢false, cond, Option, Some, None, refl, sym, ap, subst, ◌∙◌, arith}
+use Rattle.std.specs.Prelude.{◌==◌, filter, option_and_then, option_map, slice_get, slice_set}
+use Rattle.std.specs.List.{last_or}
+use Rattle.std.proofs.lemmas.Bool.Decides.{Decides-eqb}
+use Rattle.std.proofs.lemmas.List.{length-set}
+use Rattle.serde_json.specs.Data.{Data, Members, no_members, member}
+use Rattle.ovs_json.specs.Members.{Lead, EachSpells}
+use Rattle.ovs_types.specs.declared.schema.Table.{Table}
+use Rattle.ovs_query.specs.declared.monitor.Watched.{Watched}
+use Rattle.ovs_query.specs.MonitorReading.{nothing_watched}
+use Rattle.ovs_query.specs.MonitorSpelling.{last_for}
+
+abbrev Asked : Type 0
+Asked = ℕ × Option Watched
+
+-- ---- lists
+
+same_option : {X : Type 0} (o : Option X) → o ≡ option_map (λ x. x) o
+same_option None = refl
+same_option (Some x) = refl
+
+get_same : {X : Type 0} (xs : List X) (i : ℕ) (v : X) → slice_get (slice_set xs i v) i ≡ option_map (λ x. v) (slice_get xs i)
+get_same [] i v = refl
+get_same (x ∷ xs) zero v = refl
+get_same (x ∷ xs) (suc i) v = get_same xs i v
+
+get_other : {X : Type 0} (xs : List X) (i k : ℕ) (v : X) → (i ≡ k → ⊥) → slice_get (slice_set xs i v) k ≡ slice_get xs k
+get_other [] i k v apart = refl
+get_other (x ∷ xs) zero zero v apart = absurd (apart refl)
+get_other (x ∷ xs) zero (suc k) v apart = refl
+get_other (x ∷ xs) (suc i) zero v apart = refl
+get_other (x ∷ xs) (suc i) (suc k) v apart = get_other xs i k v (λ same. apart (ap suc same))
+
+get_set : {X : Type 0} (xs : List X) (i k : ℕ) (v : X) (here : Bool) → (i == k) ≡ here → slice_get (slice_set xs i v) k ≡ option_map (λ x. cond here v x) (slice_get xs k)
+get_set xs i k v true e = subst (λ n. slice_get (slice_set xs i v) n ≡ option_map (λ x. v) (slice_get xs n)) ((Decides-eqb i k).0 e) (get_same xs i v)
+get_set xs i k v false e = get_other xs i k v (λ same. true≢false (sym ((Decides-eqb i k).1 same) ∙ e)) ∙ same_option (slice_get xs k)
+
+-- lists of one length with the same at each number are equal
+same_list : {X : Type 0} (n : ℕ) (xs ys : List X) → length xs ≡ n → length ys ≡ n → ((k : ℕ) → k < n → slice_get xs k ≡ slice_get ys k) → xs ≡ ys
+same_list n [] [] p q same = refl
+same_list n [] (y ∷ ys) p q same = absurd (omega (arith, p, q))
+same_list n (x ∷ xs) [] p q same = absurd (omega (arith, p, q))
+same_list zero (x ∷ xs) (y ∷ ys) p q same = absurd (omega (arith, p))
+same_list (suc n) (x ∷ xs) (y ∷ ys) p q same =
+    let first : Some x ≡ Some y = same 0 (omega arith) in
+    let head : x ≡ y = cc in
+    let rest : xs ≡ ys = same_list n xs ys (omega (arith, p)) (omega (arith, q)) (λ k below. same (suc k) (omega (arith, below))) in
+    λ i. head i ∷ rest i
+
+-- ---- what is asked, one after the other
+
+-- what is watched with what is asked
+abbrev with_asked : List (Option Watched) → List Asked → List (Option Watched)
+with_asked watches [] = watches
+with_asked watches (a ∷ later) = with_asked (slice_set watches a.0 a.1) later
+
+-- what is watched of a table after one that asks for it, if there is one
+abbrev over : Option Watched → Option Asked → Option Watched
+over w None = w
+over w (Some a) = a.1
+
+over_last : (w : Option Watched) (o : Option Asked) (later : List Asked) → over w (last_or o later) ≡ over (over w o) (last_or None later)
+over_last w o [] = refl
+over_last w o (a ∷ later) = over_last w (Some a) later ∙ sym (over_last (over w o) (Some a) later)
+
+abbrev of_table : ℕ → List Asked → List Asked
+of_table number = filter (λ a. a.0 == number)
+
+one_more : (number : ℕ) (a : Asked) (later : List Asked) (here : Bool) (o : Option (Option Watched))
+    → option_map (λ w. over w (last_or None (of_table number later))) (option_map (λ w. cond here a.1 w) o)
+    ≡ option_map (λ w. over w (last_or None (cond here (a ∷ of_table number later) (of_table number later)))) o
+one_more number a later here None = refl
+one_more number a later true (Some w) = ap Some (sym (over_last w (Some a) (of_table number later)))
+one_more number a later false (Some w) = refl
+
+get_asked : (watches : List (Option Watched)) (later : List Asked) (number : ℕ) → slice_get (with_asked watches later) number ≡ option_map (λ w. over w (last_or None (of_table number later))) (slice_get watches number)
+get_asked watches [] number = same_option (slice_get watches number)
+get_asked watches (a ∷ later) number =
+    get_asked (slice_set watches a.0 a.1) later number
+    ∙ ap (option_map (λ w. over w (last_or None (of_table number later)))) (get_set watches a.0 number a.1 (a.0 == number) refl)
+    ∙ one_more number a later (a.0 == number) (slice_get watches number)
+
+length_asked : (watches : List (Option Watched)) (later : List Asked) → length (with_asked watches later) ≡ length watches
+length_asked watches [] = refl
+length_asked watches (a ∷ later) = length_asked (slice_set watches a.0 a.1) later ∙ length-set watches a.0 a.1
+
+pub length_nothing : (tables : List Table) → length (nothing_watched tables) ≡ length tables
+length_nothing [] = refl
+length_nothing (t ∷ ts) = ap suc (length_nothing ts)
+
+nothing_at : (tables : List Table) (number : ℕ) → number < length tables → slice_get (nothing_watched tables) number ≡ Some None
+nothing_at [] number within = absurd (omega (arith, within))
+nothing_at (t ∷ ts) zero within = refl
+nothing_at (t ∷ ts) (suc number) within = nothing_at ts number (omega (arith, within))
+
+over_nothing : (o : Option Asked) → over None o ≡ option_and_then (λ a. a.1) o
+over_nothing None = refl
+over_nothing (Some a) = refl
+
+length_all : (tables : List Table) (all : List Asked) → length (with_asked (nothing_watched tables) all) ≡ length tables
+length_all tables all = length_asked (nothing_watched tables) all ∙ length_nothing tables
+
+get_all : (tables : List Table) (all : List Asked) (number : ℕ) → number < length tables → slice_get (with_asked (nothing_watched tables) all) number ≡ Some (last_for number all)
+get_all tables all number within =
+    get_asked (nothing_watched tables) all number ∙ ap (option_map (λ w. over w (last_or None (of_table number all)))) (nothing_at tables number within)
+    ∙ ap Some (over_nothing (last_or None (of_table number all)))
+
+-- ---- members
+
+module _ (Spelled : List ℕ → Data → Asked → Type 0) where
+  -- a member: what is watched, with what it asks of its table
+  abbrev pub TableStep : List (Option Watched) → List ℕ → Data → List (Option Watched) → Type 0
+  TableStep before name d after = (asked : Asked) × Spelled name d asked × (after ≡ slice_set before asked.0 asked.1)
+
+  abbrev pub Leads : List (Option Watched) → Members → List (Option Watched) → Type 0
+  Leads = Lead TableStep
+
+  asked_from : (before : List (Option Watched)) (ms : Members) (after : List (Option Watched)) → Leads before ms after → (all : List Asked) × EachSpells Spelled ms all × (after ≡ with_asked before all)
+  asked_from before no_members after lead = ([], tt, lead)
+  asked_from before (member name d ms) after (next, (asked, spelled, is), rest) =
+      let others = asked_from next ms after rest in
+      (asked ∷ others.0, (spelled, others.1), others.2 ∙ ap (λ watches. with_asked watches others.0) is)
+
+  asked_lead : (before : List (Option Watched)) (ms : Members) (all : List Asked) → EachSpells Spelled ms all → Leads before ms (with_asked before all)
+  asked_lead before no_members [] each = refl
+  asked_lead before no_members (a ∷ later) each = absurd each
+  asked_lead before (member name d ms) [] each = absurd each
+  asked_lead before (member name d ms) (a ∷ later) each = (slice_set before a.0 a.1, (a, each.0, refl), asked_lead (slice_set before a.0 a.1) ms later each.1)
+
+  module _ (tables : List Table) where
+    -- for each table what is last asked of it
+    abbrev pub AreAsked : Members → List (Option Watched) → Type 0
+    AreAsked ms watches =
+        (all : List Asked) × EachSpells Spelled ms all × (length watches ≡ length tables)
+        × ((number : ℕ) → number < length tables → slice_get watches number ≡ Some (last_for number all))
+
+    pub spelled_watches : (ms : Members) (watches : List (Option Watched)) → Leads (nothing_watched tables) ms watches → AreAsked ms watches
+    spelled_watches ms watches lead =
+        let all = asked_from (nothing_watched tables) ms watches lead in
+        (all.0, all.1, ap length all.2 ∙ length_all tables all.0, λ number within. ap (λ xs. slice_get xs number) all.2 ∙ get_all tables all.0 number within)
+
+    pub leading_watches : (ms : Members) (watches : List (Option Watched)) → AreAsked ms watches → Leads (nothing_watched tables) ms watches
+    leading_watches ms watches (all, each, count, at) =
+        let same : with_asked (nothing_watched tables) all ≡ watches = same_list (length tables) (with_asked (nothing_watched tables) all) watches (length_all tables all) count
+        (λ number within. get_all tables all number within ∙ sym (at number within)) in
+        subst (Leads (nothing_watched tables) ms) same (asked_lead (nothing_watched tables) ms all each)

@@ -1,0 +1,9 @@
+use Rattle.std.proofs.Common.{◌≡◌, drop}
+use Rattle.serde_json.specs.View.{items_view}
+use Rattle.ovs_json.specs.FirstFault.{items_of}
+use Rattle.ovs_query.specs.ConditionReading.{read_items, read_shown, read_each_shown}
+use Rattle.ovs_query.proofs.reading.columns.read_each_shown.Given as goal
+
+-- the items that are left, after those so far
+abbrev pub invariant-loop-value : goal.invariant-loop-value
+invariant-loop-value l = read_items (read_shown l.fault l.columns) (items_of l.so_far) (items_view (drop l.value-index l.values)) ≡ read_each_shown l.fault l.columns (items_view l.values)

@@ -1,0 +1,24 @@
+use Rattle.std.proofs.Common.{◌≡◌, ◌<◌, ℕ, Option, Result, Vec, Ok, Err, IfOk, length, arith}
+use Rattle.std.specs.declared.alloc.Global.{Global}
+use Rattle.serde_json.specs.View.{view}
+use Rattle.ovs_json.specs.FirstFault.{items_of}
+use Rattle.ovs_query.specs.declared.error.QueryError.{QueryError}
+use Rattle.ovs_query.specs.declared.monitor.Watched.{Watched}
+use Rattle.ovs_query.specs.Faults.{Read}
+use Rattle.ovs_query.proofs.MonitorLaws.{table_within}
+use Rattle.ovs_query.proofs.reading.monitor.read_all_tables.Goals as goal
+
+-- the list has a place for the table
+place : (so_far : Result (Vec (Option Watched) Global) QueryError) (one : Read (ℕ × Option Watched)) (n : ℕ) → IfOk (items_of so_far) (λ xs. length xs ≡ n) → IfOk one (λ p. p.0 < n)
+    → IfOk so_far (λ v. IfOk one (λ p. p.0 < length v.items))
+place (Ok v) (Ok p) n count within = omega (arith, count, within)
+place (Ok v) (Err e) n count within = tt
+place (Err f) one n count within = tt
+
+pub with_table-so_far-requires : goal.with_table-so_far-requires
+with_table-so_far-requires c =
+    let tables = c.args.schema.now.description.tables in
+    record {
+      within = place c.loop-name.so_far c.in_ok-one.one (length tables) c.loop-name.invariant.count
+          (table_within c.args.notation tables c.as_str.result.now (view c.in-Some.value.now) c.in_ok-one.one c.in_ok-one.ensures.exact);
+    }

@@ -1,0 +1,14 @@
+use Rattle.std.proofs.Common.{◌≡◌, length, IfOk}
+use Rattle.serde_json.specs.View.{members_view}
+use Rattle.ovs_json.specs.FirstFault.{items_of}
+use Rattle.ovs_query.specs.MonitorReading.{read_tables, read_all_tables}
+use Rattle.ovs_query.proofs.reading.monitor.read_all_tables.Given as goal
+
+-- the members that are left, after those so far; and the list has a place for each table
+abbrev pub invariant-loop-name : goal.invariant-loop-name
+invariant-loop-name l =
+    let tables = l.schema.description.tables in
+    record {
+      read : read_tables l.notation tables (items_of l.so_far) (members_view l.name-iterator) ≡ read_all_tables l.notation tables (members_view l.members.entries);
+      count : IfOk (items_of l.so_far) (λ xs. length xs ≡ length tables);
+    }

@@ -1,0 +1,59 @@
+-- Why a JSON value isn't the requests of a monitor: which faults it has, wherever they stand in it.
+use Rattle.std.specs.Prelude.{◌≡◌, ◌⊎◌, ℕ, List, Bool, Option, Some, None, codes}
+use Rattle.serde_json.specs.Data.{Data, Items, no_items, item}
+use Rattle.serde_json.specs.Find.{get, as_array, as_bool, as_object}
+use Rattle.ovs_json.specs.Members.{SomeMember}
+use Rattle.ovs_types.specs.declared.schema.NamedColumn.{NamedColumn}
+use Rattle.ovs_types.specs.declared.schema.Table.{Table}
+use Rattle.ovs_types.specs.Finding.{table_named}
+use Rattle.ovs_query.specs.declared.error.QueryError.{QueryError}
+use Rattle.ovs_query.specs.declared.error.QueryError.TheVariants.{UnknownTable, BadCondition, ManyRequests, BadSelect}
+use Rattle.ovs_query.specs.declared.monitor.Kinds.{Kinds}
+use Rattle.ovs_query.specs.declared.monitor.Notation.{Notation}
+use Rattle.ovs_query.specs.MonitorReading.{where_in}
+use Rattle.ovs_query.specs.MonitorSpelling.{SpellsKinds}
+use Rattle.ovs_query.specs.QueryFaults.{InNeeded, InOptional, SomeItem, InColumns, InPlain, InCondition}
+
+-- "select" that stands for no kinds of updates
+abbrev pub InKinds : Option Data → QueryError → Type 0
+InKinds o e = (e ≡ BadSelect) × ((kinds : Kinds) → SpellsKinds o kinds → ⊥)
+
+-- a constant has no fault
+abbrev pub InClauseOr : List NamedColumn → Data → Option Bool → QueryError → Type 0
+InClauseOr columns d (Some truth) e = ⊥
+InClauseOr columns d None e = InCondition InPlain columns d e
+
+abbrev pub InClause : List NamedColumn → Data → QueryError → Type 0
+InClause columns d = InClauseOr columns d (as_bool d)
+
+-- a list of clauses
+abbrev pub InClauses : List NamedColumn → Data → QueryError → Type 0
+InClauses columns d = InNeeded BadCondition (SomeItem (InClause columns)) (as_array d)
+
+-- "columns", "where" and "select"
+abbrev pub InParts : Notation → List NamedColumn → Data → QueryError → Type 0
+InParts notation columns d e =
+    (InOptional (InColumns BadSelect columns) (get (codes "columns") d) e ⊎ InOptional (InClauses columns) (where_in notation d) e) ⊎ InKinds (get (codes "select") d) e
+
+-- a request, which is an object
+abbrev pub InRequest : Notation → List NamedColumn → Data → QueryError → Type 0
+InRequest notation columns d = InNeeded BadSelect (λ members. InParts notation columns d) (as_object d)
+
+-- an array of requests, which has one at most
+abbrev pub InListed : Notation → List NamedColumn → Items → QueryError → Type 0
+InListed notation columns no_items e = ⊥
+InListed notation columns (item d no_items) e = InRequest notation columns d e
+InListed notation columns (item d (item f ds)) e = e ≡ ManyRequests
+
+-- a request alone, or in an array
+abbrev pub InRequestsOr : Notation → List NamedColumn → Data → Option Items → QueryError → Type 0
+InRequestsOr notation columns d None = InRequest notation columns d
+InRequestsOr notation columns d (Some ds) = InListed notation columns ds
+
+-- what is asked under a name, which is a table's
+abbrev pub InTable : Notation → List Table → QueryError → List ℕ → Data → Type 0
+InTable notation tables e name d = InNeeded UnknownTable (λ table. InRequestsOr notation table.1.columns d (as_array d)) (table_named tables name) e
+
+-- an object of tables' names, each with what is asked of the table
+abbrev pub InMonitor : Notation → List Table → Data → QueryError → Type 0
+InMonitor notation tables d = InNeeded BadSelect (λ members e. SomeMember (InTable notation tables e) members) (as_object d)
