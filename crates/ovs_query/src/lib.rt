@@ -7,8 +7,10 @@ mod error;
 mod monitor;
 mod select;
 mod shown;
+mod theorems;
 
 pub use conditions::Conditions;
 pub use error::QueryError;
 pub use monitor::{Monitor, Notation};
 pub use select::Select;
+pub use theorems::monitor_laws;
