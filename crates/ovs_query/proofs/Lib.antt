@@ -4,3 +4,6 @@ pub mod ShownData
 pub mod Touching
 pub mod Mirroring
 pub mod Beginnings
+pub mod Telling
+pub mod FirstRows
+pub mod ShownRows

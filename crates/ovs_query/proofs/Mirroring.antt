@@ -42,8 +42,8 @@ module _ {U : Type 0} (f : Place → Option (List Datum) → Option U → Option
   carried_all v w us h =
       let all : list_all (is_carried f v us) (keys v ++ keys us) ≡ true = all_true (is_carried f v us) (λ p. ap is_some (h p)) (keys v ++ keys us) in
       let same : carried f v us ≡ w = same_map place_total place_exact (carried f v us) w (λ p.
-          get-combined place_total place_exact (λ p held update. option_and_then (λ o. o) (f p held update)) (λ p. ap (option_and_then (λ o. o)) (nothing p)) v us p
-          ∙ ap (option_and_then (λ (o : Option (List Datum)). o)) (h p)) in
+      get-combined place_total place_exact (λ p held update. option_and_then (λ o. o) (f p held update)) (λ p. ap (option_and_then (λ o. o)) (nothing p)) v us p
+      ∙ ap (option_and_then (λ (o : Option (List Datum)). o)) (h p)) in
       ap (λ b. cond b (Some (carried f v us)) None) all ∙ ap Some same
 
 module _ {U : Type 0} (f : Place → Option (List Datum) → Option U → Option (Option (List Datum))) (stays : (p : Place) (held : Option (List Datum)) → f p held None ≡ Some held)
@@ -144,13 +144,13 @@ module _ (tables : List Table) (watches : List (Option Watched)) (m : IsMonitorO
   pub step_mirrored : mirror watches (view watches a) (updates watches ts) ≡ Some (view watches b)
   step_mirrored = step_carried (mirror_at watches) (λ p held. refl) watches (λ p. action_told (watched_at watches p.table) p.id) a b ts
       (λ p. ap (mirror_at watches p (shown_at watches p (get a p)))
-          (all_asked is_asked (update_between (columns_watched watches p.table)) refl (watched_at watches p.table) p.id (get a p) (get b p) (if_some (watched_at watches p.table) _ (λ w e. action_asked w (all p.table w e))))
-          ∙ update_leads (columns_watched watches p.table) (shown_at watches p (get a p)) (shown_at watches p (get b p)) (shown_at_data tables watches a m h p) (shown_at_data tables watches b m k p))
+      (all_asked is_asked (update_between (columns_watched watches p.table)) refl (watched_at watches p.table) p.id (get a p) (get b p) (if_some (watched_at watches p.table) _ (λ w e. action_asked w (all p.table w e))))
+      ∙ update_leads (columns_watched watches p.table) (shown_at watches p (get a p)) (shown_at watches p (get b p)) (shown_at_data tables watches a m h p) (shown_at_data tables watches b m k p))
       sorted step
 
   pub step_replaced : replace (view watches a) (row_updates watches ts) ≡ Some (view watches b)
   step_replaced = step_carried (λ p. replace_row) (λ p held. refl) watches (λ p. row_update_told (watched_at watches p.table) p.id) a b ts
       (λ p. ap (replace_row (shown_at watches p (get a p)))
-          (all_asked is_row_asked row_update_between refl (watched_at watches p.table) p.id (get a p) (get b p) (if_some (watched_at watches p.table) _ (λ w e. row_asked w (all p.table w e))))
-          ∙ row_update_leads (columns_watched watches p.table) (shown_at watches p (get a p)) (shown_at watches p (get b p)) (shown_at_data tables watches a m h p) (shown_at_data tables watches b m k p))
+      (all_asked is_row_asked row_update_between refl (watched_at watches p.table) p.id (get a p) (get b p) (if_some (watched_at watches p.table) _ (λ w e. row_asked w (all p.table w e))))
+      ∙ row_update_leads (columns_watched watches p.table) (shown_at watches p (get a p)) (shown_at watches p (get b p)) (shown_at_data tables watches a m h p) (shown_at_data tables watches b m k p))
       sorted step

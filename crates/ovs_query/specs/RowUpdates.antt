@@ -10,11 +10,15 @@ pub data RowUpdate : Type 0 where
   Gone : (old : List Datum) → RowUpdate
   Changed : (previous : List (Option Datum)) (new : List Datum) → RowUpdate
 
--- of each column the first datum, where the second is another
+-- the first datum, where the second is another
+abbrev pub previous_datum : Datum → Datum → Option Datum
+previous_datum old new = if datum_eq old new then None else Some old
+
+-- the same of each column
 abbrev pub previous : List Datum → List Datum → List (Option Datum)
 previous [] ys = []
 previous (x ∷ xs) [] = []
-previous (x ∷ xs) (y ∷ ys) = (if datum_eq x y then None else Some x) ∷ previous xs ys
+previous (x ∷ xs) (y ∷ ys) = previous_datum x y ∷ previous xs ys
 
 abbrev pub row_update_between : Option (List Datum) → Option (List Datum) → Option RowUpdate
 row_update_between None None = None

@@ -43,7 +43,7 @@ first_json columns (Modify edits) = action_json columns (Modify edits)
 
 -- ---- tables
 
--- the rows by id, if there are any
+-- the rows by id, if something is written of any
 abbrev pub rows_by_id : List (List ℕ × Data) → Option Data
 rows_by_id [] = None
 rows_by_id (row ∷ rows) = Some (object_of (row ∷ rows))

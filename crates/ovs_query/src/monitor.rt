@@ -1,10 +1,20 @@
 //! Monitors (RFC 7047 section 4.1.5; ovsdb-server(7)).
 
-ghost use Rattle.std.specs.Prelude.{◌≡◌};
+ghost use Rattle.std.specs.Prelude.{◌≡◌, Some, option_map};
+ghost use Rattle.std.specs.Option.{option_copied};
+ghost use Rattle.ovs_query.specs.Shown.{shown_data};
+ghost use Rattle.ovs_query.specs.View.{shown_by};
+
+mod initial;
+mod row_update1;
+mod row_update2;
+mod tables;
+mod updates;
 
 use crate::clauses::Clauses;
 use crate::shown::ShownColumns;
-use ovs_types::Text;
+use ovs_rows::Row;
+use ovs_types::{RowId, Text};
 use std::marker::Model;
 
 /// The kinds of updates that a monitor asks for.
@@ -25,6 +35,24 @@ pub struct Watched {
     pub(crate) shown: ShownColumns,
     pub(crate) clauses: Clauses,
     pub(crate) kinds: Kinds,
+}
+
+impl Watched {
+    /// The row, if it is shown.
+    pub(crate) fn presented<'a>(&self, id: RowId, row: Option<&'a Row>) -> Option<&'a Row>
+        ensures value { option_map (λ r. shown_data self.now.shown id r.now) result ≡ shown_by (Some self.now) id (option_copied row.entry) }
+    {
+        match row {
+            Some(row) => {
+                if self.clauses.admits(id, row) {
+                    Some(row)
+                } else {
+                    None
+                }
+            }
+            None => None,
+        }
+    }
 }
 
 /// For each table of the schema what is watched of it, if anything is.
