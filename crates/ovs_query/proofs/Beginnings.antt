@@ -4,9 +4,8 @@ use Rattle.std.specs.Prelude.{IfSome}
 use Rattle.std.specs.List.{AllByRecursion}
 use Rattle.std.specs.Ordering.{eq_by_cmp}
 use Rattle.std.specs.Option.{option_and_then}
-use Rattle.std.specs.FinMap.{FinMap, get, find, empty, entries, get-empty, get-entries}
+use Rattle.std.specs.FinMap.{get, find, empty, entries, get-empty, get-entries}
 use Rattle.ovs_data.specs.declared.datum.Datum.{Datum}
-use Rattle.ovs_types.specs.declared.schema.NamedColumn.{NamedColumn}
 use Rattle.ovs_types.specs.declared.schema.Table.{Table}
 use Rattle.ovs_rows.specs.declared.place.Place.{Place}
 use Rattle.ovs_rows.specs.declared.row.Row.{Row}
@@ -15,7 +14,7 @@ use Rattle.ovs_rows.specs.declared.change.Action.TheVariants.{Insert}
 use Rattle.ovs_rows.specs.Place.{place_cmp, place_total, place_exact}
 use Rattle.ovs_rows.specs.Row.{Rows, columns_at, AreRowsOf}
 use Rattle.ovs_rows.specs.Change.{Actions, IsChangeOf}
-use Rattle.ovs_rows.specs.After.{TouchedRow, row_after, after_action, after, touched_row, applied_of}
+use Rattle.ovs_rows.specs.After.{row_after, after_action, after, touched_row, applied_of}
 use Rattle.ovs_rows.proofs.Laws.{get-after}
 use Rattle.ovs_rows.proofs.Maps.{get-combined, All-entries}
 use Rattle.ovs_rows.proofs.RowSteps.{row_after_kept}

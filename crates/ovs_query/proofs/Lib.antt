@@ -7,3 +7,4 @@ pub mod Beginnings
 pub mod Telling
 pub mod FirstRows
 pub mod ShownRows
+pub mod NoFloat

@@ -1,11 +1,10 @@
 -- What is shown of a row, written whole; and the touched rows of a table that is watched.
-use Rattle.std.proofs.Common.{◌≡◌, ℕ, ◌<◌, length, get_or, List, [], ◌∷◌, true, Option, Some, None, refl, sym, ap, subst, ◌∙◌, map}
-use Rattle.std.specs.Prelude.{◌==◌, IfSome}
+use Rattle.std.proofs.Common.{◌≡◌, ℕ, ◌<◌, length, get_or, List, [], ◌∷◌, Option, Some, None, refl, sym, ap, subst, ◌∙◌, map}
+use Rattle.std.specs.Prelude.{IfSome}
 use Rattle.std.specs.List.{AllByRecursion, zip}
 use Rattle.std.specs.Option.{option_and_then}
 use Rattle.std.proofs.lemmas.Bool.{eqb-true}
 use Rattle.std.proofs.lemmas.Option.{slice_get-get_or}
-use Rattle.ovs_types.specs.declared.schema.NamedColumn.{NamedColumn}
 use Rattle.ovs_types.specs.declared.schema.Table.{Table}
 use Rattle.ovs_rows.specs.declared.row.Row.{Row}
 use Rattle.ovs_rows.specs.After.{TouchedRow}

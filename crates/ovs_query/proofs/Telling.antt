@@ -5,7 +5,7 @@ use Rattle.std.specs.List.{AllByRecursion, cons_option, enumerate_from, filter_m
 use Rattle.std.specs.List.Sorted.{IsStrictlySortedBy}
 use Rattle.std.specs.Map.{keys_of}
 use Rattle.std.specs.declared.cmp.Ordering.TheVariants.{Less}
-use Rattle.std.specs.FinMap.{FinMap, entries}
+use Rattle.std.specs.FinMap.{entries}
 use Rattle.std.proofs.lemmas.Bool.{eqb-true}
 use Rattle.serde_json.specs.Data.{Data}
 use Rattle.ovs_types.specs.declared.schema.NamedColumn.{NamedColumn}
@@ -18,6 +18,7 @@ use Rattle.ovs_rows.specs.ChangeWriting.{action_json}
 use Rattle.ovs_rows.specs.Place.{place_cmp, place_total, place_exact}
 use Rattle.ovs_rows.specs.Writing.{object_of}
 use Rattle.ovs_rows.proofs.Maps.{entries-from_ordered}
+use Rattle.ovs_query.specs.declared.monitor.Notation.{Notation}
 use Rattle.ovs_query.specs.declared.monitor.Notation.TheVariants.{Update, Update2}
 use Rattle.ovs_query.specs.declared.monitor.Watched.{Watched}
 use Rattle.ovs_query.specs.Shown.{shown_columns}
@@ -111,3 +112,7 @@ step_told2 watches ts sorted = sym (tables_alike _ _ watches (λ n w is. members
 
 pub step_told1 : (watches : List (Option Watched)) (ts : List TouchedRow) → AscendByPlace ts → tables_json (told_members Update ts) watches ≡ update1_json watches (row_updates watches ts)
 step_told1 watches ts sorted = sym (tables_alike _ _ watches (λ n w is. members_told row_update_json row_update_told watches n w is ts sorted))
+
+-- the same of equal rows and monitors
+pub told_alike : (notation : Notation) (ts us : List TouchedRow) (ws xs : List (Option Watched)) → ts ≡ us → ws ≡ xs → tables_json (told_members notation ts) ws ≡ tables_json (told_members notation us) xs
+told_alike notation ts us ws xs rows watches = λ i. tables_json (told_members notation (rows i)) (watches i)
