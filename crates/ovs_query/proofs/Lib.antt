@@ -9,3 +9,11 @@ pub mod TableSteps
 pub mod MonitorLaws
 pub mod MonitorFaulty
 pub mod Watching
+pub mod ShownData
+pub mod Touching
+pub mod Mirroring
+pub mod Beginnings
+pub mod Telling
+pub mod FirstRows
+pub mod ShownRows
+pub mod NoFloat

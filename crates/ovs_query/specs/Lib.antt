@@ -2,6 +2,11 @@ pub mod Shown
 pub mod Conditions
 pub mod RowWriting
 pub mod View
+pub mod RowUpdates
+pub mod Mirror
+pub mod Updates
+pub mod UpdateWriting
+pub mod Telling
 pub mod Faults
 pub mod ConditionReading
 pub mod SelectReading

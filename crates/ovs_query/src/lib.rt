@@ -8,10 +8,12 @@ mod monitor;
 mod reading;
 mod select;
 mod shown;
+mod theorems;
 mod transact;
 
 pub use conditions::Conditions;
 pub use error::QueryError;
 pub use monitor::{Monitor, Notation};
 pub use select::Select;
+pub use theorems::monitor_laws;
 pub use transact::{read_only, transact_read};

@@ -1,10 +1,32 @@
 //! Monitors (RFC 7047 section 4.1.5; ovsdb-server(7)).
 
-ghost use Rattle.std.specs.Prelude.{◌≡◌};
+ghost use Rattle.std.specs.Prelude.{◌≡◌, IfOk, List, Some, false, option_map};
+ghost use Rattle.std.specs.FinMap.{empty};
+ghost use Rattle.std.specs.Option.{option_copied};
+ghost use Rattle.serde_json.specs.View.{view};
+ghost use Rattle.serde_json.specs.Written.{has_float};
+ghost use Rattle.ovs_types.specs.declared.schema.Table.{Table};
+ghost use Rattle.ovs_rows.specs.Row.{Rows, AreRowsOf};
+ghost use Rattle.ovs_query.specs.Mirror.{mirror, replace};
+ghost use Rattle.ovs_query.specs.Shown.{shown_data};
+ghost use Rattle.ovs_query.specs.Updates.{updates, row_updates, first_updates, first_row_updates, IsStep, AreTouchedOf, AsksAll, AsksFirst};
+ghost use Rattle.ovs_query.specs.UpdateWriting.{update1_json, update2_json, initial_json};
+ghost use Rattle.ovs_query.specs.View.{shown_by, view as rows_shown, IsMonitorOf};
+
+mod initial;
+mod row_update1;
+mod row_update2;
+mod tables;
+mod updates;
 
 use crate::clauses::Clauses;
+use crate::monitor::initial::first_json;
+use crate::monitor::updates::step_json;
 use crate::shown::ShownColumns;
-use ovs_types::Text;
+use ovs_rows::{Applied, Database, Row};
+use ovs_types::{NoMemory, RowId, Text};
+use serde_json::Value;
+use std::alloc::Global;
 use std::marker::Model;
 
 /// The kinds of updates that a monitor asks for.
@@ -25,6 +47,24 @@ pub struct Watched {
     pub(crate) shown: ShownColumns,
     pub(crate) clauses: Clauses,
     pub(crate) kinds: Kinds,
+}
+
+impl Watched {
+    /// The row, if it is shown.
+    pub(crate) fn presented<'a>(&self, id: RowId, row: Option<&'a Row>) -> Option<&'a Row>
+        ensures value { option_map (λ r. shown_data self.now.shown id r.now) result ≡ shown_by (Some self.now) id (option_copied row.entry) }
+    {
+        match row {
+            Some(row) => {
+                if self.clauses.admits(id, row) {
+                    Some(row)
+                } else {
+                    None
+                }
+            }
+            None => None,
+        }
+    }
 }
 
 /// For each table of the schema what is watched of it, if anything is.
@@ -74,4 +114,69 @@ pub enum Notation {
 pub struct Monitor {
     pub(crate) notation: Notation,
     pub(crate) watches: Watches,
+}
+
+impl Monitor {
+    /// The rows that the monitor shows at first, of the tables that ask for them, in its notation: each table that has any
+    /// by name, as an object of those rows by id. In `update2` and `update3` a row is `{"initial": row}` with the columns
+    /// that aren't at their default, in `update` it is `{"new": row}` with all that are shown.
+    ///
+    /// # Errors
+    /// `NoMemory` alone.
+    pub fn initial(&self, alloc: Global, database: &Database) -> Result<Value, NoMemory>
+        ensures value { IfOk result (λ v. view v ≡ initial_json self.now.notation self.now.watches database.now.rows) }
+        // A copy of nothing that gets them has what is shown.
+        ensures mirrored { AsksFirst self.now.watches → mirror self.now.watches empty (first_updates self.now.watches database.now.rows) ≡ Some (rows_shown self.now.watches database.now.rows) }
+        ensures replaced { AsksFirst self.now.watches → replace empty (first_row_updates self.now.watches database.now.rows) ≡ Some (rows_shown self.now.watches database.now.rows) }
+        // It holds no number with a fraction, so that its printed text is exact.
+        ensures whole { IfOk result (λ v. has_float (view v) ≡ false) }
+    {
+        first_json(alloc, self.notation, self.watches.as_slice(), database)
+    }
+
+    /// What a step tells in `update2` and `update3` (ovsdb-server(7)): each table of whose rows something is told by name, as
+    /// an object of those rows by id. A row that comes is `{"insert": row}` with the columns that aren't at their default,
+    /// one that goes `{"delete": null}`, and one of which shown columns changed `{"modify": row}` with their differences,
+    /// where the monitor asks for such updates. A row comes and goes with its match too.
+    ///
+    /// # Errors
+    /// `NoMemory` alone.
+    pub fn update2(&self, alloc: Global, applied: &Applied) -> Result<Value, NoMemory>
+        requires same_tables { (tables : List Table) × IsMonitorOf tables self.now.watches × AreTouchedOf tables applied.now }
+        ensures value { IfOk result (λ v. view v ≡ update2_json self.now.watches (updates self.now.watches applied.now)) }
+        // Where all are asked for, they lead a copy of what was shown to what is shown.
+        ensures mirrored { (tables : List Table) (old new : Rows) → IsMonitorOf tables self.now.watches → AsksAll self.now.watches → AreRowsOf tables old → AreRowsOf tables new → IsStep applied.now old new
+            → mirror self.now.watches (rows_shown self.now.watches old) (updates self.now.watches applied.now) ≡ Some (rows_shown self.now.watches new) }
+        ensures whole { IfOk result (λ v. has_float (view v) ≡ false) }
+    {
+        step_json(
+            alloc,
+            Notation::Update2,
+            self.watches.as_slice(),
+            applied.rows(),
+        )
+    }
+
+    /// What a step tells in `update` (RFC 7047 section 4.1.6): each table of whose rows something is told by name, as an
+    /// object of those rows by id. A row that comes is `{"new": row}` and one that goes `{"old": row}`, with all that is
+    /// shown; one of which shown columns changed is `{"new": row, "old": row}` with all of the new and those columns of the
+    /// old, where the monitor asks for such updates.
+    ///
+    /// # Errors
+    /// `NoMemory` alone.
+    pub fn update1(&self, alloc: Global, applied: &Applied) -> Result<Value, NoMemory>
+        requires same_tables { (tables : List Table) × IsMonitorOf tables self.now.watches × AreTouchedOf tables applied.now }
+        ensures value { IfOk result (λ v. view v ≡ update1_json self.now.watches (row_updates self.now.watches applied.now)) }
+        // Where all are asked for, they lead a copy of what was shown to what is shown.
+        ensures mirrored { (tables : List Table) (old new : Rows) → IsMonitorOf tables self.now.watches → AsksAll self.now.watches → AreRowsOf tables old → AreRowsOf tables new → IsStep applied.now old new
+            → replace (rows_shown self.now.watches old) (row_updates self.now.watches applied.now) ≡ Some (rows_shown self.now.watches new) }
+        ensures whole { IfOk result (λ v. has_float (view v) ≡ false) }
+    {
+        step_json(
+            alloc,
+            Notation::Update,
+            self.watches.as_slice(),
+            applied.rows(),
+        )
+    }
 }

@@ -1,0 +1,51 @@
+-- What is shown of a row, written whole; and the touched rows of a table that is watched.
+use Rattle.std.proofs.Common.{◌≡◌, ℕ, ◌<◌, length, get_or, List, [], ◌∷◌, Option, Some, None, refl, sym, ap, subst, ◌∙◌, map}
+use Rattle.std.specs.Prelude.{IfSome}
+use Rattle.std.specs.List.{AllByRecursion, zip}
+use Rattle.std.specs.Option.{option_and_then}
+use Rattle.std.proofs.lemmas.Bool.{eqb-true}
+use Rattle.std.proofs.lemmas.Option.{slice_get-get_or}
+use Rattle.ovs_types.specs.declared.schema.Table.{Table}
+use Rattle.ovs_rows.specs.declared.row.Row.{Row}
+use Rattle.ovs_rows.specs.After.{TouchedRow}
+use Rattle.ovs_rows.specs.Row.{AreDataOf, columns_at}
+use Rattle.ovs_rows.specs.Writing.{object_of, column_member}
+use Rattle.ovs_query.specs.declared.monitor.Watched.{Watched}
+use Rattle.ovs_query.specs.declared.shown.Shown.{Shown}
+use Rattle.ovs_query.specs.RowWriting.{shown_member, shown_json}
+use Rattle.ovs_query.specs.Shown.{shown_data, shown_columns}
+use Rattle.ovs_query.specs.Telling.{AreShown, AreShownIn, AreAllShown}
+use Rattle.ovs_query.specs.Updates.{IsRowOf, AreTouchedOf}
+use Rattle.ovs_query.specs.UpdateWriting.{whole_json}
+use Rattle.ovs_query.specs.View.{IsShownOf, IsMonitorOf}
+use Rattle.ovs_query.proofs.ShownData.{if_some, shown_are_data}
+
+members_whole : (id : ℕ) (row : Row) (shown : List Shown) → map (shown_member id row) shown ≡ map column_member (zip (shown_columns shown) (shown_data shown id row))
+members_whole id row [] = refl
+members_whole id row (s ∷ shown) = ap (λ ms. shown_member id row s ∷ ms) (members_whole id row shown)
+
+-- a row's shown columns under their names are all of its columns that are shown
+pub shown_whole : (shown : List Shown) (id : ℕ) (row : Row) → shown_json shown id row ≡ whole_json (shown_columns shown) (shown_data shown id row)
+shown_whole shown id row = ap object_of (members_whole id row shown)
+
+-- ---- touched rows
+
+module _ (tables : List Table) (number : ℕ) (w : Watched) (all : AllByRecursion (IsShownOf (columns_at tables number)) w.shown) where
+  one_shown : (n id : ℕ) (row : Option Row) → n ≡ number → IsRowOf (columns_at tables n) row → AreShown w id row
+  one_shown n id None at h = tt
+  one_shown n id (Some row) at h = shown_are_data (columns_at tables number) id row (subst (λ m. AreDataOf (columns_at tables m) row.columns) at h) w.shown all
+
+  each_shown : (ts : List TouchedRow) → AreTouchedOf tables ts → AllByRecursion (AreShownIn number w) ts
+  each_shown [] h = tt
+  each_shown (t ∷ ts) h = (
+    λ at. (one_shown t.place.table t.place.id t.before (eqb-true t.place.table number at) h.0.0, one_shown t.place.table t.place.id t.after (eqb-true t.place.table number at) h.0.1),
+    each_shown ts h.1,
+  )
+
+-- touched rows of the monitor's tables show data of the shown columns
+pub all_shown : (tables : List Table) (watches : List (Option Watched)) (ts : List TouchedRow) → IsMonitorOf tables watches → AreTouchedOf tables ts → AreAllShown watches ts
+all_shown tables watches ts m h = λ number w is. each_shown tables number w (m number w is) ts h
+
+-- the same of a table by its number
+pub item_shown : (watches : List (Option Watched)) (ts : List TouchedRow) (i : ℕ) (o : Option Watched) → i < length watches → o ≡ get_or watches i o → AreAllShown watches ts → IfSome o (λ w. AllByRecursion (AreShownIn i w) ts)
+item_shown watches ts i o lt is all = if_some o _ (λ w e. all i w (ap (option_and_then (λ o. o)) (slice_get-get_or watches i o lt) ∙ sym is ∙ e))

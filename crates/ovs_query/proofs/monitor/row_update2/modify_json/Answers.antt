@@ -1,0 +1,11 @@
+use Rattle.std.proofs.Common.{ap, refl, ◌∙◌}
+use Rattle.std.proofs.lemmas.Slice.Zip.{either_empty_from_Zip}
+use Rattle.serde_json.specs.Data.{object}
+use Rattle.serde_json.proofs.Views.{view-Object}
+use Rattle.ovs_query.proofs.Members.{edits_end}
+use Rattle.ovs_query.proofs.monitor.row_update2.modify_json.Goals as goal
+
+pub returns : goal.returns
+returns c = record {
+  value = view-Object c.loop-part.members ∙ ap object (edits_end _ _ _ _ (either_empty_from_Zip c.loop-part.part-iterator c.next.new.self _ refl c.in-None.ensures.steps) c.loop-part.invariant);
+}

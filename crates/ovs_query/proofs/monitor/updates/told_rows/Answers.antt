@@ -1,0 +1,23 @@
+use Rattle.std.proofs.Common.{◌≡◌, ◌∷◌, ◌+◌, drop, map, ap, ◌∙◌}
+use Rattle.std.specs.Prelude.{option_map}
+use Rattle.serde_json.specs.View.{members_view}
+use Rattle.ovs_types.specs.Id.{id_text}
+use Rattle.ovs_rows.specs.Applied.{seen}
+use Rattle.ovs_rows.specs.ChangeWriting.{with_some}
+use Rattle.ovs_rows.proofs.PlacingSteps.{drop-at}
+use Rattle.ovs_query.specs.Telling.{told_member}
+use Rattle.ovs_query.proofs.Members.{next_put}
+use Rattle.ovs_query.proofs.monitor.updates.told_rows.Goals as goal
+
+pub loop-touched-preserved : goal.loop-touched-preserved
+loop-touched-preserved c =
+    let t = c.touched-item.result in
+    let rest = drop (c.loop-touched.touched-index + 1) c.args.applied.now in
+    let next : drop c.loop-touched.touched-index c.args.applied.now ≡ t ∷ rest = drop-at c.args.applied.now c.loop-touched.touched-index t c.loop-touched-test.true c.touched-item.is in
+    let ms = members_view c.loop-touched.members.entries in
+    record {
+      shown = (rw next at c.loop-touched.invariant.shown).1;
+      whole = next_put (told_member c.args.notation c.args.number c.args.watched.now) (map seen (drop c.loop-touched.touched-index c.args.applied.now)) ms _ c.loop-touched.invariant.whole (seen t) (map seen rest) _
+          (ap (map seen) next)
+          (c.in_ok-put_row.ensures.value ∙ ap (λ o. with_some ms (option_map (λ d. (id_text t.place.id, d)) o)) c.in_ok-row.ensures.value);
+    }

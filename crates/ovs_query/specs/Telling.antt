@@ -1,0 +1,79 @@
+-- What is written of the rows of one table, row by row.
+use Rattle.std.specs.Prelude.{◌≡◌, ℕ, List, [], true, Option, Some, None, IfSome, ◌==◌, if◌then◌else◌, option_map}
+use Rattle.std.specs.List.{AllByRecursion, filter_map}
+use Rattle.serde_json.specs.Data.{Data, Members, no_members, member, object}
+use Rattle.ovs_data.specs.declared.datum.Datum.{Datum}
+use Rattle.ovs_types.specs.declared.schema.NamedColumn.{NamedColumn}
+use Rattle.ovs_types.specs.Id.{id_text}
+use Rattle.ovs_rows.specs.declared.place.Place.{Place}
+use Rattle.ovs_rows.specs.declared.change.Action.TheVariants.{Insert}
+use Rattle.ovs_rows.specs.declared.row.Row.{Row}
+use Rattle.ovs_rows.specs.After.{TouchedRow}
+use Rattle.ovs_rows.specs.ChangeWriting.{action_json}
+use Rattle.ovs_rows.specs.Row.{Rows, AreDataOf}
+use Rattle.ovs_rows.specs.Writing.{rows_in}
+use Rattle.ovs_query.specs.declared.monitor.Notation.{Notation}
+use Rattle.ovs_query.specs.declared.monitor.Notation.TheVariants.{Update, Update2, Update3}
+use Rattle.ovs_query.specs.declared.monitor.Watched.{Watched}
+use Rattle.ovs_query.specs.Shown.{shown_columns, shown_data}
+use Rattle.ovs_query.specs.RowUpdates.{New}
+use Rattle.ovs_query.specs.View.{presented, watched_at}
+use Rattle.ovs_query.specs.Updates.{action_told, row_update_told}
+use Rattle.ovs_query.specs.UpdateWriting.{row_update_json, first_json}
+
+-- ---- a step
+
+-- what is written of a touched row of a table that is watched so
+abbrev pub told_json : Notation → Watched → TouchedRow → Option Data
+told_json Update w t = option_map (row_update_json (shown_columns w.shown)) (row_update_told (Some w) t.place.id t.before t.after)
+told_json Update2 w t = option_map (action_json (shown_columns w.shown)) (action_told (Some w) t.place.id t.before t.after)
+told_json Update3 w t = option_map (action_json (shown_columns w.shown)) (action_told (Some w) t.place.id t.before t.after)
+
+-- nothing of another table's row
+abbrev pub told_in : Notation → ℕ → Watched → TouchedRow → Option Data
+told_in notation number w t = if t.place.table == number then told_json notation w t else None
+
+-- its id and that
+abbrev pub told_member : Notation → ℕ → Watched → TouchedRow → Option (List ℕ × Data)
+told_member notation number w t = option_map (λ d. (id_text t.place.id, d)) (told_in notation number w t)
+
+abbrev pub told_members : Notation → List TouchedRow → ℕ → Watched → List (List ℕ × Data)
+told_members notation ts number w = filter_map (told_member notation number w) ts
+
+-- what is shown of a row, if it is there, are data of the shown columns
+abbrev pub AreShown : Watched → ℕ → Option Row → Type 0
+AreShown w id row = IfSome row (λ r. AreDataOf (shown_columns w.shown) (shown_data w.shown id r))
+
+-- the same of the table's rows
+abbrev pub AreShownIn : ℕ → Watched → TouchedRow → Type 0
+AreShownIn number w t = (t.place.table == number) ≡ true → AreShown w t.place.id t.before × AreShown w t.place.id t.after
+
+-- the same of all tables
+abbrev pub AreAllShown : List (Option Watched) → List TouchedRow → Type 0
+AreAllShown watches ts = (number : ℕ) (w : Watched) → watched_at watches number ≡ Some w → AllByRecursion (AreShownIn number w) ts
+
+-- ---- the first rows
+
+abbrev pub first_row_json : Notation → List NamedColumn → List Datum → Data
+first_row_json Update columns made = row_update_json columns (New made)
+first_row_json Update2 columns made = first_json columns (Insert made)
+first_row_json Update3 columns made = first_json columns (Insert made)
+
+-- what is written of a row, if it is shown
+abbrev pub first_json_of : Notation → Watched → ℕ → Row → Option Data
+first_json_of notation w id row = option_map (first_row_json notation (shown_columns w.shown)) (presented id row w)
+
+-- its id and that
+abbrev pub first_member : Notation → Watched → Place × Row → Option (List ℕ × Data)
+first_member notation w e = option_map (λ d. (id_text e.0.id, d)) (first_json_of notation w e.0.id e.1)
+
+-- those of a table, where they are asked for
+abbrev pub first_members : Notation → Rows → ℕ → Watched → List (List ℕ × Data)
+first_members notation rows number w = if w.kinds.initial then filter_map (first_member notation w) (rows_in number rows) else []
+
+-- ---- the rows of a table
+
+-- an object, if it has members
+abbrev pub some_object : Members → Option Data
+some_object no_members = None
+some_object (member name d ms) = Some (object (member name d ms))

@@ -1,0 +1,132 @@
+-- What a monitor tells of a step from one database to another, and of the rows that are there at first.
+use Rattle.std.specs.Prelude.{◌≡◌, ℕ, List, [], ◌∷◌, Bool, true, Option, Some, None, IfSome, if◌then◌else◌, option_map}
+use Rattle.std.specs.List.{AllByRecursion, filter_map}
+use Rattle.std.specs.Ordering.{eq_by_cmp}
+use Rattle.std.specs.Option.{option_and_then}
+use Rattle.std.specs.FinMap.{FinMap, empty, get, from_entries}
+use Rattle.ovs_data.specs.declared.datum.Datum.{Datum}
+use Rattle.ovs_types.specs.declared.schema.NamedColumn.{NamedColumn}
+use Rattle.ovs_types.specs.declared.schema.Table.{Table}
+use Rattle.ovs_rows.specs.declared.change.Action.{Action}
+use Rattle.ovs_rows.specs.declared.change.Action.TheVariants.{Insert, Delete, Modify}
+use Rattle.ovs_rows.specs.declared.place.Place.{Place}
+use Rattle.ovs_rows.specs.declared.row.Row.{Row}
+use Rattle.ovs_rows.specs.Place.{place_cmp}
+use Rattle.ovs_rows.specs.Row.{Rows, AreDataOf, columns_at}
+use Rattle.ovs_rows.specs.Change.{Actions}
+use Rattle.ovs_rows.specs.After.{TouchedRow}
+use Rattle.ovs_rows.specs.Combined.{combined}
+use Rattle.ovs_rows.specs.DatabaseDifference.{edits_between, modified}
+use Rattle.ovs_query.specs.declared.monitor.Kinds.{Kinds}
+use Rattle.ovs_query.specs.declared.monitor.Watched.{Watched}
+use Rattle.ovs_query.specs.RowUpdates.{RowUpdate, New, Gone, Changed, row_update_between}
+use Rattle.ovs_query.specs.View.{columns_of, shown_by, shown_at, watched_at}
+
+-- ---- steps
+
+-- what a list of touched rows says of a place
+abbrev pub touched_at : List TouchedRow → Place → Option TouchedRow
+touched_at [] p = None
+touched_at (t ∷ ts) p = if eq_by_cmp place_cmp p t.place then Some t else touched_at ts p
+
+abbrev pub IsStepAt : Option TouchedRow → Option Row → Option Row → Type 0
+IsStepAt None old new = new ≡ old
+IsStepAt (Some t) old new = (old ≡ t.before) × (new ≡ t.after)
+
+-- the list has the rows that changed, before and after; all others are as they were
+abbrev pub IsStep : List TouchedRow → Rows → Rows → Type 0
+IsStep applied old new = (p : Place) → IsStepAt (touched_at applied p) (get old p) (get new p)
+
+-- the row, if there is one, has a datum of each of the columns
+abbrev pub IsRowOf : List NamedColumn → Option Row → Type 0
+IsRowOf columns row = IfSome row (λ r. AreDataOf columns r.columns)
+
+-- touched rows of these tables
+abbrev pub AreTouchedOf : List Table → List TouchedRow → Type 0
+AreTouchedOf tables = AllByRecursion (λ t. IsRowOf (columns_at tables t.place.table) t.before × IsRowOf (columns_at tables t.place.table) t.after)
+
+-- ---- updates
+
+-- what becomes of a shown row: a row comes, goes, or has other data
+abbrev pub update_between : List NamedColumn → Option (List Datum) → Option (List Datum) → Option Action
+update_between columns None None = None
+update_between columns None (Some new) = Some (Insert new)
+update_between columns (Some old) None = Some Delete
+update_between columns (Some old) (Some new) = modified (edits_between columns old new)
+
+-- updates of the kinds that the monitor asks for
+module _ {U : Type 0} (is_asked : Kinds → U → Bool) where
+  abbrev pub asked : Option Watched → U → Option U
+  asked None u = None
+  asked (Some w) u = if is_asked w.kinds u then Some u else None
+
+abbrev pub is_asked : Kinds → Action → Bool
+is_asked kinds (Insert made) = kinds.insert
+is_asked kinds Delete = kinds.delete
+is_asked kinds (Modify edits) = kinds.modify
+
+abbrev pub is_row_asked : Kinds → RowUpdate → Bool
+is_row_asked kinds (New new) = kinds.insert
+is_row_asked kinds (Gone old) = kinds.delete
+is_row_asked kinds (Changed previous new) = kinds.modify
+
+-- what is told of a row of a table that is watched so, if anything, in `update2` and `update3`
+abbrev pub action_told : Option Watched → ℕ → Option Row → Option Row → Option Action
+action_told watched id before after = option_and_then (asked is_asked watched) (update_between (columns_of watched) (shown_by watched id before) (shown_by watched id after))
+
+-- and in `update`
+abbrev pub row_update_told : Option Watched → ℕ → Option Row → Option Row → Option RowUpdate
+row_update_told watched id before after = option_and_then (asked is_row_asked watched) (row_update_between (shown_by watched id before) (shown_by watched id after))
+
+-- what touched rows give, by place
+module _ {U : Type 0} (f : TouchedRow → Option U) where
+  abbrev pub listed : List TouchedRow → List (Place × U)
+  listed = filter_map (λ t. option_map (λ u. (t.place, u)) (f t))
+
+  abbrev pub by_place : List TouchedRow → FinMap place_cmp U
+  by_place ts = from_entries (listed ts)
+
+-- the same, told by what is watched of each table
+module _ {U : Type 0} (told : Option Watched → ℕ → Option Row → Option Row → Option U) where
+  abbrev pub told_of : List (Option Watched) → TouchedRow → Option U
+  told_of watches t = told (watched_at watches t.place.table) t.place.id t.before t.after
+
+  abbrev pub told_by_place : List (Option Watched) → List TouchedRow → FinMap place_cmp U
+  told_by_place watches = by_place (told_of watches)
+
+-- the updates of a step, by place
+abbrev pub updates : List (Option Watched) → List TouchedRow → Actions
+updates = told_by_place action_told
+
+abbrev pub row_updates : List (Option Watched) → List TouchedRow → FinMap place_cmp RowUpdate
+row_updates = told_by_place row_update_told
+
+-- all kinds are asked for
+abbrev pub AsksAllOf : Watched → Type 0
+AsksAllOf w = (w.kinds.insert ≡ true) × (w.kinds.delete ≡ true) × (w.kinds.modify ≡ true)
+
+abbrev pub AsksAll : List (Option Watched) → Type 0
+AsksAll watches = (number : ℕ) (w : Watched) → watched_at watches number ≡ Some w → AsksAllOf w
+
+-- ---- the first rows
+
+-- an update makes a row
+module _ {U : Type 0} (made : List Datum → U) where
+  -- that of a shown row, where the first rows are asked for
+  abbrev pub asked_first : Option Watched → List Datum → Option U
+  asked_first None shown = None
+  asked_first (Some w) shown = if w.kinds.initial then Some (made shown) else None
+
+  -- the rows that are shown at first, where they are asked for
+  unfoldable pub first_rows : List (Option Watched) → Rows → FinMap place_cmp U
+  first_rows watches rows = combined (λ p row nothing. option_and_then (asked_first (watched_at watches p.table)) (shown_at watches p row)) rows (empty {X = Row})
+
+abbrev pub first_updates : List (Option Watched) → Rows → Actions
+first_updates = first_rows Insert
+
+abbrev pub first_row_updates : List (Option Watched) → Rows → FinMap place_cmp RowUpdate
+first_row_updates = first_rows New
+
+-- the first rows of all tables are asked for
+abbrev pub AsksFirst : List (Option Watched) → Type 0
+AsksFirst watches = (number : ℕ) (w : Watched) → watched_at watches number ≡ Some w → w.kinds.initial ≡ true

@@ -1,0 +1,126 @@
+//! What a monitor tells of a step: of one row, of one table, and of all.
+
+ghost use Rattle.std.specs.Prelude.{◌≡◌, ◌++◌, ℕ, IfOk, IfSome, OnOk, Some, map, fold, option_map};
+ghost use Rattle.std.specs.List.{AllByRecursion, filter_map};
+ghost use Rattle.std.specs.Option.{option_copied};
+ghost use Rattle.serde_json.specs.Data.{no_members};
+ghost use Rattle.serde_json.specs.View.{view, members_view};
+ghost use Rattle.ovs_rows.specs.Applied.{seen};
+ghost use Rattle.ovs_rows.specs.ChangeWriting.{with_some};
+ghost use Rattle.ovs_rows.specs.Writing.{with_member};
+ghost use Rattle.ovs_query.specs.Telling.{told_json, told_in, told_members, AreShown, AreShownIn, AreAllShown};
+ghost use Rattle.ovs_query.specs.UpdateWriting.{table_member, tables_json};
+
+use crate::monitor::row_update1::row_update1;
+use crate::monitor::row_update2::row_update2;
+use crate::monitor::tables::{put_row, put_table};
+use crate::monitor::{Notation, Watched};
+use ovs_rows::{Row, Touched};
+use ovs_types::NoMemory;
+use serde_json::{Map, Value};
+use std::alloc::Global;
+use std::sync::Arc;
+
+// The row behind a pointer, if there is one.
+fn row_of(row: &Option<Arc<Row>>) -> Option<&Row>
+    ensures value { option_copied result ≡ option_map (λ a. a.value) row.now }
+{
+    match row {
+        Some(row) => Some(&**row),
+        None => None,
+    }
+}
+
+fn told_json(
+    alloc: Global,
+    notation: Notation,
+    watched: &Watched,
+    touched: &Touched,
+) -> Result<Option<Value>, NoMemory>
+    requires before { AreShown watched.now touched.now.place.id (seen touched.now).before }
+    requires after { AreShown watched.now touched.now.place.id (seen touched.now).after }
+    ensures value { IfOk result (λ o. option_map view o ≡ told_json notation watched.now (seen touched.now)) }
+{
+    let id = touched.place.id;
+    let before = row_of(&touched.before);
+    let after = row_of(&touched.after);
+    match notation {
+        Notation::Update => row_update1(alloc, watched, id, before, after),
+        Notation::Update2 | Notation::Update3 => row_update2(alloc, watched, id, before, after),
+    }
+}
+
+// What is told of a touched row, if it is one of the table.
+fn told_in(
+    alloc: Global,
+    notation: Notation,
+    number: usize,
+    watched: &Watched,
+    touched: &Touched,
+) -> Result<Option<Value>, NoMemory>
+    requires shown { AreShownIn number watched.now (seen touched.now) }
+    ensures value { IfOk result (λ o. option_map view o ≡ told_in notation number watched.now (seen touched.now)) }
+{
+    if touched.place.table == number {
+        told_json(alloc, notation, watched, touched)
+    } else {
+        Ok(None)
+    }
+}
+
+// What is told of the rows of a table, by id.
+fn told_rows(
+    alloc: Global,
+    notation: Notation,
+    number: usize,
+    watched: &Watched,
+    applied: &[Touched],
+) -> Result<Map<String, Value>, NoMemory>
+    requires shown { AllByRecursion (AreShownIn number watched.now) (map seen applied.now) }
+    ensures value { IfOk result (λ m. members_view m.entries ≡ fold with_member no_members (told_members notation (map seen applied.now) number watched.now)) }
+{
+    let mut members = Map::new(alloc);
+    for touched in applied {
+        let row = told_in(alloc, notation, number, watched, touched)?;
+        put_row(alloc, &mut members, touched.place.id, row)?;
+    }
+    Ok(members)
+}
+
+// Puts a table of whose rows something is told under its name, if it is watched.
+fn put_told(
+    alloc: Global,
+    members: &mut Map<String, Value>,
+    notation: Notation,
+    number: usize,
+    watched: &Option<Watched>,
+    applied: &[Touched],
+) -> Result<(), NoMemory>
+    requires shown { IfSome watched.now (λ w. AllByRecursion (AreShownIn number w) (map seen applied.now)) }
+    ensures value { OnOk result (members_view members.new.entries ≡ with_some (members_view members.old.entries) (table_member (told_members notation (map seen applied.now)) (number, watched.now))) }
+{
+    match watched {
+        Some(watched) => {
+            let rows = told_rows(alloc, notation, number, watched, applied)?;
+            put_table(alloc, members, &watched.name, rows)
+        }
+        None => Ok(()),
+    }
+}
+
+/// What is told of these touched rows, table by table.
+pub(crate) fn step_json(
+    alloc: Global,
+    notation: Notation,
+    watches: &[Option<Watched>],
+    applied: &[Touched],
+) -> Result<Value, NoMemory>
+    requires shown { AreAllShown watches.now (map seen applied.now) }
+    ensures value { IfOk result (λ v. view v ≡ tables_json (told_members notation (map seen applied.now)) watches.now) }
+{
+    let mut members = Map::new(alloc);
+    for (number, watched) in watches.iter().enumerate() {
+        put_told(alloc, &mut members, notation, number, watched, applied)?;
+    }
+    Ok(Value::Object(members))
+}
