@@ -26,7 +26,7 @@ use Rattle.ovs_query.specs.ConditionReading.{plain, read_condition, all_but_id, 
 use Rattle.ovs_query.specs.MonitorReading.{read_kind, read_each_kind, all_kinds, read_kinds, read_clause_or, read_clause, read_each_clause, read_clauses, where_in, read_parts, read_request, at_most_one, one_request_or, read_optional, read_requests, read_table, with_table, read_tables, nothing_watched, read_all_tables, read_watches, read_monitor}
 use Rattle.ovs_query.specs.MonitorSpelling.{SpellsKind, SpellsKinds, SpellsClause, SpellsClauses, SpellsRequest, SpellsRequests, SpellsTable, SpellsMonitor}
 use Rattle.ovs_query.proofs.Items.{items_found, items_only}
-use Rattle.ovs_query.proofs.SelectLaws.{columns_found, columns_only, condition_found, condition_only, plain_found, plain_only}
+use Rattle.ovs_query.proofs.SelectLaws.{read_so, columns_found, columns_only, condition_found, condition_only, plain_found, plain_only}
 use Rattle.ovs_query.proofs.TableSteps.{Leads, spelled_watches, leading_watches}
 
 abbrev fine : {X : Type 0} → X → Read X
@@ -50,7 +50,7 @@ kinds_found (Some d) k e =
     let insert' = bind_found (read_kind (get (codes "insert") d)) _ k initial'.2 in
     let delete' = bind_found (read_kind (get (codes "delete") d)) _ k insert'.2 in
     let modify' = bind_found (read_kind (get (codes "modify") d)) _ k delete'.2 in
-    subst (SpellsKinds (Some d)) (sym (same_value (record { initial = initial'.0; insert = insert'.0; delete = delete'.0; modify = modify'.0 }) k modify'.2)) (
+    read_so (SpellsKinds (Some d)) (record { initial = initial'.0; insert = insert'.0; delete = delete'.0; modify = modify'.0 }) k modify'.2 (
       members.0,
       object_of d members.0 (ok_or_found (as_object d) BadSelect members.0 members.1),
       kind_found (get (codes "initial") d) initial'.0 initial'.1,

@@ -33,6 +33,10 @@ use Rattle.ovs_query.proofs.Items.{items_found, items_only}
 
 -- ---- parts
 
+-- what holds of the value that was made holds of the one that was read
+pub read_so : {X : Type 0} (P : X → Type 0) (x y : X) → ◌≡◌ {A = Read X} (Ok x) (Ok y) → P x → P y
+read_so P x y e h = subst P (sym (same_value x y e)) h
+
 three_of-is : (ds : Items) (p : Data × Data × Data) → three_of ds ≡ Some p → array ds ≡ three p.0 p.1 p.2
 three_of-is no_items p e = absurd cc
 three_of-is (item d no_items) p e = absurd cc
@@ -72,6 +76,13 @@ test_only Unequal = refl
 test_only Includes = refl
 test_only Excludes = refl
 
+-- the name of a column, that of a function, and a value
+condition_is : (d : Data) (p : Data × Data × Data) (name : List ℕ) (t : Test) → three_items d ≡ Some p → as_str p.0 ≡ Some name → option_and_then test_named (as_str p.1) ≡ Some t
+    → d ≡ three (string name) (string (name_of t)) p.2
+condition_is d p name t whole named tested =
+    let word = then_found (as_str p.1) test_named t tested in
+    three_items-is d p whole ∙ ap (λ n. three n p.1 p.2) (string_of p.0 name named) ∙ ap (λ w. three (string name) w p.2) (string_of p.1 word.0 word.1 ∙ ap string (test_found word.0 t word.2))
+
 -- ---- columns
 
 module _ (fault : QueryError) (columns : List NamedColumn) where
@@ -80,7 +91,7 @@ module _ (fault : QueryError) (columns : List NamedColumn) where
       let name = bind_found (ok_or (as_str d) fault) _ s e in
       let field = bind_found (ok_or (field_named columns name.0) UnknownColumn) _ s name.2 in
       let named = ok_or_found (field_named columns name.0) UnknownColumn field.0 field.1 in
-      subst (SpellsShown columns d) (sym (same_value (shown_field name.0 field.0) s field.2)) (string_of d name.0 (ok_or_found (as_str d) fault name.0 name.1), named)
+      read_so (SpellsShown columns d) (shown_field name.0 field.0) s field.2 (string_of d name.0 (ok_or_found (as_str d) fault name.0 name.1), named)
 
   shown_only : (d : Data) (s : Shown) → SpellsShown columns d s → read_shown fault columns d ≡ Ok s
   shown_only d s (is, named) = rw (is, named) refl
@@ -108,15 +119,13 @@ module _ (value : Column → Data → Read Datum) (Spelled : Column → Data →
         let test = bind_found (ok_or (option_and_then test_named (as_str parts.0.1)) BadCondition) _ c field.2 in
         let column = bind_found (ok_or (column_for test.0 field.0.1) BadCondition) _ c test.2 in
         let datum = bind_found (value column.0 parts.0.2) _ c column.2 in
-        let word = then_found (as_str parts.0.1) test_named test.0 (ok_or_found (option_and_then test_named (as_str parts.0.1)) BadCondition test.0 test.1) in
-        subst (SpellsCondition Spelled columns d) (sym (same_value (record { field = field.0.0; test = test.0; value = datum.0 }) c datum.2)) (
+        read_so (SpellsCondition Spelled columns d) (record { field = field.0.0; test = test.0; value = datum.0 }) c datum.2 (
           name.0,
           field.0.1,
           column.0,
           parts.0.2,
-          three_items-is d parts.0 (ok_or_found (three_items d) BadCondition parts.0 parts.1)
-              ∙ ap (λ n. three n parts.0.1 parts.0.2) (string_of parts.0.0 name.0 (ok_or_found (as_str parts.0.0) BadCondition name.0 name.1))
-              ∙ ap (λ f. three (string name.0) f parts.0.2) (string_of parts.0.1 word.0 word.1 ∙ ap string (test_found word.0 test.0 word.2)),
+          condition_is d parts.0 name.0 test.0 (ok_or_found (three_items d) BadCondition parts.0 parts.1) (ok_or_found (as_str parts.0.0) BadCondition name.0 name.1)
+              (ok_or_found (option_and_then test_named (as_str parts.0.1)) BadCondition test.0 test.1),
           ok_or_found (field_named columns name.0) UnknownColumn field.0 field.1,
           ok_or_found (column_for test.0 field.0.1) BadCondition column.0 column.1,
           found column.0 parts.0.2 datum.0 datum.1,

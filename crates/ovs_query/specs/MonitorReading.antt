@@ -1,5 +1,5 @@
 -- The monitors that JSON values stand for, with the first fault of those that stand for none (ovsdb-server(7)).
-use Rattle.std.specs.Prelude.{ℕ, List, [], Bool, true, Option, Some, None, Ok, Err, codes, map, slice_set}
+use Rattle.std.specs.Prelude.{ℕ, List, [], ◌∷◌, Bool, true, Option, Some, None, Ok, Err, codes, map, slice_set}
 use Rattle.std.specs.Option.{ok_or}
 use Rattle.serde_json.specs.Data.{Data, Items, no_items, item, Members, no_members, member}
 use Rattle.serde_json.specs.Find.{get, as_array, as_bool, as_object}
@@ -89,6 +89,12 @@ abbrev pub at_most_one : Items → Read (Option Data)
 at_most_one no_items = Ok None
 at_most_one (item d no_items) = Ok (Some d)
 at_most_one (item d (item e ds)) = Err ManyRequests
+
+-- the same of any list
+abbrev pub at_most_one_of : {X : Type 0} → List X → Read (Option X)
+at_most_one_of [] = Ok None
+at_most_one_of (x ∷ []) = Ok (Some x)
+at_most_one_of (x ∷ y ∷ xs) = Err ManyRequests
 
 -- a request stands alone, or in an array
 abbrev pub one_request_or : Data → Option Items → Read (Option Data)

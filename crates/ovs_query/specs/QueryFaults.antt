@@ -1,4 +1,4 @@
--- Why a JSON value is no select and no monitor: which faults it has, wherever they stand in it.
+-- Why a JSON value is no select: which faults it has, wherever they stand in it. Those of conditions and columns are a monitor's too.
 use Rattle.std.specs.Prelude.{◌≡◌, ◌⊎◌, List, Option, Some, None, codes, option_and_then}
 use Rattle.serde_json.specs.Data.{Data, Items, no_items, item}
 use Rattle.serde_json.specs.Find.{get, as_str, as_array}

@@ -5,7 +5,7 @@ ghost use Rattle.serde_json.specs.View.{view, items_view};
 ghost use Rattle.ovs_json.specs.Results.{result_map};
 ghost use Rattle.ovs_query.specs.declared.error.QueryError.TheVariants as faults;
 ghost use Rattle.ovs_query.specs.ConditionReading.{all_but_id, read_columns};
-ghost use Rattle.ovs_query.specs.MonitorReading.{read_kind, read_each_kind, all_kinds, read_kinds, read_clause, read_each_clause, read_clauses, where_in, read_parts, read_request, one_request, read_requests};
+ghost use Rattle.ovs_query.specs.MonitorReading.{read_kind, read_each_kind, all_kinds, read_kinds, read_clause, read_each_clause, read_clauses, where_in, read_parts, read_request, at_most_one_of, one_request, read_requests};
 
 use crate::clauses::{Clause, Clauses};
 use crate::error::QueryError;
@@ -186,16 +186,23 @@ fn read_request(
     }
 }
 
+// The one of a list, which has one at most.
+fn at_most_one<T>(items: &[T]) -> Result<Option<&T>, QueryError>
+    ensures exact { result_map (option_map (λ v. v.now)) result ≡ at_most_one_of items.now }
+{
+    match items {
+        [] => Ok(None),
+        [request] => Ok(Some(request)),
+        _ => Err(QueryError::ManyRequests),
+    }
+}
+
 // The request that stands alone or in an array, if there is one.
 fn one_request(value: &Value) -> Result<Option<&Value>, QueryError>
     ensures exact { result_map (option_map (λ v. view v.now)) result ≡ one_request (view value.now) }
 {
     match value {
-        Value::Array(items) => match items.as_slice() {
-            [] => Ok(None),
-            [request] => Ok(Some(request)),
-            _ => Err(QueryError::ManyRequests),
-        },
+        Value::Array(items) => at_most_one(items),
         _ => Ok(Some(value)),
     }
 }
