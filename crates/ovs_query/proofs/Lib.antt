@@ -8,3 +8,4 @@ pub mod Telling
 pub mod FirstRows
 pub mod ShownRows
 pub mod NoFloat
+pub mod Between

@@ -13,4 +13,4 @@ pub use conditions::Conditions;
 pub use error::QueryError;
 pub use monitor::{Monitor, Notation};
 pub use select::Select;
-pub use theorems::monitor_laws;
+pub use theorems::{monitor_laws, update_laws};
