@@ -17,3 +17,4 @@ pub mod Telling
 pub mod FirstRows
 pub mod ShownRows
 pub mod NoFloat
+pub mod Between

@@ -67,7 +67,7 @@ module _ {U : Type 0} (f : Place → Option (List Datum) → Option U → Option
 -- ---- one row
 
 -- a row that has them
-abbrev row_of : List Datum → Row
+abbrev pub row_of : List Datum → Row
 row_of xs = record { version = 0; columns = xs }
 
 -- data that a copy holds become what an action makes of a row that has them
@@ -90,7 +90,7 @@ one_same x y true e cs n = (same_datum x y e, n)
 one_same x y false e cs n = absurd (true≢false n)
 
 -- no column differs
-none_previous : (cs : List NamedColumn) (xs ys : List Datum) → AreDataOf cs xs → AreDataOf cs ys → list_any is_some (previous xs ys) ≡ false → xs ≡ ys
+pub none_previous : (cs : List NamedColumn) (xs ys : List Datum) → AreDataOf cs xs → AreDataOf cs ys → list_any is_some (previous xs ys) ≡ false → xs ≡ ys
 none_previous [] [] [] h k n = refl
 none_previous [] (x ∷ xs) ys h k n = absurd h
 none_previous [] [] (y ∷ ys) h k n = absurd k
@@ -113,12 +113,12 @@ row_update_leads cs (Some xs) (Some ys) h k = by (list_any is_some (previous xs 
 -- ---- what is asked for
 
 module _ {U : Type 0} (t : Kinds → U → Bool) where
-  some_asked : (w : Watched) → ((u : U) → t w.kinds u ≡ true) → (u : Option U) → option_and_then (asked t (Some w)) u ≡ u
+  pub some_asked : (w : Watched) → ((u : U) → t w.kinds u ≡ true) → (u : Option U) → option_and_then (asked t (Some w)) u ≡ u
   some_asked w h None = refl
   some_asked w h (Some u) = ap (λ b. cond b (Some u) None) (h u)
 
   -- where all kinds are asked for nothing is left out; of a table that isn't watched nothing is shown
-  all_asked : (g : Option (List Datum) → Option (List Datum) → Option U) → g None None ≡ None → (watched : Option Watched) (id : ℕ) (old new : Option Row) → IfSome watched (λ w. (u : U) → t w.kinds u ≡ true)
+  pub all_asked : (g : Option (List Datum) → Option (List Datum) → Option U) → g None None ≡ None → (watched : Option Watched) (id : ℕ) (old new : Option Row) → IfSome watched (λ w. (u : U) → t w.kinds u ≡ true)
       → option_and_then (asked t watched) (g (shown_by watched id old) (shown_by watched id new)) ≡ g (shown_by watched id old) (shown_by watched id new)
   all_asked g none None id None None h = ap (option_and_then (asked t None)) none ∙ sym none
   all_asked g none None id None (Some new) h = ap (option_and_then (asked t None)) none ∙ sym none
@@ -126,12 +126,12 @@ module _ {U : Type 0} (t : Kinds → U → Bool) where
   all_asked g none None id (Some old) (Some new) h = ap (option_and_then (asked t None)) none ∙ sym none
   all_asked g none (Some w) id old new h = some_asked w h (g (shown_by (Some w) id old) (shown_by (Some w) id new))
 
-action_asked : (w : Watched) → AsksAllOf w → (a : Action) → is_asked w.kinds a ≡ true
+pub action_asked : (w : Watched) → AsksAllOf w → (a : Action) → is_asked w.kinds a ≡ true
 action_asked w h (Insert made) = h.0
 action_asked w h Delete = h.1
 action_asked w h (Modify edits) = h.2
 
-row_asked : (w : Watched) → AsksAllOf w → (u : RowUpdate) → is_row_asked w.kinds u ≡ true
+pub row_asked : (w : Watched) → AsksAllOf w → (u : RowUpdate) → is_row_asked w.kinds u ≡ true
 row_asked w h (New new) = h.0
 row_asked w h (Gone old) = h.1
 row_asked w h (Changed previous new) = h.2

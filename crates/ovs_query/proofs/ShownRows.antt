@@ -10,11 +10,13 @@ use Rattle.ovs_rows.specs.declared.row.Row.{Row}
 use Rattle.ovs_rows.specs.After.{TouchedRow}
 use Rattle.ovs_rows.specs.Row.{AreDataOf, columns_at}
 use Rattle.ovs_rows.specs.Writing.{object_of, column_member}
+use Rattle.ovs_query.specs.declared.monitor.Notation.{Notation}
+use Rattle.ovs_query.specs.declared.monitor.Notation.TheVariants.{Update, Update2, Update3}
 use Rattle.ovs_query.specs.declared.monitor.Watched.{Watched}
 use Rattle.ovs_query.specs.declared.shown.Shown.{Shown}
 use Rattle.ovs_query.specs.RowWriting.{shown_member, shown_json}
 use Rattle.ovs_query.specs.Shown.{shown_data, shown_columns}
-use Rattle.ovs_query.specs.Telling.{AreShown, AreShownIn, AreAllShown}
+use Rattle.ovs_query.specs.Telling.{AreShown, AreTellable, AreTellableIn, AreAllTellable}
 use Rattle.ovs_query.specs.Updates.{IsRowOf, AreTouchedOf}
 use Rattle.ovs_query.specs.UpdateWriting.{whole_json}
 use Rattle.ovs_query.specs.View.{IsShownOf, IsMonitorOf}
@@ -30,22 +32,40 @@ shown_whole shown id row = ap object_of (members_whole id row shown)
 
 -- ---- touched rows
 
+-- of whole rows nothing has to be known
+row_tellable : (notation : Notation) (w : Watched) (id : ℕ) (row : Option Row) → AreShown w id row → AreTellable notation w id row
+row_tellable Update w id row h = tt
+row_tellable Update2 w id row h = h
+row_tellable Update3 w id row h = h
+
 module _ (tables : List Table) (number : ℕ) (w : Watched) (all : AllByRecursion (IsShownOf (columns_at tables number)) w.shown) where
   one_shown : (n id : ℕ) (row : Option Row) → n ≡ number → IsRowOf (columns_at tables n) row → AreShown w id row
   one_shown n id None at h = tt
   one_shown n id (Some row) at h = shown_are_data (columns_at tables number) id row (subst (λ m. AreDataOf (columns_at tables m) row.columns) at h) w.shown all
 
-  each_shown : (ts : List TouchedRow) → AreTouchedOf tables ts → AllByRecursion (AreShownIn number w) ts
-  each_shown [] h = tt
-  each_shown (t ∷ ts) h = (
-    λ at. (one_shown t.place.table t.place.id t.before (eqb-true t.place.table number at) h.0.0, one_shown t.place.table t.place.id t.after (eqb-true t.place.table number at) h.0.1),
-    each_shown ts h.1,
-  )
+  each_tellable : (notation : Notation) (ts : List TouchedRow) → AreTouchedOf tables ts → AllByRecursion (AreTellableIn notation number w) ts
+  each_tellable notation [] h = tt
+  each_tellable notation (t ∷ ts) h = (one, each_tellable notation ts h.1)
+    where
+      one : AreTellableIn notation number w t
+      one at = (
+        row_tellable notation w t.place.id t.before (one_shown t.place.table t.place.id t.before (eqb-true t.place.table number at) h.0.0),
+        row_tellable notation w t.place.id t.after (one_shown t.place.table t.place.id t.after (eqb-true t.place.table number at) h.0.1)
+      )
 
--- touched rows of the monitor's tables show data of the shown columns
-pub all_shown : (tables : List Table) (watches : List (Option Watched)) (ts : List TouchedRow) → IsMonitorOf tables watches → AreTouchedOf tables ts → AreAllShown watches ts
-all_shown tables watches ts m h = λ number w is. each_shown tables number w (m number w is) ts h
+-- touched rows of the monitor's tables can be told in every notation
+pub all_tellable : (notation : Notation) (tables : List Table) (watches : List (Option Watched)) (ts : List TouchedRow) → IsMonitorOf tables watches → AreTouchedOf tables ts → AreAllTellable notation watches ts
+all_tellable notation tables watches ts m h = λ number w is. each_tellable tables number w (m number w is) notation ts h
+
+-- and all rows in `update`
+pub all_whole : (watches : List (Option Watched)) (ts : List TouchedRow) → AreAllTellable Update watches ts
+all_whole watches ts = λ number w is. each number w ts
+  where
+    each : (number : ℕ) (w : Watched) (ts : List TouchedRow) → AllByRecursion (AreTellableIn Update number w) ts
+    each number w [] = tt
+    each number w (t ∷ ts) = (λ at. (tt, tt), each number w ts)
 
 -- the same of a table by its number
-pub item_shown : (watches : List (Option Watched)) (ts : List TouchedRow) (i : ℕ) (o : Option Watched) → i < length watches → o ≡ get_or watches i o → AreAllShown watches ts → IfSome o (λ w. AllByRecursion (AreShownIn i w) ts)
-item_shown watches ts i o lt is all = if_some o _ (λ w e. all i w (ap (option_and_then (λ o. o)) (slice_get-get_or watches i o lt) ∙ sym is ∙ e))
+pub item_tellable : (notation : Notation) (watches : List (Option Watched)) (ts : List TouchedRow) (i : ℕ) (o : Option Watched) → i < length watches → o ≡ get_or watches i o → AreAllTellable notation watches ts
+    → IfSome o (λ w. AllByRecursion (AreTellableIn notation i w) ts)
+item_tellable notation watches ts i o lt is all = if_some o _ (λ w e. all i w (ap (option_and_then (λ o. o)) (slice_get-get_or watches i o lt) ∙ sym is ∙ e))

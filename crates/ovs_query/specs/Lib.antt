@@ -6,6 +6,7 @@ pub mod RowUpdates
 pub mod Mirror
 pub mod Updates
 pub mod UpdateWriting
+pub mod UpdateMeaning
 pub mod Telling
 pub mod Faults
 pub mod ConditionReading

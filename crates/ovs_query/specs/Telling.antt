@@ -44,13 +44,19 @@ told_members notation ts number w = filter_map (told_member notation number w) t
 abbrev pub AreShown : Watched → ℕ → Option Row → Type 0
 AreShown w id row = IfSome row (λ r. AreDataOf (shown_columns w.shown) (shown_data w.shown id r))
 
+-- the same where differences are told, which are between data of a column
+abbrev pub AreTellable : Notation → Watched → ℕ → Option Row → Type 0
+AreTellable Update w id row = Unit {0}
+AreTellable Update2 w id row = AreShown w id row
+AreTellable Update3 w id row = AreShown w id row
+
 -- the same of the table's rows
-abbrev pub AreShownIn : ℕ → Watched → TouchedRow → Type 0
-AreShownIn number w t = (t.place.table == number) ≡ true → AreShown w t.place.id t.before × AreShown w t.place.id t.after
+abbrev pub AreTellableIn : Notation → ℕ → Watched → TouchedRow → Type 0
+AreTellableIn notation number w t = (t.place.table == number) ≡ true → AreTellable notation w t.place.id t.before × AreTellable notation w t.place.id t.after
 
 -- the same of all tables
-abbrev pub AreAllShown : List (Option Watched) → List TouchedRow → Type 0
-AreAllShown watches ts = (number : ℕ) (w : Watched) → watched_at watches number ≡ Some w → AllByRecursion (AreShownIn number w) ts
+abbrev pub AreAllTellable : Notation → List (Option Watched) → List TouchedRow → Type 0
+AreAllTellable notation watches ts = (number : ℕ) (w : Watched) → watched_at watches number ≡ Some w → AllByRecursion (AreTellableIn notation number w) ts
 
 -- ---- the first rows
 

@@ -15,5 +15,5 @@ pub use conditions::Conditions;
 pub use error::QueryError;
 pub use monitor::{Monitor, Notation};
 pub use select::Select;
-pub use theorems::monitor_laws;
+pub use theorems::{monitor_laws, update_laws};
 pub use transact::{read_only, transact_read};

@@ -137,7 +137,7 @@ impl Monitor {
     /// What a step tells in `update2` and `update3` (ovsdb-server(7)): each table of whose rows something is told by name, as
     /// an object of those rows by id. A row that comes is `{"insert": row}` with the columns that aren't at their default,
     /// one that goes `{"delete": null}`, and one of which shown columns changed `{"modify": row}` with their differences,
-    /// where the monitor asks for such updates. A row comes and goes with its match too.
+    /// where the monitor asks for such updates. A row that begins to match comes, and one that ceases to goes.
     ///
     /// # Errors
     /// `NoMemory` alone.
@@ -159,13 +159,12 @@ impl Monitor {
 
     /// What a step tells in `update` (RFC 7047 section 4.1.6): each table of whose rows something is told by name, as an
     /// object of those rows by id. A row that comes is `{"new": row}` and one that goes `{"old": row}`, with all that is
-    /// shown; one of which shown columns changed is `{"new": row, "old": row}` with all of the new and those columns of the
-    /// old, where the monitor asks for such updates.
+    /// shown; one of which shown columns changed is `{"new": row, "old": row}` with all of the new row and those columns of
+    /// the old, where the monitor asks for such updates. A row that begins to match comes, and one that ceases to goes.
     ///
     /// # Errors
     /// `NoMemory` alone.
     pub fn update1(&self, alloc: Global, applied: &Applied) -> Result<Value, NoMemory>
-        requires same_tables { (tables : List Table) × IsMonitorOf tables self.now.watches × AreTouchedOf tables applied.now }
         ensures value { IfOk result (λ v. view v ≡ update1_json self.now.watches (row_updates self.now.watches applied.now)) }
         // Where all are asked for, they lead a copy of what was shown to what is shown.
         ensures mirrored { (tables : List Table) (old new : Rows) → IsMonitorOf tables self.now.watches → AsksAll self.now.watches → AreRowsOf tables old → AreRowsOf tables new → IsStep applied.now old new

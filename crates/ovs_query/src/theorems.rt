@@ -1,16 +1,19 @@
 //! Laws of monitors.
 
 ghost use Rattle.std.specs.Prelude.{◌≡◌, ℕ, List, Option, Some};
-ghost use Rattle.std.specs.FinMap.{empty};
+ghost use Rattle.std.specs.FinMap.{empty, get};
+ghost use Rattle.std.specs.Option.{option_and_then};
 ghost use Rattle.ovs_types.specs.declared.schema.Table.{Table};
+ghost use Rattle.ovs_rows.specs.declared.place.Place.{Place};
 ghost use Rattle.ovs_rows.specs.After.{TouchedRow, after, applied_of};
 ghost use Rattle.ovs_rows.specs.Applied.{AscendByPlace};
 ghost use Rattle.ovs_rows.specs.Change.{Actions, IsChangeOf};
 ghost use Rattle.ovs_rows.specs.Row.{Rows, AreRowsOf};
 ghost use Rattle.ovs_query.specs.declared.monitor.Watched.{Watched};
 ghost use Rattle.ovs_query.specs.Mirror.{mirror, replace};
-ghost use Rattle.ovs_query.specs.Updates.{updates, row_updates, first_updates, first_row_updates, IsStep, AreTouchedOf, AsksAll, AsksFirst};
-ghost use Rattle.ovs_query.specs.View.{view, IsMonitorOf};
+ghost use Rattle.ovs_query.specs.UpdateMeaning.{AreUpdatesBetween, AreRowUpdatesBetween, asking_all};
+ghost use Rattle.ovs_query.specs.Updates.{updates, row_updates, asked, is_asked, is_row_asked, first_updates, first_row_updates, IsStep, AreTouchedOf, AsksAll, AsksFirst};
+ghost use Rattle.ovs_query.specs.View.{view, watched_at, IsMonitorOf};
 
 /// A copy of nothing that gets the first rows is what the monitor shows, and the updates of a step, where all kinds are
 /// asked for, lead a copy of what was shown to what is shown. What applying a change tells is a step.
@@ -23,4 +26,17 @@ pub fn monitor_laws()
     ensures first_of_update { (ws : List (Option Watched)) (a : Rows) → AsksFirst ws → replace empty (first_row_updates ws a) ≡ Some (view ws a) }
     ensures applying { (ts : List Table) (a : Rows) (c : Actions) (v : ℕ) → IsStep (applied_of ts a c v) a (after ts a c v) }
     ensures applied_rows { (ts : List Table) (a : Rows) (c : Actions) (v : ℕ) → AreRowsOf ts a → IsChangeOf ts c → AreTouchedOf ts (applied_of ts a c v) }
+{}
+
+/// Each update of a step is the one between what was shown of a row and what is shown, where all kinds are asked for, and
+/// one of a kind that isn't asked for is left out and nothing else.
+pub fn update_laws()
+    ensures between { (ts : List Table) (ws : List (Option Watched)) (a b : Rows) (us : List TouchedRow) → IsMonitorOf ts ws → AsksAll ws → AreRowsOf ts a → AreRowsOf ts b → AscendByPlace us → IsStep us a b
+        → AreUpdatesBetween ws a b (updates ws us) }
+    ensures row_between { (ts : List Table) (ws : List (Option Watched)) (a b : Rows) (us : List TouchedRow) → IsMonitorOf ts ws → AsksAll ws → AreRowsOf ts a → AreRowsOf ts b → AscendByPlace us → IsStep us a b
+        → AreRowUpdatesBetween ws a b (row_updates ws us) }
+    ensures left_out { (ws : List (Option Watched)) (us : List TouchedRow) (p : Place) → AscendByPlace us
+        → get (updates ws us) p ≡ option_and_then (asked is_asked (watched_at ws p.table)) (get (updates (asking_all ws) us) p) }
+    ensures row_left_out { (ws : List (Option Watched)) (us : List TouchedRow) (p : Place) → AscendByPlace us
+        → get (row_updates ws us) p ≡ option_and_then (asked is_row_asked (watched_at ws p.table)) (get (row_updates (asking_all ws) us) p) }
 {}

@@ -8,7 +8,7 @@ ghost use Rattle.serde_json.specs.View.{view, members_view};
 ghost use Rattle.ovs_rows.specs.Applied.{seen};
 ghost use Rattle.ovs_rows.specs.ChangeWriting.{with_some};
 ghost use Rattle.ovs_rows.specs.Writing.{with_member};
-ghost use Rattle.ovs_query.specs.Telling.{told_json, told_in, told_members, AreShown, AreShownIn, AreAllShown};
+ghost use Rattle.ovs_query.specs.Telling.{told_json, told_in, told_members, AreTellable, AreTellableIn, AreAllTellable};
 ghost use Rattle.ovs_query.specs.UpdateWriting.{table_member, tables_json};
 
 use crate::monitor::row_update1::row_update1;
@@ -37,8 +37,8 @@ fn told_json(
     watched: &Watched,
     touched: &Touched,
 ) -> Result<Option<Value>, NoMemory>
-    requires before { AreShown watched.now touched.now.place.id (seen touched.now).before }
-    requires after { AreShown watched.now touched.now.place.id (seen touched.now).after }
+    requires before { AreTellable notation watched.now touched.now.place.id (seen touched.now).before }
+    requires after { AreTellable notation watched.now touched.now.place.id (seen touched.now).after }
     ensures value { IfOk result (λ o. option_map view o ≡ told_json notation watched.now (seen touched.now)) }
 {
     let id = touched.place.id;
@@ -58,7 +58,7 @@ fn told_in(
     watched: &Watched,
     touched: &Touched,
 ) -> Result<Option<Value>, NoMemory>
-    requires shown { AreShownIn number watched.now (seen touched.now) }
+    requires tellable { AreTellableIn notation number watched.now (seen touched.now) }
     ensures value { IfOk result (λ o. option_map view o ≡ told_in notation number watched.now (seen touched.now)) }
 {
     if touched.place.table == number {
@@ -76,7 +76,7 @@ fn told_rows(
     watched: &Watched,
     applied: &[Touched],
 ) -> Result<Map<String, Value>, NoMemory>
-    requires shown { AllByRecursion (AreShownIn number watched.now) (map seen applied.now) }
+    requires tellable { AllByRecursion (AreTellableIn notation number watched.now) (map seen applied.now) }
     ensures value { IfOk result (λ m. members_view m.entries ≡ fold with_member no_members (told_members notation (map seen applied.now) number watched.now)) }
 {
     let mut members = Map::new(alloc);
@@ -96,7 +96,7 @@ fn put_told(
     watched: &Option<Watched>,
     applied: &[Touched],
 ) -> Result<(), NoMemory>
-    requires shown { IfSome watched.now (λ w. AllByRecursion (AreShownIn number w) (map seen applied.now)) }
+    requires tellable { IfSome watched.now (λ w. AllByRecursion (AreTellableIn notation number w) (map seen applied.now)) }
     ensures value { OnOk result (members_view members.new.entries ≡ with_some (members_view members.old.entries) (table_member (told_members notation (map seen applied.now)) (number, watched.now))) }
 {
     match watched {
@@ -115,7 +115,7 @@ pub(crate) fn step_json(
     watches: &[Option<Watched>],
     applied: &[Touched],
 ) -> Result<Value, NoMemory>
-    requires shown { AreAllShown watches.now (map seen applied.now) }
+    requires tellable { AreAllTellable notation watches.now (map seen applied.now) }
     ensures value { IfOk result (λ v. view v ≡ tables_json (told_members notation (map seen applied.now)) watches.now) }
 {
     let mut members = Map::new(alloc);

@@ -4,22 +4,16 @@ use Rattle.serde_json.specs.View.{view}
 use Rattle.serde_json.specs.Written.{has_float}
 use Rattle.ovs_rows.specs.Applied.{seen}
 use Rattle.ovs_query.specs.declared.monitor.Notation.TheVariants.{Update}
-use Rattle.ovs_query.specs.Telling.{AreAllShown}
 use Rattle.ovs_query.specs.Updates.{row_updates}
 use Rattle.ovs_query.specs.UpdateWriting.{row_update_json}
 use Rattle.ovs_query.proofs.Mirroring.{step_replaced}
 use Rattle.ovs_query.proofs.NoFloat.{row_update_no_float, ok_no_float, updates_no_float}
-use Rattle.ovs_query.proofs.ShownRows.{all_shown}
+use Rattle.ovs_query.proofs.ShownRows.{all_whole}
 use Rattle.ovs_query.proofs.Telling.{step_told1, told_alike}
 use Rattle.ovs_query.proofs.monitor.Monitor.update1.Goals as goal
 
 pub step_json-requires : goal.step_json-requires
-step_json-requires c =
-    let tables = c.requires.same_tables in
-    record {
-      shown = subst (λ ws. AreAllShown ws (map seen c.rows.result.now)) (sym c.as_slice.ensures.value)
-          (subst (AreAllShown c.args.self.now.watches) (sym c.rows.ensures.value) (all_shown tables.0 c.args.self.now.watches c.args.applied.now tables.1 tables.2));
-    }
+step_json-requires c = record { tellable = all_whole c.as_slice.result.now (map seen c.rows.result.now) }
 
 pub returns-clause-value : goal.returns-clause-value
 returns-clause-value c =

@@ -5,11 +5,11 @@ use Rattle.serde_json.specs.Written.{has_float}
 use Rattle.ovs_rows.specs.Applied.{seen}
 use Rattle.ovs_rows.specs.ChangeWriting.{action_json}
 use Rattle.ovs_query.specs.declared.monitor.Notation.TheVariants.{Update2}
-use Rattle.ovs_query.specs.Telling.{AreAllShown}
+use Rattle.ovs_query.specs.Telling.{AreAllTellable}
 use Rattle.ovs_query.specs.Updates.{updates}
 use Rattle.ovs_query.proofs.Mirroring.{step_mirrored}
 use Rattle.ovs_query.proofs.NoFloat.{action_no_float, ok_no_float, updates_no_float}
-use Rattle.ovs_query.proofs.ShownRows.{all_shown}
+use Rattle.ovs_query.proofs.ShownRows.{all_tellable}
 use Rattle.ovs_query.proofs.Telling.{step_told2, told_alike}
 use Rattle.ovs_query.proofs.monitor.Monitor.update2.Goals as goal
 
@@ -17,8 +17,8 @@ pub step_json-requires : goal.step_json-requires
 step_json-requires c =
     let tables = c.requires.same_tables in
     record {
-      shown = subst (λ ws. AreAllShown ws (map seen c.rows.result.now)) (sym c.as_slice.ensures.value)
-          (subst (AreAllShown c.args.self.now.watches) (sym c.rows.ensures.value) (all_shown tables.0 c.args.self.now.watches c.args.applied.now tables.1 tables.2));
+      tellable = subst (λ ws. AreAllTellable Update2 ws (map seen c.rows.result.now)) (sym c.as_slice.ensures.value)
+          (subst (AreAllTellable Update2 c.args.self.now.watches) (sym c.rows.ensures.value) (all_tellable Update2 tables.0 c.args.self.now.watches c.args.applied.now tables.1 tables.2));
     }
 
 pub returns-clause-value : goal.returns-clause-value

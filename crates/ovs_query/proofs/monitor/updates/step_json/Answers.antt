@@ -6,12 +6,12 @@ use Rattle.ovs_rows.specs.Applied.{seen}
 use Rattle.ovs_query.specs.Telling.{told_members}
 use Rattle.ovs_query.specs.UpdateWriting.{table_member}
 use Rattle.ovs_query.proofs.Members.{all_counted}
-use Rattle.ovs_query.proofs.ShownRows.{item_shown}
+use Rattle.ovs_query.proofs.ShownRows.{item_tellable}
 use Rattle.ovs_query.proofs.monitor.updates.step_json.Goals as goal
 
 pub put_told-requires : goal.put_told-requires
 put_told-requires c = record {
-  shown = item_shown c.args.watches.now (map seen c.args.applied.now) c.loop-number.number c.index-watches-number.result c.loop-number-test.true c.index-watches-number.is c.requires.shown;
+  tellable = item_tellable c.args.notation c.args.watches.now (map seen c.args.applied.now) c.loop-number.number c.index-watches-number.result c.loop-number-test.true c.index-watches-number.is c.requires.tellable;
 }
 
 pub returns : goal.returns

@@ -16,7 +16,7 @@ loop-touched-preserved c =
     let next : drop c.loop-touched.touched-index c.args.applied.now ≡ t ∷ rest = drop-at c.args.applied.now c.loop-touched.touched-index t c.loop-touched-test.true c.touched-item.is in
     let ms = members_view c.loop-touched.members.entries in
     record {
-      shown = (rw next at c.loop-touched.invariant.shown).1;
+      tellable = (rw next at c.loop-touched.invariant.tellable).1;
       whole = next_put (told_member c.args.notation c.args.number c.args.watched.now) (map seen (drop c.loop-touched.touched-index c.args.applied.now)) ms _ c.loop-touched.invariant.whole (seen t) (map seen rest) _
           (ap (map seen) next)
           (c.in_ok-put_row.ensures.value ∙ ap (λ o. with_some ms (option_map (λ d. (id_text t.place.id, d)) o)) c.in_ok-row.ensures.value);
