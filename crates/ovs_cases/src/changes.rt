@@ -14,6 +14,14 @@ use std::alloc::Global;
 
 const IDS: [&str; 4] = ["a", "b", "c", "d"];
 
+// The id of the commit of this number, the first of which is 0. Those past the letters count down from the last id.
+fn commit_at(number: usize) -> Result<TxnId, Fault> {
+    match IDS.get(number) {
+        Some(letter) => commit(letter),
+        None => Ok(TxnId::from_value(u128::MAX - number as u128)),
+    }
+}
+
 fn read(alloc: Global, schema: &Schema, value: &Value) -> Result<Change, Fault>
     ensures tables { IfOk result (IsChangeOf schema.now.description.tables) }
 {
@@ -110,7 +118,7 @@ pub(crate) fn applied(
     ensures schema { database.new.schema ≡ database.old.schema }
     ensures touched { IfOk result (AreTouchedOf database.old.schema.description.tables) }
 {
-    let id = commit(IDS.get(number).ok_or(Fault::Malformed)?)?;
+    let id = commit_at(number)?;
     let change = read(alloc, database.schema(), value)?;
     match database.apply(alloc, &change, id) {
         Ok(applied) => Ok(applied),
@@ -126,7 +134,7 @@ fn step(
 ) -> Result<String, Fault>
     ensures schema { database.new.schema ≡ database.old.schema }
 {
-    let id = commit(IDS.get(number).ok_or(Fault::Malformed)?)?;
+    let id = commit_at(number)?;
     let change = read(alloc, database.schema(), value)?;
     apply(alloc, database, &change, id)
 }

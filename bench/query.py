@@ -1,0 +1,91 @@
+#!/usr/bin/env python3
+"""Times selects and updates over databases of 10 and of 100,000 rows.
+
+    python3 bench/query.py [--program PATH] [--rows N] [--times N]
+
+The program is the table of cases, which carries out changes and then asks. Each question is asked once in one run and many
+times in another; the difference of the two, divided by how often more it was asked, is what one costs, without reading the
+rows in. Of three runs the shortest counts. Printed are microseconds for each, and the ratio of the large database to the
+small one:
+
+    select by id          where ["_uuid","==",ID]
+    select of a table     where ["name","==",TEXT] on a table of 10 rows, beside another of 10 or of 100,000
+    select of all rows    the same on the table that grows: a walk over its rows
+    step of one row       a change of one row is carried out, and a monitor of the table tells of it
+"""
+import argparse
+import json
+import os
+import subprocess
+import time
+
+ROOT = os.path.join(os.path.dirname(os.path.abspath(__file__)), "..")
+COLUMNS = {"columns": {"name": {"type": "string"}, "tags": {"type": {"key": "integer", "min": 0, "max": "unlimited"}}}}
+SCHEMA = {"name": "net", "version": "1.0.0", "tables": {"Large": COLUMNS, "Small": COLUMNS}}
+
+
+def uuid(number):
+    return f"11111111-0000-4000-8000-{number:012x}"
+
+
+def filling(rows):
+    def table(count):
+        return {uuid(n): {"insert": {"name": f"p{n}", "tags": ["set", [n, n + 1]]}} for n in range(count)}
+
+    return {"Large": table(rows), "Small": table(10)}
+
+
+def select(table, condition):
+    return {"op": "select", "table": table, "where": [condition], "columns": ["name"]}
+
+
+def by_id(rows, times):
+    return ["transact", [filling(rows)], [select("Large", ["_uuid", "==", ["uuid", uuid(n % 10)]]) for n in range(times)]]
+
+
+def by_name(table):
+    def line(rows, times):
+        return ["transact", [filling(rows)], [select(table, ["name", "==", f"p{n % 10}"]) for n in range(times)]]
+
+    return line
+
+
+def step(rows, times):
+    steps = [{"Large": {uuid(n % 10): {"modify": {"name": f"q{n}"}}}} for n in range(times)]
+    return ["updates", "update2", {"Large": {}, "Small": {}}, [filling(rows)], steps]
+
+
+def seconds(program, line):
+    text = "\n".join([json.dumps(["use", SCHEMA]), json.dumps(line)]) + "\n"
+    best = None
+    for _ in range(3):
+        begun = time.perf_counter()
+        subprocess.run([program], input=text.encode(), stdout=subprocess.DEVNULL, check=True)
+        spent = time.perf_counter() - begun
+        best = spent if best is None else min(best, spent)
+    return best
+
+
+def each(program, line, rows, times):
+    return (seconds(program, line(rows, 1 + times)) - seconds(program, line(rows, 1))) / times
+
+
+def main():
+    parser = argparse.ArgumentParser(description=__doc__, formatter_class=argparse.RawDescriptionHelpFormatter)
+    parser.add_argument("--program", default=os.path.join(ROOT, "crates", "ovs_cases", "out", "ovs_cases"))
+    parser.add_argument("--rows", type=int, default=100_000)
+    parser.add_argument("--times", type=int, default=10_000)
+    given = parser.parse_args()
+    questions = [
+        ("select by id", by_id, given.times),
+        ("select of a table", by_name("Small"), given.times),
+        ("select of all rows", by_name("Large"), max(given.times // 1000, 1)),
+        ("step of one row", step, given.times),
+    ]
+    print(f"{'':20}{'10 rows':>12}{given.rows:>12,}{'ratio':>10}")
+    for name, line, times in questions:
+        small, large = each(given.program, line, 10, given.times), each(given.program, line, given.rows, times)
+        print(f"{name:20}{small * 1e6:10.1f}us{large * 1e6:10.1f}us{large / small:10.2f}")
+
+
+main()
