@@ -9,3 +9,4 @@ pub mod FirstRows
 pub mod ShownRows
 pub mod NoFloat
 pub mod Between
+pub mod Shares
