@@ -26,7 +26,7 @@ use Rattle.ovs_query.specs.declared.monitor.Watched.{Watched}
 use Rattle.ovs_query.specs.RowUpdates.{New}
 use Rattle.ovs_query.specs.Shown.{shown_columns}
 use Rattle.ovs_query.specs.View.{watched_at, shown_by, shown_at, presented}
-use Rattle.ovs_query.specs.Telling.{first_members}
+use Rattle.ovs_query.specs.Telling.{first_members, touched_in}
 use Rattle.ovs_query.specs.Updates.{touched_at, told_of, told_by_place, asked_first, first_rows}
 use Rattle.ovs_query.specs.UpdateWriting.{row_update_json, first_json, tables_json, update_members, initial_json}
 use Rattle.ovs_query.proofs.Touching.{same_place, get-by_place}
@@ -80,34 +80,38 @@ module _ {U : Type 0} (made : List Datum → U) where
     in_table = filter (λ e. e.0.table == number)
 
     abbrev first_written : Bool → Place × Row → Option (List ℕ × Data)
-    first_written k e = option_map (λ d. (id_text e.0.id, d)) (cond (e.0.table == number) (option_map (json (shown_columns w.shown)) (option_and_then (λ xs. cond k (Some (made xs)) None) (presented e.0.id e.1 w))) None)
+    first_written k e = option_map (λ d. (id_text e.0.id, d)) (option_map (json (shown_columns w.shown)) (option_and_then (λ xs. cond k (Some (made xs)) None) (presented e.0.id e.1 w)))
 
-    asked_for : (es : List (Place × Row)) → filter_map (first_written true) es ≡ filter_map row_member (in_table es)
+    asked_for : (es : List (Place × Row)) → filter_map (first_written true) es ≡ filter_map row_member es
     asked_for [] = refl
-    asked_for (e ∷ es) = by (e.0.table == number) refl (presented e.0.id e.1 w) refl (asked_for es)
+    asked_for (e ∷ es) = by (presented e.0.id e.1 w) ∙ ap (cons_option (row_member e)) (asked_for es)
       where
-        by : (b : Bool) → (e.0.table == number) ≡ b → (o : Option (List Datum)) → presented e.0.id e.1 w ≡ o → filter_map (first_written true) es ≡ filter_map row_member (in_table es)
-            → cons_option (option_map (λ d. (id_text e.0.id, d)) (cond b (option_map (json (shown_columns w.shown)) (option_and_then (λ xs. cond true (Some (made xs)) None) o)) None)) (filter_map (first_written true) es)
-            ≡ filter_map row_member (cond b (e ∷ in_table es) (in_table es))
-        by true at None shown rest = rest ∙ ap (λ o. cons_option (option_map (λ d. (id_text e.0.id, d)) (option_map (λ xs. json (shown_columns w.shown) (made xs)) o)) (filter_map row_member (in_table es))) (sym shown)
-        by true at (Some xs) shown rest =
-            ap (λ ms. (id_text e.0.id, json (shown_columns w.shown) (made xs)) ∷ ms) rest
-            ∙ ap (λ o. cons_option (option_map (λ d. (id_text e.0.id, d)) (option_map (λ xs. json (shown_columns w.shown) (made xs)) o)) (filter_map row_member (in_table es))) (sym shown)
-        by false at o shown rest = rest
+        by : (o : Option (List Datum))
+            → cons_option (option_map (λ d. (id_text e.0.id, d)) (option_map (json (shown_columns w.shown)) (option_and_then (λ xs. cond true (Some (made xs)) None) o))) (filter_map (first_written true) es)
+            ≡ cons_option (option_map (λ d. (id_text e.0.id, d)) (option_map (λ xs. json (shown_columns w.shown) (made xs)) o)) (filter_map (first_written true) es)
+        by None = refl
+        by (Some xs) = refl
 
     not_asked_for : (es : List (Place × Row)) → filter_map (first_written false) es ≡ []
     not_asked_for [] = refl
-    not_asked_for (e ∷ es) = by (e.0.table == number) (presented e.0.id e.1 w) ∙ not_asked_for es
+    not_asked_for (e ∷ es) = by (presented e.0.id e.1 w) ∙ not_asked_for es
       where
-        by : (b : Bool) (o : Option (List Datum))
-            → cons_option (option_map (λ d. (id_text e.0.id, d)) (cond b (option_map (json (shown_columns w.shown)) (option_and_then (λ xs. cond false (Some (made xs)) None) o)) None)) (filter_map (first_written false) es) ≡ filter_map (first_written false) es
-        by true None = refl
-        by true (Some xs) = refl
-        by false o = refl
+        by : (o : Option (List Datum))
+            → cons_option (option_map (λ d. (id_text e.0.id, d)) (option_map (json (shown_columns w.shown)) (option_and_then (λ xs. cond false (Some (made xs)) None) o))) (filter_map (first_written false) es) ≡ filter_map (first_written false) es
+        by None = refl
+        by (Some xs) = refl
 
-    by_rows : (k : Bool) (es : List (Place × Row)) → filter_map (first_written k) es ≡ cond k (filter_map row_member (in_table es)) []
+    by_rows : (k : Bool) (es : List (Place × Row)) → filter_map (first_written k) es ≡ cond k (filter_map row_member es) []
     by_rows true es = asked_for es
     by_rows false es = not_asked_for es
+
+    arrivals_in : (es : List (Place × Row)) → touched_in number (map arrival es) ≡ map arrival (in_table es)
+    arrivals_in [] = refl
+    arrivals_in (e ∷ es) = by (e.0.table == number) (arrivals_in es)
+      where
+        by : (b : Bool) → touched_in number (map arrival es) ≡ map arrival (in_table es) → cond b (arrival e ∷ touched_in number (map arrival es)) (touched_in number (map arrival es)) ≡ map arrival (cond b (e ∷ in_table es) (in_table es))
+        by true rest = ap (λ ts. arrival e ∷ ts) rest
+        by false rest = rest
 
     arrivals_written : (watches : List (Option Watched)) (es : List (Place × Row)) → filter_map (written json begun watches number w) (map arrival es) ≡ filter_map (first_written w.kinds.initial) es
     arrivals_written watches [] = refl
@@ -118,8 +122,9 @@ module _ {U : Type 0} (made : List Datum → U) where
     first_in_table watches rows is =
         ap (λ us. update_members json us number w) (first_by_place watches rows)
         ∙ members_told json begun watches number w is (arrivals rows) (arrivals_ascend rows)
-        ∙ arrivals_written watches (entries rows)
-        ∙ by_rows w.kinds.initial (entries rows)
+        ∙ ap (filter_map (written json begun watches number w)) (arrivals_in (entries rows))
+        ∙ arrivals_written watches (in_table (entries rows))
+        ∙ by_rows w.kinds.initial (in_table (entries rows))
 
 -- what is written of each table at first is what is written of all
 pub first_told : (notation : Notation) (watches : List (Option Watched)) (rows : Rows) → tables_json (first_members notation rows) watches ≡ initial_json notation watches rows

@@ -18,3 +18,4 @@ pub mod FirstRows
 pub mod ShownRows
 pub mod NoFloat
 pub mod Between
+pub mod Shares

@@ -1,6 +1,6 @@
 -- What is told of each table, row by row, is what is told of the whole.
 use Rattle.std.proofs.Common.{◌≡◌, ℕ, suc, ◌+◌, List, [], ◌∷◌, Bool, true, false, cond, Option, Some, None, refl, sym, ap, subst, ◌∙◌, map, arith}
-use Rattle.std.specs.Prelude.{◌==◌, filter, option_map, if◌then◌else◌}
+use Rattle.std.specs.Prelude.{◌==◌, filter, option_map}
 use Rattle.std.specs.List.{AllByRecursion, cons_option, enumerate_from, filter_map}
 use Rattle.std.specs.List.Sorted.{IsStrictlySortedBy}
 use Rattle.std.specs.Map.{keys_of}
@@ -23,7 +23,7 @@ use Rattle.ovs_query.specs.declared.monitor.Notation.TheVariants.{Update, Update
 use Rattle.ovs_query.specs.declared.monitor.Watched.{Watched}
 use Rattle.ovs_query.specs.Shown.{shown_columns}
 use Rattle.ovs_query.specs.View.{watched_at}
-use Rattle.ovs_query.specs.Telling.{told_members}
+use Rattle.ovs_query.specs.Telling.{told_members, touched_in}
 use Rattle.ovs_query.specs.Updates.{action_told, row_update_told, listed, by_place, told_of, told_by_place, updates, row_updates}
 use Rattle.ovs_query.specs.UpdateWriting.{row_update_json, table_member, tables_json, update_member, update_members, update1_json, update2_json}
 
@@ -71,9 +71,9 @@ module _ {U : Type 0} (f : TouchedRow → Option U) where
   entries-by_place ts sorted = entries-from_ordered place_total place_exact (listed f ts) (listed_ascend ts sorted)
 
 module _ {U : Type 0} (json : List NamedColumn → U → Data) (told : Option Watched → ℕ → Option Row → Option Row → Option U) (watches : List (Option Watched)) (number : ℕ) (w : Watched) where
-  -- what is written of the table's row
+  -- what is written of a row of the table
   abbrev pub written : TouchedRow → Option (List ℕ × Data)
-  written t = option_map (λ d. (id_text t.place.id, d)) (if t.place.table == number then option_map (json (shown_columns w.shown)) (told (Some w) t.place.id t.before t.after) else None)
+  written t = option_map (λ d. (id_text t.place.id, d)) (option_map (json (shown_columns w.shown)) (told (Some w) t.place.id t.before t.after))
 
   abbrev members_of : List (Place × U) → List (List ℕ × Data)
   members_of es = map (update_member json (shown_columns w.shown)) (filter (λ e. e.0.table == number) es)
@@ -88,13 +88,13 @@ module _ {U : Type 0} (json : List NamedColumn → U → Data) (told : Option Wa
   more_outside t es at (Some a) = ap (λ b. map (update_member json (shown_columns w.shown)) (cond b ((t.place, a) ∷ filter (λ e. e.0.table == number) es) (filter (λ e. e.0.table == number) es))) at
 
   module _ (is : watched_at watches number ≡ Some w) where
-    in_table : (ts : List TouchedRow) → members_of (listed (told_of told watches) ts) ≡ filter_map written ts
+    in_table : (ts : List TouchedRow) → members_of (listed (told_of told watches) ts) ≡ filter_map written (touched_in number ts)
     in_table [] = refl
     in_table (t ∷ ts) = by (t.place.table == number) refl (in_table ts)
       where
-        by : (b : Bool) → (t.place.table == number) ≡ b → members_of (listed (told_of told watches) ts) ≡ filter_map written ts
+        by : (b : Bool) → (t.place.table == number) ≡ b → members_of (listed (told_of told watches) ts) ≡ filter_map written (touched_in number ts)
             → members_of (cons_option (option_map (λ a. (t.place, a)) (told_of told watches t)) (listed (told_of told watches) ts))
-            ≡ cons_option (option_map (λ d. (id_text t.place.id, d)) (cond b (option_map (json (shown_columns w.shown)) (told (Some w) t.place.id t.before t.after)) None)) (filter_map written ts)
+            ≡ filter_map written (cond b (t ∷ touched_in number ts) (touched_in number ts))
         by true at rest =
             let same : told_of told watches t ≡ told (Some w) t.place.id t.before t.after = ap (λ o. told o t.place.id t.before t.after) (ap (watched_at watches) (eqb-true t.place.table number at) ∙ is) in
             ap (λ u. members_of (cons_option (option_map (λ a. (t.place, a)) u) (listed (told_of told watches) ts))) same
@@ -102,7 +102,7 @@ module _ {U : Type 0} (json : List NamedColumn → U → Data) (told : Option Wa
             ∙ ap (cons_option (option_map (λ d. (id_text t.place.id, d)) (option_map (json (shown_columns w.shown)) (told (Some w) t.place.id t.before t.after)))) rest
         by false at rest = more_outside t (listed (told_of told watches) ts) at (told_of told watches t) ∙ rest
 
-    pub members_told : (ts : List TouchedRow) → AscendByPlace ts → update_members json (told_by_place told watches ts) number w ≡ filter_map written ts
+    pub members_told : (ts : List TouchedRow) → AscendByPlace ts → update_members json (told_by_place told watches ts) number w ≡ filter_map written (touched_in number ts)
     members_told ts sorted = ap members_of (entries-by_place (told_of told watches) ts sorted) ∙ in_table ts
 
 -- ---- what is written of a step

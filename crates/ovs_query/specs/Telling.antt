@@ -1,5 +1,5 @@
 -- What is written of the rows of one table, row by row.
-use Rattle.std.specs.Prelude.{◌≡◌, ℕ, List, [], true, Option, Some, None, IfSome, ◌==◌, if◌then◌else◌, option_map}
+use Rattle.std.specs.Prelude.{◌≡◌, ℕ, List, [], Option, Some, None, IfSome, ◌==◌, if◌then◌else◌, filter, option_map}
 use Rattle.std.specs.List.{AllByRecursion, filter_map}
 use Rattle.serde_json.specs.Data.{Data, Members, no_members, member, object}
 use Rattle.ovs_data.specs.declared.datum.Datum.{Datum}
@@ -29,34 +29,30 @@ told_json Update w t = option_map (row_update_json (shown_columns w.shown)) (row
 told_json Update2 w t = option_map (action_json (shown_columns w.shown)) (action_told (Some w) t.place.id t.before t.after)
 told_json Update3 w t = option_map (action_json (shown_columns w.shown)) (action_told (Some w) t.place.id t.before t.after)
 
--- nothing of another table's row
-abbrev pub told_in : Notation → ℕ → Watched → TouchedRow → Option Data
-told_in notation number w t = if t.place.table == number then told_json notation w t else None
-
 -- its id and that
-abbrev pub told_member : Notation → ℕ → Watched → TouchedRow → Option (List ℕ × Data)
-told_member notation number w t = option_map (λ d. (id_text t.place.id, d)) (told_in notation number w t)
+abbrev pub told_member : Notation → Watched → TouchedRow → Option (List ℕ × Data)
+told_member notation w t = option_map (λ d. (id_text t.place.id, d)) (told_json notation w t)
+
+-- the touched rows of the table of this number
+abbrev pub touched_in : ℕ → List TouchedRow → List TouchedRow
+touched_in number ts = filter (λ t. t.place.table == number) ts
 
 abbrev pub told_members : Notation → List TouchedRow → ℕ → Watched → List (List ℕ × Data)
-told_members notation ts number w = filter_map (told_member notation number w) ts
+told_members notation ts number w = filter_map (told_member notation w) (touched_in number ts)
 
 -- what is shown of a row, if it is there, are data of the shown columns
 abbrev pub AreShown : Watched → ℕ → Option Row → Type 0
 AreShown w id row = IfSome row (λ r. AreDataOf (shown_columns w.shown) (shown_data w.shown id r))
 
--- the same where differences are told, which are between data of a column
-abbrev pub AreTellable : Notation → Watched → ℕ → Option Row → Type 0
-AreTellable Update w id row = Unit {0}
-AreTellable Update2 w id row = AreShown w id row
-AreTellable Update3 w id row = AreShown w id row
+-- the same of a touched row where differences are told, which are between data of a column
+abbrev pub IsTellable : Notation → Watched → TouchedRow → Type 0
+IsTellable Update w t = Unit {0}
+IsTellable Update2 w t = AreShown w t.place.id t.before × AreShown w t.place.id t.after
+IsTellable Update3 w t = AreShown w t.place.id t.before × AreShown w t.place.id t.after
 
--- the same of the table's rows
-abbrev pub AreTellableIn : Notation → ℕ → Watched → TouchedRow → Type 0
-AreTellableIn notation number w t = (t.place.table == number) ≡ true → AreTellable notation w t.place.id t.before × AreTellable notation w t.place.id t.after
-
--- the same of all tables
-abbrev pub AreAllTellable : Notation → List (Option Watched) → List TouchedRow → Type 0
-AreAllTellable notation watches ts = (number : ℕ) (w : Watched) → watched_at watches number ≡ Some w → AllByRecursion (AreTellableIn notation number w) ts
+-- the same of the rows of all tables
+abbrev pub AreTellable : Notation → List (Option Watched) → List TouchedRow → Type 0
+AreTellable notation watches ts = (number : ℕ) (w : Watched) → watched_at watches number ≡ Some w → AllByRecursion (IsTellable notation w) (touched_in number ts)
 
 -- ---- the first rows
 

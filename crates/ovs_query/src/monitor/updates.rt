@@ -5,10 +5,10 @@ ghost use Rattle.std.specs.List.{AllByRecursion, filter_map};
 ghost use Rattle.std.specs.Option.{option_copied};
 ghost use Rattle.serde_json.specs.Data.{no_members};
 ghost use Rattle.serde_json.specs.View.{view, members_view};
-ghost use Rattle.ovs_rows.specs.Applied.{seen};
+ghost use Rattle.ovs_rows.specs.Applied.{seen, AscendByPlace};
 ghost use Rattle.ovs_rows.specs.ChangeWriting.{with_some};
 ghost use Rattle.ovs_rows.specs.Writing.{with_member};
-ghost use Rattle.ovs_query.specs.Telling.{told_json, told_in, told_members, AreTellable, AreTellableIn, AreAllTellable};
+ghost use Rattle.ovs_query.specs.Telling.{told_json, told_member, touched_in, told_members, IsTellable, AreTellable};
 ghost use Rattle.ovs_query.specs.UpdateWriting.{table_member, tables_json};
 
 use crate::monitor::row_update1::row_update1;
@@ -31,14 +31,25 @@ fn row_of(row: &Option<Arc<Row>>) -> Option<&Row>
     }
 }
 
+// The rows of a table, which stand one after the other. No other row is looked at but to find them.
+fn rows_of_table(applied: &[Touched], number: usize) -> &[Touched]
+    requires ascending { AscendByPlace (map seen applied.now) }
+    ensures value { map seen result.now ≡ touched_in number (map seen applied.now) }
+{
+    let start = applied.partition_point(|touched| touched.place.table < number);
+    let rest = &applied[start..];
+    let count = rest.partition_point(|touched| touched.place.table <= number);
+    &rest[..count]
+}
+
+// What is told of a row, if anything.
 fn told_json(
     alloc: Global,
     notation: Notation,
     watched: &Watched,
     touched: &Touched,
 ) -> Result<Option<Value>, NoMemory>
-    requires before { AreTellable notation watched.now touched.now.place.id (seen touched.now).before }
-    requires after { AreTellable notation watched.now touched.now.place.id (seen touched.now).after }
+    requires tellable { IsTellable notation watched.now (seen touched.now) }
     ensures value { IfOk result (λ o. option_map view o ≡ told_json notation watched.now (seen touched.now)) }
 {
     let id = touched.place.id;
@@ -50,38 +61,19 @@ fn told_json(
     }
 }
 
-// What is told of a touched row, if it is one of the table.
-fn told_in(
-    alloc: Global,
-    notation: Notation,
-    number: usize,
-    watched: &Watched,
-    touched: &Touched,
-) -> Result<Option<Value>, NoMemory>
-    requires tellable { AreTellableIn notation number watched.now (seen touched.now) }
-    ensures value { IfOk result (λ o. option_map view o ≡ told_in notation number watched.now (seen touched.now)) }
-{
-    if touched.place.table == number {
-        told_json(alloc, notation, watched, touched)
-    } else {
-        Ok(None)
-    }
-}
-
-// What is told of the rows of a table, by id.
+// What is told of rows of one table, by id.
 fn told_rows(
     alloc: Global,
     notation: Notation,
-    number: usize,
     watched: &Watched,
-    applied: &[Touched],
+    rows: &[Touched],
 ) -> Result<Map<String, Value>, NoMemory>
-    requires tellable { AllByRecursion (AreTellableIn notation number watched.now) (map seen applied.now) }
-    ensures value { IfOk result (λ m. members_view m.entries ≡ fold with_member no_members (told_members notation (map seen applied.now) number watched.now)) }
+    requires tellable { AllByRecursion (IsTellable notation watched.now) (map seen rows.now) }
+    ensures value { IfOk result (λ m. members_view m.entries ≡ fold with_member no_members (filter_map (told_member notation watched.now) (map seen rows.now))) }
 {
     let mut members = Map::new(alloc);
-    for touched in applied {
-        let row = told_in(alloc, notation, number, watched, touched)?;
+    for touched in rows {
+        let row = told_json(alloc, notation, watched, touched)?;
         put_row(alloc, &mut members, touched.place.id, row)?;
     }
     Ok(members)
@@ -96,13 +88,15 @@ fn put_told(
     watched: &Option<Watched>,
     applied: &[Touched],
 ) -> Result<(), NoMemory>
-    requires tellable { IfSome watched.now (λ w. AllByRecursion (AreTellableIn notation number w) (map seen applied.now)) }
+    requires ascending { AscendByPlace (map seen applied.now) }
+    requires tellable { IfSome watched.now (λ w. AllByRecursion (IsTellable notation w) (touched_in number (map seen applied.now))) }
     ensures value { OnOk result (members_view members.new.entries ≡ with_some (members_view members.old.entries) (table_member (told_members notation (map seen applied.now)) (number, watched.now))) }
 {
     match watched {
         Some(watched) => {
-            let rows = told_rows(alloc, notation, number, watched, applied)?;
-            put_table(alloc, members, &watched.name, rows)
+            let rows = rows_of_table(applied, number);
+            let told = told_rows(alloc, notation, watched, rows)?;
+            put_table(alloc, members, &watched.name, told)
         }
         None => Ok(()),
     }
@@ -115,7 +109,8 @@ pub(crate) fn step_json(
     watches: &[Option<Watched>],
     applied: &[Touched],
 ) -> Result<Value, NoMemory>
-    requires tellable { AreAllTellable notation watches.now (map seen applied.now) }
+    requires ascending { AscendByPlace (map seen applied.now) }
+    requires tellable { AreTellable notation watches.now (map seen applied.now) }
     ensures value { IfOk result (λ v. view v ≡ tables_json (told_members notation (map seen applied.now)) watches.now) }
 {
     let mut members = Map::new(alloc);

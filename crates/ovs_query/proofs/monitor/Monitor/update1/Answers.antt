@@ -2,7 +2,7 @@ use Rattle.std.proofs.Common.{◌≡◌, ap, map, subst, sym, ◌∙◌}
 use Rattle.std.specs.Prelude.{IfOk}
 use Rattle.serde_json.specs.View.{view}
 use Rattle.serde_json.specs.Written.{has_float}
-use Rattle.ovs_rows.specs.Applied.{seen}
+use Rattle.ovs_rows.specs.Applied.{seen, AscendByPlace}
 use Rattle.ovs_query.specs.declared.monitor.Notation.TheVariants.{Update}
 use Rattle.ovs_query.specs.Updates.{row_updates}
 use Rattle.ovs_query.specs.UpdateWriting.{row_update_json}
@@ -13,7 +13,10 @@ use Rattle.ovs_query.proofs.Telling.{step_told1, told_alike}
 use Rattle.ovs_query.proofs.monitor.Monitor.update1.Goals as goal
 
 pub step_json-requires : goal.step_json-requires
-step_json-requires c = record { tellable = all_whole c.as_slice.result.now (map seen c.rows.result.now) }
+step_json-requires c = record {
+  ascending = subst AscendByPlace (sym c.rows.ensures.value) c.rows.ensures.ascending;
+  tellable = all_whole c.as_slice.result.now (map seen c.rows.result.now);
+}
 
 pub returns-clause-value : goal.returns-clause-value
 returns-clause-value c =

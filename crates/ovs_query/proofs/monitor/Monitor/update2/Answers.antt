@@ -2,10 +2,10 @@ use Rattle.std.proofs.Common.{◌≡◌, ap, map, subst, sym, ◌∙◌}
 use Rattle.std.specs.Prelude.{IfOk}
 use Rattle.serde_json.specs.View.{view}
 use Rattle.serde_json.specs.Written.{has_float}
-use Rattle.ovs_rows.specs.Applied.{seen}
+use Rattle.ovs_rows.specs.Applied.{seen, AscendByPlace}
 use Rattle.ovs_rows.specs.ChangeWriting.{action_json}
 use Rattle.ovs_query.specs.declared.monitor.Notation.TheVariants.{Update2}
-use Rattle.ovs_query.specs.Telling.{AreAllTellable}
+use Rattle.ovs_query.specs.Telling.{AreTellable}
 use Rattle.ovs_query.specs.Updates.{updates}
 use Rattle.ovs_query.proofs.Mirroring.{step_mirrored}
 use Rattle.ovs_query.proofs.NoFloat.{action_no_float, ok_no_float, updates_no_float}
@@ -17,8 +17,9 @@ pub step_json-requires : goal.step_json-requires
 step_json-requires c =
     let tables = c.requires.same_tables in
     record {
-      tellable = subst (λ ws. AreAllTellable Update2 ws (map seen c.rows.result.now)) (sym c.as_slice.ensures.value)
-          (subst (AreAllTellable Update2 c.args.self.now.watches) (sym c.rows.ensures.value) (all_tellable Update2 tables.0 c.args.self.now.watches c.args.applied.now tables.1 tables.2));
+      ascending = subst AscendByPlace (sym c.rows.ensures.value) c.rows.ensures.ascending;
+      tellable = subst (λ ws. AreTellable Update2 ws (map seen c.rows.result.now)) (sym c.as_slice.ensures.value)
+          (subst (AreTellable Update2 c.args.self.now.watches) (sym c.rows.ensures.value) (all_tellable Update2 tables.0 c.args.self.now.watches c.args.applied.now tables.1 tables.2));
     }
 
 pub returns-clause-value : goal.returns-clause-value

@@ -11,6 +11,7 @@ use Rattle.ovs_query.proofs.monitor.updates.step_json.Goals as goal
 
 pub put_told-requires : goal.put_told-requires
 put_told-requires c = record {
+  ascending = c.requires.ascending;
   tellable = item_tellable c.args.notation c.args.watches.now (map seen c.args.applied.now) c.loop-number.number c.index-watches-number.result c.loop-number-test.true c.index-watches-number.is c.requires.tellable;
 }
 

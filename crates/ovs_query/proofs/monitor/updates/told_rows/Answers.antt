@@ -12,12 +12,12 @@ use Rattle.ovs_query.proofs.monitor.updates.told_rows.Goals as goal
 pub loop-touched-preserved : goal.loop-touched-preserved
 loop-touched-preserved c =
     let t = c.touched-item.result in
-    let rest = drop (c.loop-touched.touched-index + 1) c.args.applied.now in
-    let next : drop c.loop-touched.touched-index c.args.applied.now ≡ t ∷ rest = drop-at c.args.applied.now c.loop-touched.touched-index t c.loop-touched-test.true c.touched-item.is in
+    let rest = drop (c.loop-touched.touched-index + 1) c.args.rows.now in
+    let next : drop c.loop-touched.touched-index c.args.rows.now ≡ t ∷ rest = drop-at c.args.rows.now c.loop-touched.touched-index t c.loop-touched-test.true c.touched-item.is in
     let ms = members_view c.loop-touched.members.entries in
     record {
       tellable = (rw next at c.loop-touched.invariant.tellable).1;
-      whole = next_put (told_member c.args.notation c.args.number c.args.watched.now) (map seen (drop c.loop-touched.touched-index c.args.applied.now)) ms _ c.loop-touched.invariant.whole (seen t) (map seen rest) _
+      whole = next_put (told_member c.args.notation c.args.watched.now) (map seen (drop c.loop-touched.touched-index c.args.rows.now)) ms _ c.loop-touched.invariant.whole (seen t) (map seen rest) _
           (ap (map seen) next)
           (c.in_ok-put_row.ensures.value ∙ ap (λ o. with_some ms (option_map (λ d. (id_text t.place.id, d)) o)) c.in_ok-row.ensures.value);
     }

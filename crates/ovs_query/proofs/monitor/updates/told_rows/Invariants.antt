@@ -5,14 +5,14 @@ use Rattle.serde_json.specs.Data.{no_members}
 use Rattle.serde_json.specs.View.{members_view}
 use Rattle.ovs_rows.specs.Applied.{seen}
 use Rattle.ovs_rows.specs.Writing.{with_member}
-use Rattle.ovs_query.specs.Telling.{told_member, told_members, AreTellableIn}
+use Rattle.ovs_query.specs.Telling.{told_member, IsTellable}
 use Rattle.ovs_query.proofs.monitor.updates.told_rows.Given as goal
 
 -- the rows that are left, put to the members now
 abbrev pub invariant-loop-touched : goal.invariant-loop-touched
 invariant-loop-touched l =
-    let left = map seen (drop l.touched-index l.applied) in
+    let left = map seen (drop l.touched-index l.rows) in
     record {
-      tellable : AllByRecursion (AreTellableIn l.notation l.number l.watched) left;
-      whole : fold with_member (members_view l.members.entries) (filter_map (told_member l.notation l.number l.watched) left) ≡ fold with_member no_members (told_members l.notation (map seen l.applied) l.number l.watched);
+      tellable : AllByRecursion (IsTellable l.notation l.watched) left;
+      whole : fold with_member (members_view l.members.entries) (filter_map (told_member l.notation l.watched) left) ≡ fold with_member no_members (filter_map (told_member l.notation l.watched) (map seen l.rows));
     }
