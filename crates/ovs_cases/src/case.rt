@@ -2,7 +2,7 @@
 
 use crate::fault::Fault;
 use crate::{
-    changes, data, devices, folds, ids, messages, queries, schemas, scripts, stores, streams,
+    changes, data, devices, folds, ids, locks, messages, queries, schemas, scripts, stores, streams,
 };
 use ovs_types::Schema;
 use serde_json::Value;
@@ -76,6 +76,7 @@ fn alone(alloc: Global, what: &str, parts: &[Value]) -> Result<Option<String>, F
         "frames" => streams::frames(alloc, parts)?,
         "cut anywhere" => streams::cut_anywhere(alloc, parts)?,
         "message" => messages::message(alloc, parts)?,
+        "locks" => locks::locks(alloc, parts)?,
         "counted" => devices::counted(alloc, parts)?,
         "fold bytes" => folds::fold_bytes(alloc, parts)?,
         "script" => scripts::script(alloc, parts)?,

@@ -12,6 +12,7 @@ mod devices;
 mod fault;
 mod folds;
 mod ids;
+mod locks;
 mod messages;
 mod queries;
 mod schemas;

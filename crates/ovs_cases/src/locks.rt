@@ -1,0 +1,93 @@
+//! Locks of a server, asked for one after the other.
+
+use crate::case::{list, part, text, word};
+use crate::fault::Fault;
+use ovs_locks::{LockError, LockNotice, LockTable};
+use ovs_types::Text;
+use serde_json::Value;
+use std::alloc::Global;
+
+fn session(parts: &[Value]) -> Result<u64, Fault> {
+    part(parts, 1)?.as_u64().ok_or(Fault::Malformed)
+}
+
+fn name(alloc: Global, parts: &[Value], at: usize) -> Result<Text, Fault> {
+    Ok(Text::new(alloc, text(parts, at)?)?)
+}
+
+fn asked(alloc: Global, answer: Result<bool, LockError>) -> Result<String, Fault> {
+    match answer {
+        Ok(true) => word(alloc, "true"),
+        Ok(false) => word(alloc, "false"),
+        Err(LockError::NoMemory) => Err(Fault::NoMemory),
+        Err(LockError::BadLock) => word(alloc, "bad lock"),
+        Err(LockError::AlreadyAsked) => word(alloc, "already asked"),
+    }
+}
+
+fn owner(alloc: Global, locks: &LockTable, parts: &[Value]) -> Result<String, Fault> {
+    match locks.owner(&name(alloc, parts, 1)?) {
+        Some(who) => Ok(format!(in alloc; "{who}")?),
+        None => word(alloc, "nobody"),
+    }
+}
+
+fn notice(alloc: Global, notice: &LockNotice) -> Result<String, Fault> {
+    match notice {
+        LockNotice::Locked(name) => Ok(format!(in alloc; "locked {}", name.as_str())?),
+        LockNotice::Stolen(name) => Ok(format!(in alloc; "stolen {}", name.as_str())?),
+    }
+}
+
+fn notices(alloc: Global, locks: &mut LockTable, who: u64) -> Result<String, Fault> {
+    let mut told = String::from_str(alloc, "told")?;
+    for one in locks.notices(alloc, who)? {
+        told.push(' ')?;
+        told.push_str(notice(alloc, &one)?.as_str())?;
+    }
+    Ok(told)
+}
+
+fn unlock(alloc: Global, locks: &mut LockTable, parts: &[Value]) -> Result<String, Fault> {
+    match locks.unlock(session(parts)?, &name(alloc, parts, 2)?) {
+        Ok(()) => word(alloc, "ok"),
+        Err(_) => word(alloc, "never asked"),
+    }
+}
+
+fn event(alloc: Global, locks: &mut LockTable, parts: &[Value]) -> Result<String, Fault> {
+    match text(parts, 0)? {
+        "lock" => {
+            let name = name(alloc, parts, 2)?;
+            asked(alloc, locks.lock(alloc, session(parts)?, &name))
+        }
+        "steal" => {
+            let name = name(alloc, parts, 2)?;
+            asked(alloc, locks.steal(alloc, session(parts)?, &name))
+        }
+        "unlock" => unlock(alloc, locks, parts),
+        "owner" => owner(alloc, locks, parts),
+        "told" => notices(alloc, locks, session(parts)?),
+        "end" => {
+            locks.end_session(session(parts)?);
+            word(alloc, "ok")
+        }
+        _ => Err(Fault::Malformed),
+    }
+}
+
+/// `["locks", [EVENT, ..]]`, where an event is `["lock", SESSION, NAME]`, `["steal", SESSION, NAME]`, `["unlock", SESSION,
+/// NAME]`, `["owner", NAME]`, `["told", SESSION]` or `["end", SESSION]`: what each answers.
+pub(crate) fn locks(alloc: Global, parts: &[Value]) -> Result<String, Fault> {
+    let mut locks = LockTable::new(alloc);
+    let mut answers = String::new(alloc);
+    for one in list(parts, 1)? {
+        let parts = one.as_array().ok_or(Fault::Malformed)?;
+        let answer = event(alloc, &mut locks, parts.as_slice())?;
+        if !answers.is_empty() {
+            answers.push_str(" | ")?;
+        }
+        answers.push_str(answer.as_str())?;
+    }
+    Ok(answers)
+}

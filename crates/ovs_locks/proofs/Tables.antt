@@ -1,0 +1,208 @@
+-- Tables of locks: one lock changed, and all of them.
+use Rattle.std.proofs.Common.{◌≡◌, ℕ, List, [], ◌∷◌, ◌++◌, Bool, true, false, cond, Option, Some, None, refl, sym, ap, subst, ◌∙◌}
+use Rattle.std.specs.Prelude.{◌==◌, ◌≢◌, ◌&&◌, ◌||◌, not, map, unwrap_or, option_map, IsSome}
+use Rattle.std.specs.declared.cmp.Ordering.{Ordering}
+use Rattle.std.specs.declared.cmp.Ordering.TheVariants.{Less, Equal, Greater}
+use Rattle.std.specs.Ordering.{nat_cmp, is_eq}
+use Rattle.std.specs.Cmp.{eq_by_cmp_equiv}
+use Rattle.std.specs.Cmp.Lexicographic.{slice_cmp, nat_list_cmp_total}
+use Rattle.std.specs.FinMap.{nat_cmp-IsAntisymmetric, slice_cmp-IsAntisymmetric}
+use Rattle.std.specs.List.Sorted.{IsStrictlySortedBy}
+use Rattle.std.specs.Map.{lookup, keys_of, set_value}
+use Rattle.std.specs.Map.Calls.{RetainsPairs}
+use Rattle.std.specs.BTreeMap as tree
+use Rattle.std.specs.BTreeMap.{BTreeMap, is_at}
+use Rattle.std.proofs.lemmas.Map.{NonePasses, lookup-none}
+use Rattle.std.proofs.lemmas.Map.Keys.{sorted_tail, IsDistinct-from_sorted}
+use Rattle.std.proofs.lemmas.Map.Entries.{none_past_head}
+use Rattle.std.proofs.lemmas.Map.Made.{lookup-map_values}
+use Rattle.std.proofs.lemmas.Map.Steps.{set_value_same}
+use Rattle.ovs_locks.specs.declared.asker.Asker.{Asker}
+use Rattle.ovs_locks.specs.declared.asker.Owed.TheVariants.{Nothing}
+use Rattle.ovs_locks.specs.Lock.{LockValue, no_lock, asker, is_who, is_in, stands, is_first, dropped, granted, without, is_free, is_idle, heard, after_telling, notices_of, owed_in, owed_for}
+use Rattle.ovs_locks.specs.LockTable.{Locks, lock_at, Becomes, owed_to}
+
+tied : (o : Ordering) → is_eq o ≡ true → o ≡ Equal
+tied Less e = absurd cc
+tied Equal e = refl
+tied Greater e = absurd cc
+
+by_test : (b : Bool) → (b ≡ true → ⊥) → b ≡ false
+by_test true n = absurd (n refl)
+by_test false n = refl
+
+-- another name is another key
+pub apart : (name other : List ℕ) → other ≢ name → is_at (slice_cmp nat_cmp name) other ≡ false
+apart name other n = by_test (is_eq (slice_cmp nat_cmp name other)) (λ e. n (sym (slice_cmp-IsAntisymmetric nat_cmp-IsAntisymmetric name other (tied (slice_cmp nat_cmp name other) e))))
+
+-- what a change of one key makes of the locks
+pub becomes : (name : List ℕ) (lock : LockValue) (m n : BTreeMap (List ℕ) LockValue)
+    → tree.Updates (slice_cmp nat_cmp) m n name (Some lock) → Becomes m.entries name lock n.entries
+becomes name lock m n u = (ap (λ o. unwrap_or o no_lock) u.1, λ other ne. ap (λ o. unwrap_or o no_lock) (u.2 other (apart name other ne)))
+
+pub becomes_none : (name : List ℕ) (m n : BTreeMap (List ℕ) LockValue)
+    → tree.Updates (slice_cmp nat_cmp) m n name None → Becomes m.entries name no_lock n.entries
+becomes_none name m n u = (ap (λ o. unwrap_or o no_lock) u.1, λ other ne. ap (λ o. unwrap_or o no_lock) (u.2 other (apart name other ne)))
+
+-- a second change of the same lock
+pub becomes_twice : (a b c : Locks) (name : List ℕ) (x y : LockValue) → Becomes a name x b → Becomes b name y c → Becomes a name y c
+becomes_twice a b c name x y p q = (q.0, λ other ne. q.1 other ne ∙ p.1 other ne)
+
+-- ---- all locks
+
+-- the locks after a change of each, less those in which nobody stands
+abbrev pub kept_by : (LockValue → LockValue) → Locks → Locks
+kept_by f [] = []
+kept_by f (e ∷ es) = cond (is_idle (f e.1)) (kept_by f es) ((e.0, f e.1) ∷ kept_by f es)
+
+not_cond : {X : Type 0} (b : Bool) (x y : X) → cond (not b) x y ≡ cond b y x
+not_cond true x y = refl
+not_cond false x y = refl
+
+pub left_pairs : {F : Type 0} (T : F → List ℕ → LockValue → Bool → LockValue → F → Type 0) (f : LockValue → LockValue) (g : F)
+    → ((k : List ℕ) (v : LockValue) (b : Bool) (w : LockValue) (g' : F) → T g k v b w g' → (b ≡ not (is_idle (f v))) × (w ≡ f v) × (g' ≡ g))
+    → (es kept : Locks) → RetainsPairs T g es kept → kept ≡ kept_by f es
+left_pairs T f g h [] kept r = r
+left_pairs T f g h (e ∷ es) kept (b, w, g', rest, t, more, is) =
+    let x = h e.0 e.1 b w g' t in
+    let same = left_pairs T f g h es rest (subst (λ q. RetainsPairs T q es rest) x.2 more) in
+    let there : kept ≡ cond (not (is_idle (f e.1))) ((e.0, f e.1) ∷ kept_by f es) (kept_by f es) = cc in
+    there ∙ not_cond (is_idle (f e.1)) ((e.0, f e.1) ∷ kept_by f es) (kept_by f es)
+
+nothing_kept : (f : LockValue → LockValue) (test : List ℕ → Bool) (es : Locks) → lookup test es ≡ None → lookup test (kept_by f es) ≡ None
+nothing_kept f test [] none = refl
+nothing_kept f test (e ∷ es) none = at_head (test e.0) (is_idle (f e.1)) refl none (λ n. nothing_kept f test es n)
+  where
+    at_head : (b i : Bool) → test e.0 ≡ b → cond b (Some e.1) (lookup test es) ≡ None → (lookup test es ≡ None → lookup test (kept_by f es) ≡ None)
+        → lookup test (cond i (kept_by f es) ((e.0, f e.1) ∷ kept_by f es)) ≡ None
+    at_head true i p n more = absurd cc
+    at_head false true p n more = more n
+    at_head false false p n more = rw p (more n)
+
+is_none_at : {X : Type 0} → (o : Option X) → (d : X) → o ≡ None → unwrap_or o d ≡ d
+is_none_at o d e = ap (λ o. unwrap_or o d) e
+
+-- nobody stands in a lock that is idle
+pub idle_is_none : (l : LockValue) → is_idle l ≡ true → l ≡ no_lock
+idle_is_none l e = of l.queue l.stolen e
+  where
+    of : (q s : List Asker) → (is_free q && is_free s) ≡ true → record { queue = q; stolen = s } ≡ no_lock
+    of [] [] e = refl
+    of [] (a ∷ s) e = absurd cc
+    of (a ∷ q) s e = absurd cc
+
+-- each lock is what f makes of it, also those that are taken out
+pub lock_at-kept : (f : LockValue → LockValue) → f no_lock ≡ no_lock → (name : List ℕ) (es : Locks) → IsStrictlySortedBy (slice_cmp nat_cmp) (keys_of es)
+    → lock_at name (kept_by f es) ≡ f (lock_at name es)
+lock_at-kept f none name [] s = sym none
+lock_at-kept f none name (e ∷ es) s = at_head (is_at (slice_cmp nat_cmp name) e.0) (is_idle (f e.1)) refl refl (lock_at-kept f none name es (sorted_tail (slice_cmp nat_cmp) e.0 (keys_of es) s))
+  where
+    gone : is_at (slice_cmp nat_cmp name) e.0 ≡ true → lookup (is_at (slice_cmp nat_cmp name)) (kept_by f es) ≡ None
+    gone p = nothing_kept f (is_at (slice_cmp nat_cmp name)) es (lookup-none (is_at (slice_cmp nat_cmp name)) es (none_past_head (eq_by_cmp_equiv nat_list_cmp_total) name e es (IsDistinct-from_sorted (slice_cmp nat_cmp) (keys_of (e ∷ es)) s) p))
+
+    at_head : (b i : Bool) → is_at (slice_cmp nat_cmp name) e.0 ≡ b → is_idle (f e.1) ≡ i → lock_at name (kept_by f es) ≡ f (lock_at name es)
+        → lock_at name (cond i (kept_by f es) ((e.0, f e.1) ∷ kept_by f es)) ≡ f (unwrap_or (cond b (Some e.1) (lookup (is_at (slice_cmp nat_cmp name)) es)) no_lock)
+    at_head true true p q more = is_none_at (lookup (is_at (slice_cmp nat_cmp name)) (kept_by f es)) no_lock (gone p) ∙ sym (idle_is_none (f e.1) q)
+    at_head true false p q more = rw p refl
+    at_head false true p q more = more
+    at_head false false p q more = rw p more
+
+pub lock_at-map : (f : LockValue → LockValue) → f no_lock ≡ no_lock → (name : List ℕ) (es : Locks) → lock_at name (map (λ e. (e.0, f e.1)) es) ≡ f (lock_at name es)
+lock_at-map f none name es = ap (λ o. unwrap_or o no_lock) (lookup-map_values f (is_at (slice_cmp nat_cmp name)) es) ∙ of (lookup (is_at (slice_cmp nat_cmp name)) es)
+  where
+    of : (o : Option LockValue) → unwrap_or (option_map f o) no_lock ≡ f (unwrap_or o no_lock)
+    of None = sym none
+    of (Some l) = refl
+
+-- ---- what is told
+
+alike : {A : Type 0} (b : Bool) (x : A) → cond b x x ≡ x
+alike true x = refl
+alike false x = refl
+
+told_nothing : (who : ℕ) (name : List ℕ) (a : Asker) (b : Bool) → (a.who == who) ≡ b
+    → cond ((cond b (asker who) a).who == who) (notices_of name (cond b (asker who) a).owed) [] ≡ []
+told_nothing who name a true e = alike (who == who) []
+told_nothing who name a false e = rw e refl
+
+owed_nothing : (who : ℕ) (name : List ℕ) (xs : List Asker) → owed_in who name (heard who xs) ≡ []
+owed_nothing who name [] = refl
+owed_nothing who name (a ∷ xs) = ap (λ ns. ns ++ owed_in who name (heard who xs)) (told_nothing who name a (a.who == who) refl) ∙ owed_nothing who name xs
+
+-- a session that was told all is owed nothing
+pub all_told : (who : ℕ) (es : Locks) → owed_to who (map (λ e. (e.0, after_telling who e.1)) es) ≡ []
+all_told who [] = refl
+all_told who (e ∷ es) =
+    ap (λ ns. (ns ++ owed_in who e.0 (heard who e.1.stolen)) ++ owed_to who (map (λ e. (e.0, after_telling who e.1)) es)) (owed_nothing who e.0 e.1.queue)
+    ∙ ap (λ ns. ns ++ owed_to who (map (λ e. (e.0, after_telling who e.1)) es)) (owed_nothing who e.0 e.1.stolen)
+    ∙ all_told who es
+
+-- ---- a lock that was lent
+
+there : {X : Type 0} (o : Option X) (x : X) → Some x ≡ o → IsSome o
+there None x e = absurd cc
+there (Some y) x e = refl
+
+pub lent_is : (name : List ℕ) (lock : LockValue) (m : BTreeMap (List ℕ) LockValue) → Some lock ≡ tree.get_by (slice_cmp nat_cmp name) m → lock_at name m.entries ≡ lock
+lent_is name lock m e = sym (ap (λ o. unwrap_or o no_lock) e)
+
+-- what is written through the loan is what the lock becomes
+pub written : (name : List ℕ) (lock new : LockValue) (f : LockValue → LockValue) (m n : BTreeMap (List ℕ) LockValue)
+    → Some lock ≡ tree.get_by (slice_cmp nat_cmp name) m → tree.WritesThrough (slice_cmp nat_cmp) (slice_cmp nat_cmp name) m new n → new ≡ f lock
+    → Becomes m.entries name (f (lock_at name m.entries)) n.entries
+written name lock new f m n e w is =
+    let at = becomes name new m n (w.3 (there (tree.get_by (slice_cmp nat_cmp name) m) lock e)) in
+    (at.0 ∙ is ∙ ap f (sym (lent_is name lock m e)), at.1)
+
+-- nothing changes where it is written back as it was
+pub unwritten : (name : List ℕ) (lock new : LockValue) (m n : BTreeMap (List ℕ) LockValue)
+    → Some lock ≡ tree.get_by (slice_cmp nat_cmp name) m → tree.WritesThrough (slice_cmp nat_cmp) (slice_cmp nat_cmp name) m new n → new ≡ lock
+    → n.entries ≡ m.entries
+unwritten name lock new m n e w is = w.0 ∙ ap (set_value (is_at (slice_cmp nat_cmp name)) m.entries) is ∙ set_value_same (is_at (slice_cmp nat_cmp name)) m.entries lock (sym e)
+
+pub then_gone : (name : List ℕ) (l : LockValue) (a b d : Locks) → Becomes a name l b → is_idle l ≡ true → Becomes b name no_lock d → Becomes a name l d
+then_gone name l a b d p i q = (q.0 ∙ sym (idle_is_none l i), λ other ne. q.1 other ne ∙ p.1 other ne)
+
+-- ---- a session that left
+
+-- it stands in no list
+none_left : (who : ℕ) (xs : List Asker) → is_in who (dropped who xs) ≡ false
+none_left who [] = refl
+none_left who (a ∷ xs) = by (a.who == who) refl (none_left who xs)
+  where
+    by : (b : Bool) → (a.who == who) ≡ b → is_in who (dropped who xs) ≡ false → is_in who (cond (not b) (a ∷ dropped who xs) (dropped who xs)) ≡ false
+    by true e rest = rest
+    by false e rest = rw e rest
+
+in_granted : (who : ℕ) (now : Bool) (xs : List Asker) → is_in who (granted now xs) ≡ is_in who xs
+in_granted who now [] = refl
+in_granted who true (a ∷ xs) = refl
+in_granted who false (a ∷ xs) = refl
+
+pub left : (who : ℕ) (l : LockValue) → stands who (without who l) ≡ false
+left who l =
+    ap (λ b. b || is_in who (dropped who l.stolen)) (in_granted who (is_first who l.queue) (dropped who l.queue) ∙ none_left who l.queue)
+    ∙ none_left who l.stolen
+
+-- what stands in no list is owed nothing
+not_owed : (who : ℕ) (name : List ℕ) (xs : List Asker) → is_in who xs ≡ false → owed_in who name xs ≡ []
+not_owed who name [] none = refl
+not_owed who name (a ∷ xs) none = by (a.who == who) refl none (not_owed who name xs)
+  where
+    by : (b : Bool) → (a.who == who) ≡ b → (b || is_in who xs) ≡ false → (is_in who xs ≡ false → owed_in who name xs ≡ []) → owed_in who name (a ∷ xs) ≡ []
+    by true e none rest = absurd cc
+    by false e none rest = rw e (rest none)
+
+pub left_owed : (who : ℕ) (name : List ℕ) (l : LockValue) → owed_for who name (without who l) ≡ []
+left_owed who name l =
+    ap (λ ns. ns ++ owed_in who name (dropped who l.stolen))
+    (not_owed who name (granted (is_first who l.queue) (dropped who l.queue)) (in_granted who (is_first who l.queue) (dropped who l.queue) ∙ none_left who l.queue))
+    ∙ not_owed who name (dropped who l.stolen) (none_left who l.stolen)
+
+pub none_owed : (who : ℕ) (es : Locks) → owed_to who (kept_by (without who) es) ≡ []
+none_owed who [] = refl
+none_owed who (e ∷ es) = by (is_idle (without who e.1)) (none_owed who es)
+  where
+    by : (b : Bool) → owed_to who (kept_by (without who) es) ≡ [] → owed_to who (cond b (kept_by (without who) es) ((e.0, without who e.1) ∷ kept_by (without who) es)) ≡ []
+    by true rest = rest
+    by false rest = ap (λ ns. ns ++ owed_to who (kept_by (without who) es)) (left_owed who e.0 e.1) ∙ rest

@@ -1,0 +1,13 @@
+//! The named locks of a database server: who owns each, who waits for it, and what each session is to be told (RFC 7047
+//! sections 4.1.8 to 4.1.10).
+#![tactic(auto)]
+
+mod asker;
+mod error;
+mod lock;
+mod lock_table;
+mod notice;
+
+pub use error::{LockError, NeverAsked};
+pub use lock_table::LockTable;
+pub use notice::LockNotice;

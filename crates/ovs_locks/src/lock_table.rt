@@ -1,0 +1,218 @@
+//! The locks of a server, by name.
+
+ghost use Rattle.std.specs.Prelude.{◌≡◌, ℕ, List, [], true, false, OnOk, OnErr, IfOk};
+ghost use Rattle.ovs_locks.specs.Lock.{no_lock, owner, stands, asked, without, after_telling};
+ghost use Rattle.ovs_locks.specs.LockTable.{AscendByName, is_lock, lock_at, Becomes, AllBecome, AnswersAs, owed_to};
+
+use crate::asker::Asking;
+use crate::error::{LockError, NeverAsked};
+use crate::lock::Lock;
+use crate::notice::LockNotice;
+use ovs_types::{NoMemory, Text, is_id};
+use std::alloc::Global;
+use std::collections::BTreeMap;
+use std::marker::Model;
+
+/// The locks of a server, by name: for each the sessions that asked for it, in two lists. The first of the queue owns the
+/// lock; those from whom it was stolen stand in the other until they unlock it (RFC 7047 section 4.1.8).
+#[derive(Drop)]
+pub struct LockTable {
+    locks: BTreeMap<Text, Lock>,
+}
+
+impl Model for LockTable {
+    ghost use Rattle.std.specs.Prelude.{ℕ, List};
+    ghost use Rattle.std.specs.BTreeMap.{IsOrdered};
+    ghost use Rattle.std.specs.Ordering.{nat_cmp};
+    ghost use Rattle.std.specs.Cmp.Lexicographic.{slice_cmp};
+    ghost use Rattle.std.specs.Coded.{coded×, coded_ℕ, coded_list};
+    ghost use Rattle.ovs_locks.specs.contracts.lock.Lock as lock_row;
+    ghost use Rattle.ovs_locks.specs.LockTable.{Locks};
+
+    ghost Value = { Locks };
+
+    ghost coded = { coded_list (coded× (coded_list coded_ℕ) lock_row.the_row.coded) };
+
+    ghost view = { λ t. t.locks.entries };
+}
+
+// Whether a lock may have this name.
+fn is_lock(name: &str) -> bool
+    ensures value { result ≡ is_lock name.now }
+{
+    is_id(name) && name != "_none"
+}
+
+impl LockTable {
+    /// A table in which no session has asked for a lock.
+    pub fn new(alloc: Global) -> LockTable
+        ensures value { result ≡ [] }
+    {
+        LockTable {
+            locks: BTreeMap::new(alloc),
+        }
+    }
+
+    // A session asks for a lock.
+    fn ask(&mut self, alloc: Global, who: u64, name: &Text, how: Asking) -> Result<bool, LockError>
+        ensures answer { AnswersAs how who name.now self.old result }
+        ensures after { OnOk result (Becomes self.old name.now (asked how who (lock_at name.now self.old)) self.new) }
+        ensures unchanged { OnErr result (self.new ≡ self.old) }
+    {
+        if !is_lock(name.as_str()) {
+            return Err(LockError::BadLock);
+        }
+        if let Some(lock) = self.locks.get_mut(name) {
+            return lock.ask(who, how);
+        }
+        let mut lock = Lock::new(alloc);
+        let answer = lock.ask(who, how)?;
+        match self.add(name, lock) {
+            Ok(()) => Ok(answer),
+            Err(NoMemory) => Err(LockError::NoMemory),
+        }
+    }
+
+    // Adds a lock that isn't there.
+    fn add(&mut self, name: &Text, lock: Lock) -> Result<(), NoMemory>
+        ensures value { OnOk result (Becomes self.old name.now lock self.new) }
+        ensures unchanged { OnErr result (self.new ≡ self.old) }
+    {
+        self.locks.insert(name.copy()?, lock)?;
+        Ok(())
+    }
+
+    /// Asks for a lock after those that asked before. The answer is whether the session owns it now.
+    ///
+    /// # Errors
+    /// `BadLock` where no lock has such a name, else `AlreadyAsked` where the session stands in one of its lists, else
+    /// `NoMemory`. The table is then as it was.
+    pub fn lock(&mut self, alloc: Global, who: u64, name: &Text) -> Result<bool, LockError>
+        ensures answer { AnswersAs Asking.Lock who name.now self.old result }
+        ensures after { OnOk result (Becomes self.old name.now (asked Asking.Lock who (lock_at name.now self.old)) self.new) }
+        ensures unchanged { OnErr result (self.new ≡ self.old) }
+    {
+        self.ask(alloc, who, name, Asking::Lock)
+    }
+
+    /// Asks for a lock in the place of its owner, who is owed the notice that it was stolen. The answer is true.
+    ///
+    /// # Errors
+    /// As those of `lock`.
+    pub fn steal(&mut self, alloc: Global, who: u64, name: &Text) -> Result<bool, LockError>
+        ensures answer { AnswersAs Asking.Steal who name.now self.old result }
+        ensures after { OnOk result (Becomes self.old name.now (asked Asking.Steal who (lock_at name.now self.old)) self.new) }
+        ensures unchanged { OnErr result (self.new ≡ self.old) }
+    {
+        self.ask(alloc, who, name, Asking::Steal)
+    }
+
+    /// The session that owns a lock, if one does.
+    pub fn owner(&self, name: &Text) -> Option<u64>
+        ensures value { result ≡ owner (lock_at name.now self.now) }
+    {
+        match self.locks.get(name) {
+            Some(lock) => lock.owner(),
+            None => None,
+        }
+    }
+
+    fn stands(&self, who: u64, name: &Text) -> bool
+        ensures value { result ≡ stands who (lock_at name.now self.now) }
+    {
+        match self.locks.get(name) {
+            Some(lock) => lock.stands(who),
+            None => false,
+        }
+    }
+
+    /// Takes a session out of the lists of a lock, with what it was owed for it. If it was the owner, the next one is, and is
+    /// owed the notice of it.
+    ///
+    /// # Errors
+    /// `NeverAsked` where it stands in neither list; the table is then as it was.
+    pub fn unlock(&mut self, who: u64, name: &Text) -> Result<(), NeverAsked>
+        ensures ok { OnOk result (stands who (lock_at name.now self.old) ≡ true) }
+        ensures after { OnOk result (Becomes self.old name.now (without who (lock_at name.now self.old)) self.new) }
+        ensures never { OnErr result (stands who (lock_at name.now self.old) ≡ false) }
+        ensures unchanged { OnErr result (self.new ≡ self.old) }
+    {
+        if !self.stands(who, name) {
+            return Err(NeverAsked);
+        }
+        self.leave(who, name);
+        Ok(())
+    }
+
+    // Takes a session out of both lists of a lock.
+    fn leave(&mut self, who: u64, name: &Text)
+        ensures after { Becomes self.old name.now (without who (lock_at name.now self.old)) self.new }
+    {
+        if let Some(lock) = self.locks.get_mut(name) {
+            lock.leave(who);
+            if lock.is_idle() {
+                self.remove(name);
+            }
+        }
+    }
+
+    // Takes a lock away.
+    fn remove(&mut self, name: &Text)
+        ensures after { Becomes self.old name.now no_lock self.new }
+    {
+        let _ = self.locks.remove(name);
+    }
+
+    /// Takes a session out of all lists, with what it was owed; locks that it owned have their next owner.
+    pub fn end_session(&mut self, who: u64)
+        ensures after { AllBecome self.old (without who) self.new }
+        ensures gone { (name : List ℕ) → stands who (lock_at name self.new) ≡ false }
+        ensures nothing { owed_to who self.new ≡ [] }
+    {
+        self.locks.retain(|_name, lock| {
+            lock.leave(who);
+            !lock.is_idle()
+        });
+    }
+
+    // Notes that a session was told all that it was owed.
+    fn note_told(&mut self, who: u64)
+        ensures after { AllBecome self.old (after_telling who) self.new }
+        ensures nothing { owed_to who self.new ≡ [] }
+        ensures by_name { AscendByName self.old }
+    {
+        self.locks.retain(|_name, lock| {
+            lock.note_told(who);
+            true
+        });
+    }
+
+    // What a session is owed.
+    fn owed(&self, alloc: Global, who: u64) -> Result<Vec<LockNotice>, NoMemory>
+        ensures value { IfOk result (λ notices. notices.items ≡ owed_to who self.now) }
+    {
+        let mut notices = Vec::new(alloc);
+        for (name, lock) in self.locks.iter() {
+            lock.add_owed(who, name, &mut notices)?;
+        }
+        Ok(notices)
+    }
+
+    /// What a session is owed and wasn't told, by the names of the locks, ascending; of one lock that it had it before that
+    /// it was stolen. The session is owed nothing then.
+    ///
+    /// # Errors
+    /// `NoMemory` alone; the session is then owed what it was.
+    pub fn notices(&mut self, alloc: Global, who: u64) -> Result<Vec<LockNotice>, NoMemory>
+        ensures told { IfOk result (λ notices. notices.items ≡ owed_to who self.old) }
+        // The locks stand in the order of their names.
+        ensures by_name { OnOk result (AscendByName self.old) }
+        ensures after { OnOk result (AllBecome self.old (after_telling who) self.new) }
+        ensures nothing { OnOk result (owed_to who self.new ≡ []) }
+        ensures unchanged { OnErr result (self.new ≡ self.old) }
+    {
+        let notices = self.owed(alloc, who)?;
+        self.note_told(who);
+        Ok(notices)
+    }
+}
