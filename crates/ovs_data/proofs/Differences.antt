@@ -193,16 +193,16 @@ atom_eq-true x y e =
       | Greater ↦ λ d f. absurd cc
     ] refl e
 
-contains-in_order : (x : Atom) (ys : List Atom) → contains x (in_order atom_cmp ys) ≡ contains x ys
+pub contains-in_order : (x : Atom) (ys : List Atom) → contains x (in_order atom_cmp ys) ≡ contains x ys
 contains-in_order x ys =
     contains-at x (in_order atom_cmp ys) ∙ ap is_some (at-in_order atom_cmp atom_total (λ (x : Atom). x) x ys) ∙ sym (contains-at x ys)
 
-contains-append : (x : Atom) (ys zs : List Atom) → contains x (ys ++ zs) ≡ (contains x ys || contains x zs)
+pub contains-append : (x : Atom) (ys zs : List Atom) → contains x (ys ++ zs) ≡ (contains x ys || contains x zs)
 contains-append x [] zs = refl
 contains-append x (y ∷ ys) zs =
     elim (atom_eq x y) as (λ b. (b || contains x (ys ++ zs)) ≡ ((b || contains x ys) || contains x zs)) [ true ↦ refl | false ↦ contains-append x ys zs ]
 
-contains-filter : (p : Atom → Bool) (x : Atom) (ys : List Atom) → contains x (filter p ys) ≡ (p x && contains x ys)
+pub contains-filter : (p : Atom → Bool) (x : Atom) (ys : List Atom) → contains x (filter p ys) ≡ (p x && contains x ys)
 contains-filter p x [] = elim (p x) as (λ b. false ≡ (b && false)) [ true ↦ refl | false ↦ refl ]
 contains-filter p x (y ∷ ys) =
     elim (p y) as (λ b. p y ≡ b → contains x (cond b (y ∷ filter p ys) (filter p ys)) ≡ (p x && (atom_eq x y || contains x ys))) [
@@ -234,7 +234,7 @@ IsExchange-exchange_of_sets a b x =
 
 -- ---- the pairs that the exchange of two maps has, in order
 
-value_at-in_order : (k : Atom) (ps : List Pair) → value_at k (in_order key_cmp ps) ≡ value_at k ps
+pub value_at-in_order : (k : Atom) (ps : List Pair) → value_at k (in_order key_cmp ps) ≡ value_at k ps
 value_at-in_order k ps =
     value_at-at k (in_order key_cmp ps) ∙ ap pair_value (at-in_order atom_cmp atom_total (λ (p : Pair). p.key) k ps) ∙ sym (value_at-at k ps)
 

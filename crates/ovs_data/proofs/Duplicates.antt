@@ -24,10 +24,10 @@ use Rattle.ovs_data.specs.Pairs.{key_cmp}
 use Rattle.ovs_data.specs.Column.{may_count}
 use Rattle.ovs_data.specs.Ascending.{distinct}
 use Rattle.ovs_data.specs.Reading.{read_integer, read_uuid, read_atom, read_one, read_elements, counted, read_set, map_items, read_pair, read_pairs, read_map, read_shaped, read_datum}
-use Rattle.ovs_data.specs.Spelling.{IsRepeated, HasRepeat}
+use Rattle.ovs_data.specs.Spelling.{SpellsAtom, IsRepeated, HasRepeat}
 use Rattle.ovs_data.proofs.AtomOrder.{atom_exact}
 use Rattle.ovs_data.proofs.Repeats.{none_repeated, repeated_none}
-use Rattle.ovs_data.proofs.Spellings.{elements_found, elements_only, pairs_found, pairs_only}
+use Rattle.ovs_data.proofs.Spellings.{plain_atoms, elements_found, elements_only, pairs_found, pairs_only}
 
 -- reading doesn't tell `Duplicate`
 abbrev TellsNone : {X : Type 0} → Result X DatumError → Type 0
@@ -58,25 +58,25 @@ items_tell read none (item d ds) h =
     bind_tells (read d) (λ x. read_items read ds >>= λ ys. read_as (x ∷ ys)) (none d) (λ x.
     bind_tells (read_items read ds) (λ ys. read_as (x ∷ ys)) (items_tell read none ds) (λ ys e. absurd cc)) h
 
-elements_tell : (kind : AtomKind) (d : Data) → TellsNone (read_elements kind d)
+elements_tell : (kind : AtomKind) (d : Data) → TellsNone (read_elements read_atom kind d)
 elements_tell kind d h =
-    elim (begins_with (codes "set") d) as (λ b. cond b (ok_or (list_under (codes "set") d) faults.WrongShape >>= read_items (read_atom kind)) (cond (begins_with (codes "map") d) (Err faults.WrongShape) (read_one kind d)) ≡ Err faults.Duplicate → ⊥) [
+    elim (begins_with (codes "set") d) as (λ b. cond b (ok_or (list_under (codes "set") d) faults.WrongShape >>= read_items (read_atom kind)) (cond (begins_with (codes "map") d) (Err faults.WrongShape) (read_one read_atom kind d)) ≡ Err faults.Duplicate → ⊥) [
       | true ↦ bind_tells (ok_or (list_under (codes "set") d) faults.WrongShape) (read_items (read_atom kind)) (ok_or_tells (list_under (codes "set") d) faults.WrongShape (λ e. absurd cc)) (items_tell (read_atom kind) (atom_tells kind))
-      | false ↦ λ f. elim (begins_with (codes "map") d) as (λ b. cond b (Err faults.WrongShape) (read_one kind d) ≡ Err faults.Duplicate → ⊥) [
+      | false ↦ λ f. elim (begins_with (codes "map") d) as (λ b. cond b (Err faults.WrongShape) (read_one read_atom kind d) ≡ Err faults.Duplicate → ⊥) [
         | true ↦ λ g. absurd cc
         | false ↦ bind_tells (read_atom kind d) (λ x. read_as (x ∷ [])) (atom_tells kind d) (λ x e. absurd cc)
       ] f
     ] h
 
-pair_tells : (key value : AtomKind) (d : Data) → TellsNone (read_pair key value d)
+pair_tells : (key value : AtomKind) (d : Data) → TellsNone (read_pair read_atom key value d)
 pair_tells key value d =
     bind_tells (ok_or (two_items d) faults.WrongShape) (λ both. read_atom key both.0 >>= λ k. read_atom value both.1 >>= λ v. read_as (record { key = k; value = v })) (ok_or_tells (two_items d) faults.WrongShape (λ e. absurd cc)) (λ both.
     bind_tells (read_atom key both.0) (λ k. read_atom value both.1 >>= λ v. read_as (record { key = k; value = v })) (atom_tells key both.0) (λ k.
     bind_tells (read_atom value both.1) (λ v. read_as (record { key = k; value = v })) (atom_tells value both.1) (λ v e. absurd cc)))
 
-pairs_tell : (key value : AtomKind) (d : Data) → TellsNone (read_pairs key value d)
+pairs_tell : (key value : AtomKind) (d : Data) → TellsNone (read_pairs read_atom key value d)
 pairs_tell key value d =
-    bind_tells (ok_or (map_items (list_under (codes "map") d)) faults.WrongShape) (read_items (read_pair key value)) (ok_or_tells (map_items (list_under (codes "map") d)) faults.WrongShape (λ e. absurd cc)) (items_tell (read_pair key value) (pair_tells key value))
+    bind_tells (ok_or (map_items (list_under (codes "map") d)) faults.WrongShape) (read_items (read_pair read_atom key value)) (ok_or_tells (map_items (list_under (codes "map") d)) faults.WrongShape (λ e. absurd cc)) (items_tell (read_pair read_atom key value) (pair_tells key value))
 
 counted_tells : (c : Column) (n : ℕ) (x : Datum) → TellsNone (counted c n x)
 counted_tells c n x h = elim (may_count c n) as (λ b. cond b (read_as x) (Err faults.WrongCount) ≡ Err faults.Duplicate → ⊥) [ true ↦ λ f. absurd cc | false ↦ λ f. absurd cc ] h
@@ -96,27 +96,27 @@ middle {Y = Y} (Ok x) f g first last h = (
   ] h,
 )
 
-set_tells : (c : Column) (d : Data) → c.value ≡ None → read_set c d ≡ Err faults.Duplicate → HasRepeat c d
+set_tells : (c : Column) (d : Data) → c.value ≡ None → read_set read_atom c d ≡ Err faults.Duplicate → HasRepeat c d
 set_tells c d shape h =
-    let p = middle (read_elements c.key d) (distinct atom_cmp) (λ ys. counted c (length ys) (Set ys)) (elements_tell c.key d) (λ ys. counted_tells c (length ys) (Set ys)) h in
-    inl (p.0, shape, elements_found c.key d p.0 p.1, subst IsRepeated (map-id p.0) (none_repeated atom_cmp atom_total atom_exact (λ (x : Atom). x) p.0 p.2))
+    let p = middle (read_elements read_atom c.key d) (distinct atom_cmp) (λ ys. counted c (length ys) (Set ys)) (elements_tell c.key d) (λ ys. counted_tells c (length ys) (Set ys)) h in
+    inl (p.0, shape, elements_found read_atom SpellsAtom plain_atoms c.key d p.0 p.1, subst IsRepeated (map-id p.0) (none_repeated atom_cmp atom_total atom_exact (λ (x : Atom). x) p.0 p.2))
 
-map_tells : (c : Column) (value : AtomKind) (d : Data) → c.value ≡ Some value → read_map c value d ≡ Err faults.Duplicate → HasRepeat c d
+map_tells : (c : Column) (value : AtomKind) (d : Data) → c.value ≡ Some value → read_map read_atom c value d ≡ Err faults.Duplicate → HasRepeat c d
 map_tells c value d shape h =
-    let p = middle (read_pairs c.key value d) (distinct key_cmp) (λ qs. counted c (length qs) (Map qs)) (pairs_tell c.key value d) (λ qs. counted_tells c (length qs) (Map qs)) h in
-    inr (value, p.0, shape, pairs_found c.key value d p.0 p.1, none_repeated atom_cmp atom_total atom_exact (λ (q : Pair). q.key) p.0 p.2)
+    let p = middle (read_pairs read_atom c.key value d) (distinct key_cmp) (λ qs. counted c (length qs) (Map qs)) (pairs_tell c.key value d) (λ qs. counted_tells c (length qs) (Map qs)) h in
+    inr (value, p.0, shape, pairs_found read_atom SpellsAtom plain_atoms c.key value d p.0 p.1, none_repeated atom_cmp atom_total atom_exact (λ (q : Pair). q.key) p.0 p.2)
 
 repeat_told : (c : Column) (d : Data) → HasRepeat c d → read_datum c d ≡ Err faults.Duplicate
 repeat_told c d (inl (xs, shape, elements, twice)) =
     let none : distinct atom_cmp xs ≡ None = repeated_none atom_cmp atom_total atom_exact (λ (x : Atom). x) xs (subst IsRepeated (sym (map-id xs)) twice) in
-    rw (shape, elements_only c.key d xs elements, none) refl
+    rw (shape, elements_only read_atom SpellsAtom plain_atoms c.key d xs elements, none) refl
 repeat_told c d (inr (value, ps, shape, pairs, twice)) =
     let none : distinct key_cmp ps ≡ None = repeated_none atom_cmp atom_total atom_exact (λ (q : Pair). q.key) ps twice in
-    rw (shape, pairs_only c.key value d ps pairs, none) refl
+    rw (shape, pairs_only read_atom SpellsAtom plain_atoms c.key value d ps pairs, none) refl
 
 pub duplicate_exactly : (c : Column) (d : Data) → (read_datum c d ≡ Err faults.Duplicate) ↔ HasRepeat c d
 duplicate_exactly c d = (
-  (λ h. elim c.value as (λ v. c.value ≡ v → read_shaped c v d ≡ Err faults.Duplicate → HasRepeat c d) [
+  (λ h. elim c.value as (λ v. c.value ≡ v → read_shaped read_atom c v d ≡ Err faults.Duplicate → HasRepeat c d) [
     | None ↦ λ shape f. set_tells c d shape f
     | Some value ↦ λ shape f. map_tells c value d shape f
   ] refl h),

@@ -1,9 +1,11 @@
 pub mod Ids
+pub mod Maps
 pub mod AtomOrder
 pub mod Ascends
 pub mod Exchanges
 pub mod InOrder
 pub mod Differences
+pub mod Mutations
 pub mod Spellings
 pub mod Writings
 pub mod Repeats

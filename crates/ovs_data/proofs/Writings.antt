@@ -98,7 +98,7 @@ abbrev PairKinds : AtomKind → AtomKind → Atom → Atom → Type 0
 PairKinds key value k v = (kind_of k ≡ key) × (kind_of v ≡ value)
 
 pairs_of_kinds : (key value : AtomKind) (ds : Items) (ps : List Pair) → SpellsEach SpellsBoth ds ps → IsAscending atom_cmp (λ (p : Pair). p.key) ps
-    → ((k v : Atom) → value_at k ps ≡ Some v → PairKinds key value k v) → SpellsEach (SpellsPair key value) ds ps
+    → ((k v : Atom) → value_at k ps ≡ Some v → PairKinds key value k v) → SpellsEach (SpellsPair SpellsAtom key value) ds ps
 pairs_of_kinds key value no_items [] h a kinds = tt
 pairs_of_kinds key value no_items (p ∷ ps) h a kinds = absurd h
 pairs_of_kinds key value (item d ds) [] h a kinds = absurd h

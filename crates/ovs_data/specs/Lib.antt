@@ -9,7 +9,10 @@ pub mod Equality
 pub mod Difference
 pub mod Reading
 pub mod Spelling
+pub mod Names
+pub mod NamedReading
 pub mod Writing
 pub mod RoundTrip
 pub mod Faults
 pub mod Conditions
+pub mod Mutation

@@ -31,20 +31,6 @@ SpellsBoth d p = (k : Data) × (v : Data) × (d ≡ two k v) × SpellsValue k p.
 abbrev pub SpellsAtom : AtomKind → Data → Atom → Type 0
 SpellsAtom kind d x = (kind_of x ≡ kind) × SpellsValue d x
 
--- a list of a key and its value of the kinds
-abbrev pub SpellsPair : AtomKind → AtomKind → Data → Pair → Type 0
-SpellsPair key value d p = (k : Data) × (v : Data) × (d ≡ two k v) × SpellsAtom key k p.key × SpellsAtom value v p.value
-
--- the elements in a list under "set", or one element alone
-abbrev pub SpellsElements : AtomKind → Data → List Atom → Type 0
-SpellsElements kind d xs =
-    ((ds : Items) × (d ≡ listed (codes "set") ds) × SpellsEach (SpellsAtom kind) ds xs)
-    ⊎ ((x : Atom) × (xs ≡ x ∷ []) × SpellsAtom kind d x)
-
--- the pairs in a list under "map"
-abbrev pub SpellsPairs : AtomKind → AtomKind → Data → List Pair → Type 0
-SpellsPairs key value d ps = (ds : Items) × (d ≡ listed (codes "map") ds) × SpellsEach (SpellsPair key value) ds ps
-
 -- a set of exactly the atoms of a list that has none twice
 abbrev pub IsSetOf : List Atom → List Atom → Type 0
 IsSetOf listed xs = ((x : Atom) → contains x xs ≡ contains x listed) × (length xs ≡ length listed)
@@ -53,14 +39,37 @@ IsSetOf listed xs = ((x : Atom) → contains x xs ≡ contains x listed) × (len
 abbrev pub IsMapOf : List Pair → List Pair → Type 0
 IsMapOf listed ps = ((k : Atom) → value_at k ps ≡ value_at k listed) × (length ps ≡ length listed)
 
+-- ---- sets and maps, with what spells their atoms
+
+module _ (Spelled : AtomKind → Data → Atom → Type 0) where
+  -- a list of a key and its value of the kinds
+  abbrev pub SpellsPair : AtomKind → AtomKind → Data → Pair → Type 0
+  SpellsPair key value d p = (k : Data) × (v : Data) × (d ≡ two k v) × Spelled key k p.key × Spelled value v p.value
+
+  -- the elements in a list under "set", or one element alone
+  abbrev pub SpellsElements : AtomKind → Data → List Atom → Type 0
+  SpellsElements kind d xs =
+      ((ds : Items) × (d ≡ listed (codes "set") ds) × SpellsEach (Spelled kind) ds xs)
+      ⊎ ((x : Atom) × (xs ≡ x ∷ []) × Spelled kind d x)
+
+  -- the pairs in a list under "map"
+  abbrev pub SpellsPairs : AtomKind → AtomKind → Data → List Pair → Type 0
+  SpellsPairs key value d ps = (ds : Items) × (d ≡ listed (codes "map") ds) × SpellsEach (SpellsPair key value) ds ps
+
+  -- the JSON value stands for the datum of a column
+  abbrev pub SpellsDatum : Column → Data → Datum → Type 0
+  SpellsDatum c d (Set xs) =
+      (listed : List Atom) × (c.value ≡ None) × SpellsElements c.key d listed × IsSetOf listed xs × IsOrdered (Set xs)
+      × (may_count c (length xs) ≡ true)
+  SpellsDatum c d (Map ps) =
+      (value : AtomKind) × (listed : List Pair) × (c.value ≡ Some value) × SpellsPairs c.key value d listed × IsMapOf listed ps
+      × IsOrdered (Map ps) × (may_count c (length ps) ≡ true)
+
+-- ---- data as they are written
+
 -- the JSON value stands for the datum
 abbrev pub Spells : Column → Data → Datum → Type 0
-Spells c d (Set xs) =
-    (listed : List Atom) × (c.value ≡ None) × SpellsElements c.key d listed × IsSetOf listed xs × IsOrdered (Set xs)
-    × (may_count c (length xs) ≡ true)
-Spells c d (Map ps) =
-    (value : AtomKind) × (listed : List Pair) × (c.value ≡ Some value) × SpellsPairs c.key value d listed × IsMapOf listed ps
-    × IsOrdered (Map ps) × (may_count c (length ps) ≡ true)
+Spells = SpellsDatum SpellsAtom
 
 -- two places of a list have the same atom
 abbrev pub IsRepeated : List Atom → Type 0
@@ -69,8 +78,8 @@ IsRepeated xs = (i : ℕ) × (j : ℕ) × (x : Atom) × (i < j) × (slice_get xs
 -- the JSON value is of the column's shape and kinds, and two of the elements or keys that it lists are equal
 abbrev pub HasRepeat : Column → Data → Type 0
 HasRepeat c d =
-    ((listed : List Atom) × (c.value ≡ None) × SpellsElements c.key d listed × IsRepeated listed)
-    ⊎ ((value : AtomKind) × (listed : List Pair) × (c.value ≡ Some value) × SpellsPairs c.key value d listed × IsRepeated (map (λ p. p.key) listed))
+    ((listed : List Atom) × (c.value ≡ None) × SpellsElements SpellsAtom c.key d listed × IsRepeated listed)
+    ⊎ ((value : AtomKind) × (listed : List Pair) × (c.value ≡ Some value) × SpellsPairs SpellsAtom c.key value d listed × IsRepeated (map (λ p. p.key) listed))
 
 -- one element as itself, every other set under "set", a map under "map"
 abbrev pub IsWritten : Data → Datum → Type 0

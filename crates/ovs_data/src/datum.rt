@@ -12,8 +12,9 @@ mod conditions;
 pub(crate) mod delta;
 mod exchange;
 mod map_items;
+mod mutation;
 pub(crate) mod pairs;
-mod reading;
+pub(crate) mod reading;
 mod sorting;
 pub(crate) mod writing;
 

@@ -33,6 +33,9 @@ pub enum DatumError {
     /// More or fewer elements than a column of one element admits.
     #[error("too few or too many elements")]
     WrongCount,
+    /// A name that stands for no id, told where names are read alone; found together with `WrongKind`.
+    #[error("no such name")]
+    UnknownName,
     /// Memory ran out, at any time: whether the value has a fault is not said.
     #[error("out of memory")]
     NoMemory,
@@ -49,6 +52,7 @@ impl DatumError {
             DatumError::NotInteger => "not-integer",
             DatumError::Duplicate => "duplicate",
             DatumError::WrongCount => "wrong-count",
+            DatumError::UnknownName => "unknown-name",
             DatumError::NoMemory => "no-memory",
         }
     }

@@ -6,6 +6,8 @@ mod column;
 mod datum;
 mod error;
 mod hyphenated;
+mod named_ids;
+mod names;
 mod row_id;
 mod txn_id;
 
@@ -20,5 +22,7 @@ pub use datum::delta::{
 pub use datum::pairs::{Pair, Pairs};
 pub use datum::writing::what_is_written_reads_back;
 pub use error::{BadId, DatumError};
+pub use named_ids::NamedIds;
+pub use names::{is_id, is_name};
 pub use row_id::RowId;
 pub use txn_id::TxnId;

@@ -16,7 +16,8 @@ use Rattle.ovs_rows.specs.Row.{Rows, columns_at, AreRowsOf}
 use Rattle.ovs_rows.specs.Change.{Actions, IsChangeOf}
 use Rattle.ovs_rows.specs.After.{row_after, after_action, after, touched_row, applied_of}
 use Rattle.ovs_rows.proofs.Laws.{get-after}
-use Rattle.ovs_rows.proofs.Maps.{get-combined, All-entries}
+use Rattle.ovs_data.proofs.Maps.{All-entries}
+use Rattle.ovs_rows.proofs.Combining.{get-combined}
 use Rattle.ovs_rows.proofs.RowSteps.{row_after_kept}
 use Rattle.ovs_query.specs.declared.monitor.Watched.{Watched}
 use Rattle.ovs_query.specs.RowUpdates.{New}

@@ -19,7 +19,7 @@ use Rattle.ovs_rows.specs.Applied.{AscendByPlace}
 use Rattle.ovs_rows.specs.Place.{place_cmp, place_total, place_exact}
 use Rattle.ovs_rows.specs.Row.{Rows}
 use Rattle.ovs_rows.specs.Writing.{rows_in}
-use Rattle.ovs_rows.proofs.Maps.{entries_ascend}
+use Rattle.ovs_data.proofs.Maps.{entries_ascend}
 use Rattle.ovs_query.specs.declared.monitor.Notation.{Notation}
 use Rattle.ovs_query.specs.declared.monitor.Notation.TheVariants.{Update, Update2, Update3}
 use Rattle.ovs_query.specs.declared.monitor.Watched.{Watched}

@@ -18,7 +18,7 @@ use Rattle.ovs_rows.specs.After.{TouchedRow, row_after}
 use Rattle.ovs_rows.specs.Applied.{AscendByPlace}
 use Rattle.ovs_rows.specs.DatabaseDifference.{edits_between}
 use Rattle.ovs_rows.proofs.Data.{same_datum}
-use Rattle.ovs_rows.proofs.Maps.{get-combined}
+use Rattle.ovs_rows.proofs.Combining.{get-combined}
 use Rattle.ovs_rows.proofs.RowSteps.{row_after_between}
 use Rattle.ovs_query.specs.declared.monitor.Kinds.{Kinds}
 use Rattle.ovs_query.specs.declared.monitor.Watched.{Watched}

@@ -24,7 +24,7 @@ use Rattle.ovs_rows.specs.Place.{place_cmp, place_total, place_exact}
 use Rattle.ovs_rows.specs.Row.{Rows}
 use Rattle.ovs_rows.specs.Writing.{rows_in}
 use Rattle.ovs_rows.proofs.Data.{same_datum}
-use Rattle.ovs_rows.proofs.Maps.{entries_ascend}
+use Rattle.ovs_data.proofs.Maps.{entries_ascend}
 use Rattle.ovs_query.specs.declared.conditions.Condition.{Condition}
 use Rattle.ovs_query.specs.declared.select.Select.{Select}
 use Rattle.ovs_query.specs.Shown.{id_datum}

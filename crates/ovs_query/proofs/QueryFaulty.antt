@@ -13,15 +13,16 @@ use Rattle.ovs_data.specs.declared.datum.Datum.{Datum}
 use Rattle.ovs_types.specs.declared.schema.NamedColumn.{NamedColumn}
 use Rattle.ovs_types.specs.declared.schema.Table.{Table}
 use Rattle.ovs_types.specs.Finding.{table_named}
+use Rattle.ovs_types.specs.NamedReading.{NamedIds}
 use Rattle.ovs_types.specs.Reading.{read_datum}
 use Rattle.ovs_types.specs.Spelling.{Spells}
 use Rattle.ovs_query.specs.declared.error.QueryError.{QueryError}
 use Rattle.ovs_query.specs.declared.error.QueryError.TheVariants.{UnknownTable, UnknownColumn, BadCondition, BadOperation}
 use Rattle.ovs_query.specs.declared.shown.Shown.{Shown}
 use Rattle.ovs_query.specs.Faults.{Read, rank}
-use Rattle.ovs_query.specs.ConditionReading.{field_named, test_named, column_for, in_condition, plain, read_condition, read_conditions, shown_field, read_shown, read_each_shown, read_listed, all_shown, read_columns}
+use Rattle.ovs_query.specs.ConditionReading.{field_named, test_named, column_for, in_condition, plain, named, read_condition, read_conditions, shown_field, read_shown, read_each_shown, read_listed, all_shown, read_columns}
 use Rattle.ovs_query.specs.SelectReading.{read_where, read_parts, read_select}
-use Rattle.ovs_query.specs.QueryFaults.{InNeeded, InOptional, SomeItem, InShown, InColumns, InPlain, InCondition, InConditions, InParts, InSelect}
+use Rattle.ovs_query.specs.QueryFaults.{InNeeded, InOptional, SomeItem, InShown, InColumns, InPlain, InNamed, InCondition, InConditions, InParts, InSelect}
 use Rattle.ovs_query.proofs.Items.{items_worst}
 use Rattle.ovs_query.proofs.SelectLaws.{plain_found, plain_only}
 
@@ -74,7 +75,7 @@ module _ (value : Column → Data → Read Datum) (InValue : Column → Data →
       (as_str parts.0))
       (three_items d)
 
-  conditions_worst : (columns : List NamedColumn) (d : Data) → Worst (InConditions InValue columns d) (ok_or (as_array d) BadCondition >>= read_conditions value columns)
+  pub conditions_worst : (columns : List NamedColumn) (d : Data) → Worst (InConditions InValue columns d) (ok_or (as_array d) BadCondition >>= read_conditions value columns)
   conditions_worst columns d =
       needed_worst BadCondition (read_conditions value columns) (SomeItem (InCondition InValue columns)) (items_worst (read_condition value columns) (InCondition InValue columns) (condition_worst columns)) (as_array d)
 
@@ -104,3 +105,12 @@ plain_worst c d = spelled_worst rank BadCondition (Spells c d) (plain c d) (by (
     by : (r : _) → (e : QueryError) → in_condition {X = Datum} r ≡ Err e → e ≡ BadCondition
     by (Ok x) e h = absurd cc
     by (Err f) e h = cc
+
+-- ---- data in which names may stand for ids
+
+pub named_worst : (names : NamedIds) (c : Column) (d : Data) → Worst (InNamed names c d) (named names c d)
+named_worst names c d = by (named names c d)
+  where
+    by : (r : Read Datum) → Worst (λ e. r ≡ Err e) r
+    by (Ok x) = λ e h. absurd cc
+    by (Err f) = (refl, λ e h. (let same : rank f ≡ rank e = ap rank (let is : f ≡ e = cc in is) in omega arith))

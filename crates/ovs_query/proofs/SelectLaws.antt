@@ -12,10 +12,11 @@ use Rattle.ovs_json.proofs.Found.{then_found, some_is}
 use Rattle.ovs_json.proofs.FaultOrder.{both_found}
 use Rattle.ovs_data.specs.declared.column.Column.{Column}
 use Rattle.ovs_data.specs.declared.datum.Datum.{Datum}
-use Rattle.ovs_data.proofs.Spellings.{datum_found, datum_only}
+use Rattle.ovs_data.proofs.Spellings.{datum_found, datum_only, column_found, column_only, named_atoms}
 use Rattle.ovs_types.specs.declared.schema.NamedColumn.{NamedColumn}
 use Rattle.ovs_types.specs.declared.schema.Table.{Table}
 use Rattle.ovs_types.specs.Finding.{table_named}
+use Rattle.ovs_types.specs.NamedReading.{NamedIds, read_named, read_named_atom, SpellsNamed, SpellsNamedAtom}
 use Rattle.ovs_types.specs.Reading.{read_datum}
 use Rattle.ovs_types.specs.Spelling.{Spells}
 use Rattle.ovs_query.specs.declared.conditions.Test.{Test}
@@ -26,9 +27,9 @@ use Rattle.ovs_query.specs.declared.error.QueryError.TheVariants.{UnknownTable, 
 use Rattle.ovs_query.specs.declared.select.Select.{Select}
 use Rattle.ovs_query.specs.declared.shown.Shown.{Shown}
 use Rattle.ovs_query.specs.Faults.{Read, rank}
-use Rattle.ovs_query.specs.ConditionReading.{is, field_named, test_named, column_for, in_condition, plain, read_condition, read_conditions, shown_field, read_shown, read_each_shown, all_shown, read_columns}
+use Rattle.ovs_query.specs.ConditionReading.{is, field_named, test_named, column_for, in_condition, plain, in_named_condition, named, read_condition, read_conditions, shown_field, read_shown, read_each_shown, all_shown, read_columns}
 use Rattle.ovs_query.specs.SelectReading.{read_where, read_parts, read_select}
-use Rattle.ovs_query.specs.SelectSpelling.{three, name_of, SpellsShown, SpellsColumns, SpellsCondition, SpellsSelect}
+use Rattle.ovs_query.specs.SelectSpelling.{three, name_of, SpellsShown, SpellsColumns, SpellsCondition, SpellsConditions, SpellsSelect}
 use Rattle.ovs_query.proofs.Items.{items_found, items_only}
 
 -- ---- parts
@@ -141,6 +142,11 @@ module _ (value : Column → Data → Read Datum) (Spelled : Column → Data →
           items_found (read_condition value columns) (SpellsCondition Spelled columns) (condition_found columns) items.0 cs items.2,
         )
 
+    pub conditions_found : (columns : List NamedColumn) (d : Data) (cs : List Condition) → read_where value columns (Some d) ≡ Ok cs → SpellsConditions Spelled columns d cs
+    conditions_found columns d cs e =
+        let h = where_found columns (Some d) cs e in
+        (h.0, (let is : d ≡ array h.0 = cc in is), h.2)
+
     pub select_found : (tables : List Table) (d : Data) (s : Select) → read_select value tables d ≡ Ok s → SpellsSelect Spelled tables d s
     select_found tables d s e =
         let name = bind_found (ok_or (option_and_then as_str (get (codes "table") d)) BadOperation) _ s e in
@@ -164,6 +170,9 @@ module _ (value : Column → Data → Read Datum) (Spelled : Column → Data →
     pub condition_only : (columns : List NamedColumn) (d : Data) (c : Condition) → SpellsCondition Spelled columns d c → read_condition value columns d ≡ Ok c
     condition_only columns d c (name, column, wanted, v, is, named, for, spelled) = rw (is, test_only c.test, named, for, only wanted v c.value spelled) refl
 
+    pub conditions_only : (columns : List NamedColumn) (d : Data) (cs : List Condition) → SpellsConditions Spelled columns d cs → read_where value columns (Some d) ≡ Ok cs
+    conditions_only columns d cs (items, is, each) = rw (is, items_only (read_condition value columns) (SpellsCondition Spelled columns) (condition_only columns) items cs each) refl
+
     pub select_only : (tables : List Table) (d : Data) (s : Select) → SpellsSelect Spelled tables d s → read_select value tables d ≡ Ok s
     select_only tables d s (name, table, conditions, at, named, where', each, shown) =
         rw (
@@ -185,3 +194,15 @@ plain_found c d x e = datum_found c d x (by (read_datum c d) e)
 
 pub plain_only : (c : Column) (d : Data) (x : Datum) → Spells c d x → plain c d ≡ Ok x
 plain_only c d x spelled = ap in_condition (datum_only c d x spelled)
+
+-- ---- data in which names may stand for ids
+
+pub named_found : (names : NamedIds) (c : Column) (d : Data) (x : Datum) → named names c d ≡ Ok x → SpellsNamed names c d x
+named_found names c d x e = column_found (read_named_atom names) (SpellsNamedAtom names) (named_atoms names) c d x (by (read_named names c d) e)
+  where
+    by : (r : _) → in_named_condition r ≡ Ok x → r ≡ Ok x
+    by (Ok y) e = cc
+    by (Err f) e = absurd cc
+
+pub named_only : (names : NamedIds) (c : Column) (d : Data) (x : Datum) → SpellsNamed names c d x → named names c d ≡ Ok x
+named_only names c d x spelled = ap in_named_condition (column_only (read_named_atom names) (SpellsNamedAtom names) (named_atoms names) c d x spelled)

@@ -17,7 +17,7 @@ use Rattle.ovs_rows.specs.Applied.{AscendByPlace}
 use Rattle.ovs_rows.specs.ChangeWriting.{action_json}
 use Rattle.ovs_rows.specs.Place.{place_cmp, place_total, place_exact}
 use Rattle.ovs_rows.specs.Writing.{object_of}
-use Rattle.ovs_rows.proofs.Maps.{entries-from_ordered}
+use Rattle.ovs_data.proofs.Maps.{entries-from_ordered}
 use Rattle.ovs_query.specs.declared.monitor.Notation.{Notation}
 use Rattle.ovs_query.specs.declared.monitor.Notation.TheVariants.{Update, Update2}
 use Rattle.ovs_query.specs.declared.monitor.Watched.{Watched}

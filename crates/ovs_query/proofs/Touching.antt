@@ -14,7 +14,7 @@ use Rattle.ovs_rows.specs.Place.{place_cmp, place_total, place_exact}
 use Rattle.ovs_rows.specs.Row.{Rows}
 use Rattle.ovs_rows.specs.After.{TouchedRow}
 use Rattle.ovs_rows.specs.Applied.{AscendByPlace}
-use Rattle.ovs_rows.proofs.Maps.{get-combined}
+use Rattle.ovs_rows.proofs.Combining.{get-combined}
 use Rattle.ovs_query.specs.declared.monitor.Watched.{Watched}
 use Rattle.ovs_query.specs.View.{view, shown_at}
 use Rattle.ovs_query.specs.Updates.{touched_at, listed, by_place}

@@ -12,15 +12,17 @@ use Rattle.ovs_data.specs.declared.atom.AtomKind.TheVariants as kinds
 use Rattle.ovs_data.specs.declared.column.Column.{Column}
 use Rattle.ovs_data.specs.declared.datum.Datum.{Datum}
 use Rattle.ovs_data.specs.declared.error.DatumError.{DatumError}
+use Rattle.ovs_data.specs.declared.error.DatumError.TheVariants as wrong
 use Rattle.ovs_types.specs.declared.schema.NamedColumn.{NamedColumn}
 use Rattle.ovs_types.specs.Column.{is_single, loose}
 use Rattle.ovs_types.specs.Finding.{column_named}
+use Rattle.ovs_types.specs.NamedReading.{NamedIds, read_named}
 use Rattle.ovs_types.specs.Reading.{read_datum}
 use Rattle.ovs_query.specs.declared.conditions.Test.{Test}
 use Rattle.ovs_query.specs.declared.conditions.Test.TheVariants.{Less, AtMost, AtLeast, More, Equal, Unequal, Includes, Excludes}
 use Rattle.ovs_query.specs.declared.conditions.Condition.{Condition}
 use Rattle.ovs_query.specs.declared.error.QueryError.{QueryError}
-use Rattle.ovs_query.specs.declared.error.QueryError.TheVariants.{UnknownColumn, BadCondition}
+use Rattle.ovs_query.specs.declared.error.QueryError.TheVariants.{UnknownColumn, BadCondition, UnknownName}
 use Rattle.ovs_query.specs.declared.shown.Field.{Field}
 use Rattle.ovs_query.specs.declared.shown.Field.TheVariants.{Id, Version, Column as Numbered}
 use Rattle.ovs_query.specs.declared.shown.Shown.{Shown}
@@ -95,6 +97,23 @@ in_condition (Err e) = Err BadCondition
 -- a datum as it is written, with no names for ids
 abbrev pub plain : Column → Data → Read Datum
 plain c d = in_condition (read_datum c d)
+
+-- the same where names may stand for ids, of which a name that stands for none is told
+abbrev pub named_fault : DatumError → QueryError
+named_fault wrong.WrongShape = BadCondition
+named_fault wrong.WrongKind = BadCondition
+named_fault wrong.NotInteger = BadCondition
+named_fault wrong.Duplicate = BadCondition
+named_fault wrong.WrongCount = BadCondition
+named_fault wrong.UnknownName = UnknownName
+named_fault wrong.NoMemory = BadCondition
+
+abbrev pub in_named_condition : {X : Type 0} → Result X DatumError → Read X
+in_named_condition (Ok x) = Ok x
+in_named_condition (Err e) = Err (named_fault e)
+
+abbrev pub named : NamedIds → Column → Data → Read Datum
+named names c d = in_named_condition (read_named names c d)
 
 -- [column, function, value], where values are read so
 abbrev pub read_condition : (Column → Data → Read Datum) → List NamedColumn → Data → Read Condition

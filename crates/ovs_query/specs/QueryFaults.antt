@@ -1,5 +1,5 @@
 -- Why a JSON value is no select: which faults it has, wherever they stand in it. Those of conditions and columns are a monitor's too.
-use Rattle.std.specs.Prelude.{◌≡◌, ◌⊎◌, List, Option, Some, None, codes, option_and_then}
+use Rattle.std.specs.Prelude.{◌≡◌, ◌⊎◌, List, Option, Some, None, Err, codes, option_and_then}
 use Rattle.serde_json.specs.Data.{Data, Items, no_items, item}
 use Rattle.serde_json.specs.Find.{get, as_str, as_array}
 use Rattle.ovs_json.specs.Parts.{three_items}
@@ -8,11 +8,12 @@ use Rattle.ovs_data.specs.declared.datum.Datum.{Datum}
 use Rattle.ovs_types.specs.declared.schema.NamedColumn.{NamedColumn}
 use Rattle.ovs_types.specs.declared.schema.Table.{Table}
 use Rattle.ovs_types.specs.Finding.{table_named}
+use Rattle.ovs_types.specs.NamedReading.{NamedIds}
 use Rattle.ovs_types.specs.Spelling.{Spells}
 use Rattle.ovs_query.specs.declared.conditions.Test.{Test}
 use Rattle.ovs_query.specs.declared.error.QueryError.{QueryError}
 use Rattle.ovs_query.specs.declared.error.QueryError.TheVariants.{UnknownTable, UnknownColumn, BadCondition, BadOperation}
-use Rattle.ovs_query.specs.ConditionReading.{field_named, test_named, column_for}
+use Rattle.ovs_query.specs.ConditionReading.{field_named, test_named, column_for, named}
 
 -- a part that has to be there: its absence is this fault
 abbrev pub InNeeded : {X : Type 0} → QueryError → (X → QueryError → Type 0) → Option X → QueryError → Type 0
@@ -44,6 +45,10 @@ InColumns fault columns d = InNeeded fault (SomeItem (InShown fault columns)) (a
 -- a value that is no datum of the column
 abbrev pub InPlain : Column → Data → QueryError → Type 0
 InPlain c d e = (e ≡ BadCondition) × ((x : Datum) → Spells c d x → ⊥)
+
+-- a value's first fault, where names may stand for ids
+abbrev pub InNamed : NamedIds → Column → Data → QueryError → Type 0
+InNamed names c d e = named names c d ≡ Err e
 
 -- which faults a value has
 module _ (InValue : Column → Data → QueryError → Type 0) where

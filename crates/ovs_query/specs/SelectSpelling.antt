@@ -53,6 +53,10 @@ module _ (Spelled : Column → Data → Datum → Type 0) where
       (name : List ℕ) × (column : Column) × (wanted : Column) × (value : Data) × (d ≡ three (string name) (string (name_of c.test)) value)
       × (field_named columns name ≡ Some (c.field, column)) × (column_for c.test column ≡ Some wanted) × Spelled wanted value c.value
 
+  -- a list of conditions
+  abbrev pub SpellsConditions : List NamedColumn → Data → List Condition → Type 0
+  SpellsConditions columns d cs = (items : Items) × (d ≡ array items) × SpellsEach (SpellsCondition columns) items cs
+
   -- a table's name, conditions in "where", and "columns" if not all are meant
   abbrev pub SpellsSelect : List Table → Data → Select → Type 0
   SpellsSelect tables d s =

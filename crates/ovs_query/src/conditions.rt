@@ -181,7 +181,7 @@ impl Conditions {
     }
 
     /// The id that a row has to have, where one of the conditions is that `_uuid` is equal to it: no other row matches.
-    pub(crate) fn row_id(&self) -> Option<RowId>
+    pub fn row_id(&self) -> Option<RowId>
         ensures alone { IfSome result (λ id. AdmitOnly id self.now) }
     {
         for condition in &self.items {

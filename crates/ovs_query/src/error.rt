@@ -21,6 +21,9 @@ pub enum QueryError {
     /// isn't for the column; a value that is none of the column.
     #[error("not a condition of its column")]
     BadCondition,
+    /// A name that stands for no id, told where names are read alone.
+    #[error("no such name")]
+    UnknownName,
     /// More than one request for a table.
     #[error("more than one request for a table")]
     ManyRequests,
@@ -44,6 +47,7 @@ impl QueryError {
             QueryError::UnknownTable => "unknown table",
             QueryError::UnknownColumn => "unknown column",
             QueryError::BadCondition => "bad condition",
+            QueryError::UnknownName => "unknown name",
             QueryError::ManyRequests => "many requests",
             QueryError::BadSelect => "bad select",
             QueryError::BadOperation => "bad operation",
@@ -60,10 +64,11 @@ impl Fault for QueryError {
             QueryError::UnknownTable => 0,
             QueryError::UnknownColumn => 1,
             QueryError::BadCondition => 2,
-            QueryError::ManyRequests => 3,
-            QueryError::BadSelect => 4,
-            QueryError::BadOperation => 5,
-            QueryError::NoMemory => 6,
+            QueryError::UnknownName => 3,
+            QueryError::ManyRequests => 4,
+            QueryError::BadSelect => 5,
+            QueryError::BadOperation => 6,
+            QueryError::NoMemory => 7,
         }
     }
 }

@@ -199,6 +199,13 @@ impl Change {
         self.actions.as_map()
     }
 
+    /// Whether nothing becomes of any row.
+    pub fn is_empty(&self) -> bool
+        ensures empty { IsTrue result ↔ (self.now ≡ empty) }
+    {
+        self.as_map().is_empty()
+    }
+
     /// Whether the two changes are equal: the same actions at the same places.
     pub fn same(&self, other: &Change) -> bool
         ensures value { IsTrue result ↔ (self.now ≡ other.now) }

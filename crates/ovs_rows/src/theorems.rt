@@ -1,11 +1,12 @@
 //! Laws of changes and databases.
 
-ghost use Rattle.std.specs.Prelude.{◌≡◌, ℕ, List};
+ghost use Rattle.std.specs.Prelude.{◌≡◌, ◌↔◌, ℕ, List};
+ghost use Rattle.std.specs.FinMap.{empty};
 ghost use Rattle.ovs_types.specs.declared.schema.Table.{Table};
 ghost use Rattle.ovs_rows.specs.Row.{Rows, AreRowsOf};
 ghost use Rattle.ovs_rows.specs.Change.{Actions, IsChangeOf};
 ghost use Rattle.ovs_rows.specs.After.{Fits, after, IsAfter};
-ghost use Rattle.ovs_rows.specs.DatabaseDifference.{database_difference, IsDatabaseDifference, Leads};
+ghost use Rattle.ovs_rows.specs.DatabaseDifference.{database_difference, IsDatabaseDifference, HaveSameData, IsCommit, Leads};
 
 /// There is exactly one database after a change that fits, and it has rows of the same tables.
 pub fn change_has_one_outcome()
@@ -19,4 +20,7 @@ pub fn change_has_one_outcome()
 pub fn database_difference_laws()
     ensures leads { (ts : List Table) (a b : Rows) → AreRowsOf ts a → AreRowsOf ts b → Leads ts a b (database_difference ts a b) }
     ensures only { (ts : List Table) (a b : Rows) (c : Actions) → AreRowsOf ts a → AreRowsOf ts b → IsChangeOf ts c → IsDatabaseDifference ts a b c → c ≡ database_difference ts a b }
+    // It is empty exactly where no row comes, goes or changes its columns.
+    ensures none { (ts : List Table) (a b : Rows) → AreRowsOf ts a → AreRowsOf ts b → (database_difference ts a b ≡ empty) ↔ HaveSameData a b }
+    ensures nothing { (ts : List Table) (a b : Rows) (id : ℕ) → IsCommit ts a b id → (database_difference ts a b ≡ empty) ↔ (b ≡ a) }
 {}

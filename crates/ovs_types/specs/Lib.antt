@@ -10,11 +10,12 @@ pub use Rattle.ovs_data.specs.Difference
 pub use Rattle.ovs_data.specs.Equality
 pub use Rattle.ovs_data.specs.Faults
 pub use Rattle.ovs_data.specs.Id
+pub use Rattle.ovs_data.specs.NamedReading
+pub use Rattle.ovs_data.specs.Names
 pub use Rattle.ovs_data.specs.Reading
 pub use Rattle.ovs_data.specs.RoundTrip
 pub use Rattle.ovs_data.specs.Spelling
 pub use Rattle.ovs_data.specs.Writing
-pub mod Names
 pub mod SchemaFaults
 pub mod SchemaReading
 pub mod SchemaSpelling

@@ -1,14 +1,12 @@
 //! The types of OVSDB (RFC 7047 sections 3 and 5.1): schemas, with the ids, data and differences of `ovs_data`.
 #![tactic(auto)]
 
-mod names;
 mod schema;
 
-pub use names::{is_id, is_name};
 pub use ovs_data::{
-    Atom, AtomKind, Atoms, BadId, Column, Datum, DatumError, Pair, Pairs, RowId, TxnId,
+    Atom, AtomKind, Atoms, BadId, Column, Datum, DatumError, NamedIds, Pair, Pairs, RowId, TxnId,
     applied_difference_gives_the_other, apply_difference, difference,
-    empty_exactly_where_nothing_changed, what_is_written_reads_back,
+    empty_exactly_where_nothing_changed, is_id, is_name, what_is_written_reads_back,
 };
 pub use ovs_json::{NoMemory, Text};
 pub use schema::error::SchemaError;

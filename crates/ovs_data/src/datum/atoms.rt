@@ -1,14 +1,14 @@
 //! Sets of atoms.
 
-ghost use Rattle.std.specs.Prelude.{◌≡◌, ◌∷◌, [], List, IfOk, true};
+ghost use Rattle.std.specs.Prelude.{◌≡◌, ◌∷◌, ◌++◌, [], List, IfOk, true};
 ghost use Rattle.ovs_data.specs.Atom.{atom_cmp, atom_total};
-ghost use Rattle.ovs_data.specs.Ascending.{IsAscending};
+ghost use Rattle.ovs_data.specs.Ascending.{IsAscending, in_order};
 ghost use Rattle.ovs_data.specs.Datum.{IsOrdered, contains};
 ghost use Rattle.ovs_data.specs.Difference.{IsExchange, exchange_of};
 ghost use Rattle.ovs_data.specs.declared.datum.Datum.TheVariants.{Set};
 
 use crate::atom::Atom;
-use crate::datum::exchange::{Entry, copies, exchanged};
+use crate::datum::exchange::{Entry, copies, exchanged, joined};
 use ovs_json::NoMemory;
 use std::alloc::Global;
 use std::cmp::Ordering;
@@ -109,6 +109,19 @@ impl Atoms {
         Ok(Atoms {
             items: copies(*self.items.allocator(), &self.items)?,
         })
+    }
+
+    /// The allocator.
+    pub(crate) fn allocator(&self) -> Global {
+        *self.items.allocator()
+    }
+
+    /// The atoms of both.
+    pub(crate) fn joined(&self, other: &Atoms) -> Result<Atoms, NoMemory>
+        ensures value { IfOk result (λ a. a ≡ in_order atom_cmp (self.now ++ other.now)) }
+    {
+        let items = joined(*self.items.allocator(), &self.items, &other.items)?;
+        Ok(Atoms { items })
     }
 
     /// The atoms of exactly one of the two.

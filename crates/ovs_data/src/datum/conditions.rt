@@ -32,7 +32,7 @@ impl Datum {
         }
     }
 
-    fn has_pair(&self, pair: &Pair) -> bool
+    pub(crate) fn has_pair(&self, pair: &Pair) -> bool
         ensures value { result ≡ has_pair self.now pair.now }
     {
         match self.get(&pair.key) {

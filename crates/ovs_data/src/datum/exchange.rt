@@ -1,9 +1,9 @@
 //! One list of entries in ascending order, out of two.
 
-ghost use Rattle.std.specs.Prelude.{◌≡◌, IfOk, Bool};
+ghost use Rattle.std.specs.Prelude.{◌≡◌, ◌++◌, ◌&&◌, IfOk, Bool, not};
 ghost use Rattle.std.specs.declared.cmp.Ordering.{Ordering};
 ghost use Rattle.std.specs.Cmp.{IsTotalOrder};
-ghost use Rattle.ovs_data.specs.Ascending.{IsAscending};
+ghost use Rattle.ovs_data.specs.Ascending.{IsAscending, in_order};
 ghost use Rattle.ovs_data.specs.Exchange.{AreExchanged};
 
 use ovs_json::NoMemory;
@@ -31,12 +31,18 @@ pub(crate) trait Entry: Drop {
     ghost total: { IsTotalOrder order };
 }
 
-/// The entries of one list alone, and of the keys in both the second list's entry where the two differ, ascending.
-pub(crate) fn exchanged<E: Entry>(alloc: Global, old: &[E], other: &[E]) -> Result<Vec<E>, NoMemory>
+// The entries of one list alone, and of the keys in both the second list's entry, ascending; where two that are the same are
+// wanted too, or else differ.
+fn merged<E: Entry>(
+    alloc: Global,
+    old: &[E],
+    other: &[E],
+    same_too: bool,
+) -> Result<Vec<E>, NoMemory>
     requires old { IsAscending E.order (λ x. x) old.now }
     requires other { IsAscending E.order (λ x. x) other.now }
     ensures ascending { IfOk result (λ v. IsAscending E.order (λ x. x) v.items) }
-    ensures exchange { IfOk result (λ v. AreExchanged E.order E.is_same old.now other.now v.items) }
+    ensures exchange { IfOk result (λ v. AreExchanged E.order (λ x y. not same_too && E.is_same x y) old.now other.now v.items) }
 {
     let mut out = Vec::new(alloc);
     let mut left = old;
@@ -55,7 +61,7 @@ pub(crate) fn exchanged<E: Entry>(alloc: Global, old: &[E], other: &[E]) -> Resu
                 right = after_y;
             }
             Ordering::Equal => {
-                if !x.has_same(y) {
+                if same_too || !x.has_same(y) {
                     out.push(y.entry_copy()?)?;
                 }
                 left = after_x;
@@ -70,6 +76,26 @@ pub(crate) fn exchanged<E: Entry>(alloc: Global, old: &[E], other: &[E]) -> Resu
         out.push(y.entry_copy()?)?;
     }
     Ok(out)
+}
+
+/// The entries of one list alone, and of the keys in both the second list's entry where the two differ, ascending.
+pub(crate) fn exchanged<E: Entry>(alloc: Global, old: &[E], other: &[E]) -> Result<Vec<E>, NoMemory>
+    requires old { IsAscending E.order (λ x. x) old.now }
+    requires other { IsAscending E.order (λ x. x) other.now }
+    ensures ascending { IfOk result (λ v. IsAscending E.order (λ x. x) v.items) }
+    ensures exchange { IfOk result (λ v. AreExchanged E.order E.is_same old.now other.now v.items) }
+{
+    merged(alloc, old, other, false)
+}
+
+/// The entries of both lists, ascending; of a key in both the first list's.
+pub(crate) fn joined<E: Entry>(alloc: Global, old: &[E], other: &[E]) -> Result<Vec<E>, NoMemory>
+    requires old { IsAscending E.order (λ x. x) old.now }
+    requires other { IsAscending E.order (λ x. x) other.now }
+    ensures ascending { IfOk result (λ v. IsAscending E.order (λ x. x) v.items) }
+    ensures value { IfOk result (λ v. v.items ≡ in_order E.order (old.now ++ other.now)) }
+{
+    merged(alloc, other, old, true)
 }
 
 /// Equal entries.

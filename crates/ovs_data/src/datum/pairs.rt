@@ -1,16 +1,16 @@
 //! Maps from atoms to atoms.
 
-ghost use Rattle.std.specs.Prelude.{◌≡◌, ◌∷◌, [], List, IfOk, true};
+ghost use Rattle.std.specs.Prelude.{◌≡◌, ◌∷◌, ◌++◌, [], List, IfOk, true};
 ghost use Rattle.std.specs.Option.{option_copied};
 ghost use Rattle.ovs_data.specs.Atom.{atom_cmp};
 ghost use Rattle.ovs_data.specs.Pairs.{key_cmp, key_total, same_value};
-ghost use Rattle.ovs_data.specs.Ascending.{IsAscending};
+ghost use Rattle.ovs_data.specs.Ascending.{IsAscending, in_order};
 ghost use Rattle.ovs_data.specs.Datum.{IsOrdered, value_at};
 ghost use Rattle.ovs_data.specs.Difference.{IsExchange, exchange_of};
 ghost use Rattle.ovs_data.specs.declared.datum.Datum.TheVariants.{Map};
 
 use crate::atom::Atom;
-use crate::datum::exchange::{Entry, copies, exchanged};
+use crate::datum::exchange::{Entry, copies, exchanged, joined};
 use ovs_json::NoMemory;
 use std::alloc::Global;
 use std::cmp::Ordering;
@@ -147,6 +147,19 @@ impl Pairs {
         Ok(Pairs {
             items: copies(*self.items.allocator(), &self.items)?,
         })
+    }
+
+    /// The allocator.
+    pub(crate) fn allocator(&self) -> Global {
+        *self.items.allocator()
+    }
+
+    /// The pairs of both; of a key in both this map's.
+    pub(crate) fn joined(&self, other: &Pairs) -> Result<Pairs, NoMemory>
+        ensures value { IfOk result (λ a. a ≡ in_order key_cmp (self.now ++ other.now)) }
+    {
+        let items = joined(*self.items.allocator(), &self.items, &other.items)?;
+        Ok(Pairs { items })
     }
 
     /// The pairs of a key of only one of the two, and of keys in both the second's where the values differ.

@@ -6,13 +6,13 @@ ghost use Rattle.serde_json.specs.View.{view, items_view};
 ghost use Rattle.ovs_data.specs.declared.column.Column as declared_column;
 ghost use Rattle.ovs_data.specs.declared.datum.Datum as declared_datum;
 ghost use Rattle.ovs_query.specs.Faults.{Read};
-ghost use Rattle.ovs_query.specs.ConditionReading.{test_named, is_integer, has_order, column_for, plain, read_condition, read_conditions};
+ghost use Rattle.ovs_query.specs.ConditionReading.{test_named, is_integer, has_order, column_for, plain, named, read_condition, read_conditions};
 
 use crate::conditions::{Condition, Conditions, Test};
 use crate::error::QueryError;
 use crate::reading::fields::field_named;
 use ovs_json::{three_items, with_one};
-use ovs_types::{AtomKind, Column, Datum, DatumError, NamedColumns, NoMemory};
+use ovs_types::{AtomKind, Column, Datum, DatumError, NamedColumns, NamedIds, NoMemory};
 use serde_json::Value;
 use std::alloc::Global;
 
@@ -46,6 +46,24 @@ impl ValueReader for PlainValues {
         match Datum::read(alloc, value, column) {
             Ok(datum) => Ok(Ok(datum)),
             Err(DatumError::NoMemory) => Err(NoMemory),
+            Err(_) => Ok(Err(QueryError::BadCondition)),
+        }
+    }
+}
+
+impl ValueReader for NamedIds {
+    ghost datum = { named };
+
+    fn read(
+        &self,
+        alloc: Global,
+        column: &Column,
+        value: &Value,
+    ) -> Result<Result<Datum, QueryError>, NoMemory> {
+        match Datum::read_named(alloc, value, column, self) {
+            Ok(datum) => Ok(Ok(datum)),
+            Err(DatumError::NoMemory) => Err(NoMemory),
+            Err(DatumError::UnknownName) => Ok(Err(QueryError::UnknownName)),
             Err(_) => Ok(Err(QueryError::BadCondition)),
         }
     }

@@ -1,17 +1,18 @@
 //! Selects out of JSON (RFC 7047 section 5.2.2).
 
-ghost use Rattle.std.specs.Prelude.{◌≡◌, ◌≢◌, IfOk, Ok, Err, option_map, codes};
+ghost use Rattle.std.specs.Prelude.{◌≡◌, ◌≢◌, IfOk, Some, Ok, Err, option_map, codes};
 ghost use Rattle.serde_json.specs.View.{view};
 ghost use Rattle.serde_json.specs.Find.{get};
 ghost use Rattle.ovs_json.specs.FirstFault.{IsWorst};
 ghost use Rattle.ovs_json.specs.Gives.{Gives};
+ghost use Rattle.ovs_types.specs.NamedReading.{SpellsNamed};
 ghost use Rattle.ovs_types.specs.Spelling.{Spells};
 ghost use Rattle.ovs_query.specs.declared.error.QueryError.TheVariants as faults;
 ghost use Rattle.ovs_query.specs.Faults.{rank};
-ghost use Rattle.ovs_query.specs.ConditionReading.{plain, all_shown, read_columns};
+ghost use Rattle.ovs_query.specs.ConditionReading.{plain, named, all_shown, read_columns};
 ghost use Rattle.ovs_query.specs.SelectReading.{read_where, read_select};
-ghost use Rattle.ovs_query.specs.SelectSpelling.{SpellsSelect, IsSelectOf};
-ghost use Rattle.ovs_query.specs.QueryFaults.{InPlain, InSelect};
+ghost use Rattle.ovs_query.specs.SelectSpelling.{SpellsConditions, SpellsSelect, IsSelectOf};
+ghost use Rattle.ovs_query.specs.QueryFaults.{InPlain, InNamed, InConditions, InSelect};
 
 use crate::conditions::Conditions;
 use crate::error::QueryError;
@@ -20,7 +21,7 @@ use crate::reading::conditions::{PlainValues, ValueReader, read_conditions};
 use crate::select::Select;
 use crate::shown::ShownColumns;
 use ovs_json::both;
-use ovs_types::{NamedColumns, NoMemory, Schema};
+use ovs_types::{NamedColumns, NamedIds, NoMemory, Schema, Table};
 use serde_json::Value;
 use std::alloc::Global;
 
@@ -83,6 +84,51 @@ pub(crate) fn read_select<R: ValueReader>(
     }
 }
 
+fn named_conditions(
+    alloc: Global,
+    value: &Value,
+    table: &Table,
+    names: &NamedIds,
+) -> Result<Conditions, QueryError>
+    ensures exact { Gives faults.NoMemory (λ c. c) result (read_where (named names.now) table.now.columns (Some (view value.now))) }
+{
+    read_where(alloc, names, &table.columns, Some(value))?
+}
+
+impl Conditions {
+    /// The conditions on rows of a table that a list stands for, in which names may stand for ids.
+    ///
+    /// # Errors
+    /// The first of `UnknownColumn`, `BadCondition` and `UnknownName` that a part of it has; or `NoMemory`.
+    pub fn read_named(
+        alloc: Global,
+        value: &Value,
+        table: &Table,
+        names: &NamedIds,
+    ) -> Result<Conditions, QueryError>
+        // What is read is spelled so.
+        ensures found { IfOk result (SpellsConditions (SpellsNamed names.now) table.now.columns (view value.now)) }
+        // What is spelled so is read, unless memory runs out.
+        ensures only { (x : _) → SpellsConditions (SpellsNamed names.now) table.now.columns (view value.now) x → Gives faults.NoMemory (λ c. c) result (Ok x) }
+        ensures exact { Gives faults.NoMemory (λ c. c) result (read_where (named names.now) table.now.columns (Some (view value.now))) }
+        // A fault is one that the value has, and none that it has comes before it.
+        ensures worst { result ≢ Err faults.NoMemory → IsWorst rank (InConditions (InNamed names.now) table.now.columns (view value.now)) result }
+    {
+        named_conditions(alloc, value, table, names)
+    }
+}
+
+fn named_select(
+    alloc: Global,
+    value: &Value,
+    schema: &Schema,
+    names: &NamedIds,
+) -> Result<Select, QueryError>
+    ensures exact { Gives faults.NoMemory (λ s. s) result (read_select (named names.now) schema.now.description.tables (view value.now)) }
+{
+    read_select(alloc, names, value, schema)?
+}
+
 fn select_of(alloc: Global, value: &Value, schema: &Schema) -> Result<Select, QueryError>
     ensures exact { Gives faults.NoMemory (λ s. s) result (read_select plain schema.now.description.tables (view value.now)) }
 {
@@ -106,5 +152,26 @@ impl Select {
         ensures tables { IfOk result (IsSelectOf schema.now.description.tables) }
     {
         select_of(alloc, value, schema)
+    }
+    /// The select that an operation stands for, as `read` reads it, in which names may stand for ids.
+    ///
+    /// # Errors
+    /// As those of `read`; and `UnknownName`, after `BadCondition`, where a name stands for no id.
+    pub fn read_named(
+        alloc: Global,
+        value: &Value,
+        schema: &Schema,
+        names: &NamedIds,
+    ) -> Result<Select, QueryError>
+        // What is read is spelled so.
+        ensures found { IfOk result (SpellsSelect (SpellsNamed names.now) schema.now.description.tables (view value.now)) }
+        // What is spelled so is read, unless memory runs out.
+        ensures only { (x : _) → SpellsSelect (SpellsNamed names.now) schema.now.description.tables (view value.now) x → Gives faults.NoMemory (λ s. s) result (Ok x) }
+        ensures exact { Gives faults.NoMemory (λ s. s) result (read_select (named names.now) schema.now.description.tables (view value.now)) }
+        // A fault is one that the value has, and none that it has comes before it.
+        ensures worst { result ≢ Err faults.NoMemory → IsWorst rank (InSelect (InNamed names.now) schema.now.description.tables (view value.now)) result }
+        ensures tables { IfOk result (IsSelectOf schema.now.description.tables) }
+    {
+        named_select(alloc, value, schema, names)
     }
 }

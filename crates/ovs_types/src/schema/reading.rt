@@ -17,10 +17,10 @@ ghost use Rattle.ovs_types.specs.SchemaSpelling.{Spells};
 ghost use Rattle.ovs_types.specs.declared.schema.error.SchemaError.TheVariants as faults;
 ghost use Rattle.ovs_types.specs.SchemaReading.{checked_name, read_named_column, read_columns, columns_in, read_table, read_tables, tables_in, database_name, version, read_description};
 
-use crate::names::{is_id, is_name};
 use crate::schema::error::SchemaError;
 use crate::schema::reading_column::read_column;
 use crate::schema::{Description, NamedColumn, NamedColumns, Schema, Table, Tables};
+use ovs_data::{is_id, is_name};
 use ovs_json::{NoMemory, Text, both, with_one};
 use serde_json::{Map, Value};
 use std::alloc::Global;

@@ -2,7 +2,7 @@
 
 ghost use Rattle.std.specs.Prelude.{◌≡◌};
 ghost use Rattle.std.specs.List.{list_all};
-ghost use Rattle.ovs_types.specs.Names.{is_part, is_id, is_name};
+ghost use Rattle.ovs_data.specs.Names.{is_part, is_id, is_name};
 
 fn is_part(byte: u8) -> bool
     ensures part { result ≡ is_part byte }
