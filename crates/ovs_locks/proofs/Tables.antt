@@ -27,7 +27,7 @@ tied Less e = absurd cc
 tied Equal e = refl
 tied Greater e = absurd cc
 
-by_test : (b : Bool) → (b ≡ true → ⊥) → b ≡ false
+pub by_test : (b : Bool) → (b ≡ true → ⊥) → b ≡ false
 by_test true n = absurd (n refl)
 by_test false n = refl
 
@@ -185,7 +185,7 @@ left who l =
     ∙ none_left who l.stolen
 
 -- what stands in no list is owed nothing
-not_owed : (who : ℕ) (name : List ℕ) (xs : List Asker) → is_in who xs ≡ false → owed_in who name xs ≡ []
+pub not_owed : (who : ℕ) (name : List ℕ) (xs : List Asker) → is_in who xs ≡ false → owed_in who name xs ≡ []
 not_owed who name [] none = refl
 not_owed who name (a ∷ xs) none = by (a.who == who) refl none (not_owed who name xs)
   where

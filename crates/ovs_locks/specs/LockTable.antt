@@ -2,11 +2,12 @@
 use Rattle.std.specs.Prelude.{◌≡◌, ◌≢◌, ℕ, Bool, true, false, not, ◌&&◌, List, [], ◌∷◌, ◌++◌, Result, Ok, Err, codes, nat_eq, unwrap_or}
 use Rattle.std.specs.Ordering.{nat_cmp}
 use Rattle.std.specs.Cmp.Lexicographic.{slice_cmp, pointwise}
+use Rattle.std.specs.List.{list_any}
 use Rattle.std.specs.List.Sorted.{IsStrictlySortedBy}
-use Rattle.std.specs.Map.{lookup, keys_of}
+use Rattle.std.specs.Map.{lookup, keys_of, set_value}
 use Rattle.std.specs.BTreeMap.{is_at}
 use Rattle.ovs_types.specs.Names.{is_id}
-use Rattle.ovs_locks.specs.Lock.{LockValue, no_lock, AsksAs, owed_for}
+use Rattle.ovs_locks.specs.Lock.{LockValue, no_lock, stands, AsksAs, owed_for, after_one, SameSessions}
 use Rattle.ovs_locks.specs.declared.notice.LockNotice.{LockNotice}
 use Rattle.ovs_locks.specs.declared.asker.Asking.{Asking}
 use Rattle.ovs_locks.specs.declared.error.LockError.{LockError}
@@ -48,3 +49,15 @@ AnswersAs how who name locks (Err NoMemory) = (is_lock name ≡ true) × AsksAs 
 abbrev pub owed_to : ℕ → Locks → List LockNotice
 owed_to who [] = []
 owed_to who (e ∷ es) = owed_for who e.0 e.1 ++ owed_to who es
+
+-- the session is told the first notice that it is owed for the lock of this name
+abbrev pub after_one_of : ℕ → List ℕ → Locks → Locks
+after_one_of who name locks = set_value (is_at (slice_cmp nat_cmp name)) locks (after_one who (lock_at name locks))
+
+-- each lock has the sessions that it had, in the same order
+abbrev pub KeepsSessions : Locks → Locks → Type 0
+KeepsSessions old new = (name : List ℕ) → SameSessions (lock_at name old) (lock_at name new)
+
+-- whether a session stands in the lists of some lock
+abbrev pub stands_somewhere : ℕ → Locks → Bool
+stands_somewhere who locks = list_any (λ e. stands who e.1) locks

@@ -1,7 +1,7 @@
 //! Sessions that asked for a lock.
 
 ghost use Rattle.std.specs.Prelude.{◌≡◌};
-ghost use Rattle.ovs_locks.specs.Lock.{after_theft, asker, told_one};
+ghost use Rattle.ovs_locks.specs.Lock.{after_theft, asker, told_one, is_due, after_first, awaits, told_first};
 
 /// What a session is owed for a lock: it happened, and the session wasn't told yet.
 #[derive(Clone, Copy, Debug, PartialEq, Eq)]
@@ -24,6 +24,23 @@ impl Owed {
         match self {
             Owed::Nothing | Owed::Stolen => Owed::Stolen,
             Owed::Locked | Owed::LockedAndStolen => Owed::LockedAndStolen,
+        }
+    }
+
+    /// Whether anything is owed.
+    pub(crate) fn is_due(self) -> bool
+        ensures value { result ≡ is_due self }
+    {
+        !matches!(self, Owed::Nothing)
+    }
+
+    // The rest, once the first notice is told.
+    fn after_first(self) -> Owed
+        ensures value { result ≡ after_first self }
+    {
+        match self {
+            Owed::Nothing | Owed::Locked | Owed::Stolen => Owed::Nothing,
+            Owed::LockedAndStolen => Owed::Stolen,
         }
     }
 }
@@ -64,6 +81,23 @@ impl Asker {
             Asker::new(who)
         } else {
             self
+        }
+    }
+
+    /// Whether it is this session, and is owed something.
+    pub(crate) fn awaits(self, who: u64) -> bool
+        ensures value { result ≡ awaits who self }
+    {
+        self.who == who && self.owed.is_due()
+    }
+
+    /// The same, told the first notice that it is owed.
+    pub(crate) fn told_first(self) -> Asker
+        ensures value { result ≡ told_first self }
+    {
+        Asker {
+            who: self.who,
+            owed: self.owed.after_first(),
         }
     }
 }

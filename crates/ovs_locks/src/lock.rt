@@ -1,7 +1,7 @@
 //! One lock.
 
-ghost use Rattle.std.specs.Prelude.{◌≡◌, ◌≤◌, ◌++◌, OnOk, OnErr, vec_len, vec_capacity};
-ghost use Rattle.ovs_locks.specs.Lock.{no_lock, is_in, stands, owner, is_first, appended, stolen_by, asked, AsksAs, without, after_telling, owed_for, owed_in, heard, dropped, granted, notices_of, is_idle};
+ghost use Rattle.std.specs.Prelude.{◌≡◌, ◌≤◌, ◌++◌, OnOk, OnErr, IfOk, slice_get, vec_len, vec_capacity};
+ghost use Rattle.ovs_locks.specs.Lock.{no_lock, is_in, stands, owner, is_first, appended, stolen_by, asked, AsksAs, without, after_telling, owed_for, owed_in, heard, dropped, granted, notices_of, is_idle, is_due, first_due, heard_first, after_one};
 
 use crate::asker::{Asker, Asking, Owed};
 use crate::error::LockError;
@@ -113,6 +113,43 @@ fn add_owed(
         }
     }
     Ok(())
+}
+
+// What the session is owed where it is first owed something.
+fn first_due(askers: &[Asker], who: u64) -> Owed
+    ensures value { result ≡ first_due who askers.now }
+{
+    for asker in askers {
+        if asker.awaits(who) {
+            return asker.owed;
+        }
+    }
+    Owed::Nothing
+}
+
+// The session is told the first notice that it is owed here. The answer is whether it was owed one.
+fn hear_first(askers: &mut [Asker], who: u64) -> bool
+    ensures value { askers.new ≡ heard_first who askers.old }
+    ensures answer { result ≡ is_due (first_due who askers.old) }
+{
+    for asker in askers.iter_mut() {
+        if asker.awaits(who) {
+            *asker = asker.told_first();
+            return true;
+        }
+    }
+    false
+}
+
+// The first notice of what is owed.
+fn first_of(owed: Owed, name: &Text) -> Result<Option<LockNotice>, NoMemory>
+    ensures value { IfOk result (λ notice. notice ≡ slice_get (notices_of name.now owed) 0) }
+{
+    match owed {
+        Owed::Nothing => Ok(None),
+        Owed::Locked | Owed::LockedAndStolen => Ok(Some(LockNotice::Locked(name.copy()?))),
+        Owed::Stolen => Ok(Some(LockNotice::Stolen(name.copy()?))),
+    }
 }
 
 impl Lock {
@@ -227,5 +264,26 @@ impl Lock {
     {
         add_owed(&self.queue, who, name, notices)?;
         add_owed(&self.stolen, who, name, notices)
+    }
+
+    /// The first notice of what a session is owed for this lock, which has this name.
+    pub(crate) fn first_notice(&self, who: u64, name: &Text) -> Result<Option<LockNotice>, NoMemory>
+        ensures value { IfOk result (λ notice. notice ≡ slice_get (owed_for who name.now self.now) 0) }
+    {
+        let due = first_due(&self.queue, who);
+        if due.is_due() {
+            first_of(due, name)
+        } else {
+            first_of(first_due(&self.stolen, who), name)
+        }
+    }
+
+    /// Notes that a session was told the first notice that it was owed.
+    pub(crate) fn note_one_told(&mut self, who: u64)
+        ensures value { self.new ≡ after_one who self.old }
+    {
+        if !hear_first(&mut self.queue, who) {
+            let _ = hear_first(&mut self.stolen, who);
+        }
     }
 }

@@ -1,8 +1,8 @@
 //! The locks of a server, by name.
 
-ghost use Rattle.std.specs.Prelude.{◌≡◌, ℕ, List, [], true, false, OnOk, OnErr, IfOk};
+ghost use Rattle.std.specs.Prelude.{◌≡◌, ◌≢◌, ℕ, List, [], true, false, OnOk, OnErr, IfOk, drop, slice_get};
 ghost use Rattle.ovs_locks.specs.Lock.{no_lock, owner, stands, asked, without, after_telling};
-ghost use Rattle.ovs_locks.specs.LockTable.{AscendByName, is_lock, lock_at, Becomes, AllBecome, AnswersAs, owed_to};
+ghost use Rattle.ovs_locks.specs.LockTable.{AscendByName, is_lock, lock_at, Becomes, AllBecome, AnswersAs, owed_to, after_one_of, KeepsSessions};
 
 use crate::asker::Asking;
 use crate::error::{LockError, NeverAsked};
@@ -34,6 +34,8 @@ impl Model for LockTable {
     ghost coded = { coded_list (coded× (coded_list coded_ℕ) lock_row.the_row.coded) };
 
     ghost view = { λ t. t.locks.entries };
+
+    ghost invariant = { λ t. IsOrdered (slice_cmp nat_cmp) t.locks };
 }
 
 // Whether a lock may have this name.
@@ -58,6 +60,7 @@ impl LockTable {
         ensures answer { AnswersAs how who name.now self.old result }
         ensures after { OnOk result (Becomes self.old name.now (asked how who (lock_at name.now self.old)) self.new) }
         ensures unchanged { OnErr result (self.new ≡ self.old) }
+        ensures ascending { OnOk result (AscendByName self.new) }
     {
         if !is_lock(name.as_str()) {
             return Err(LockError::BadLock);
@@ -77,6 +80,7 @@ impl LockTable {
     fn add(&mut self, name: &Text, lock: Lock) -> Result<(), NoMemory>
         ensures value { OnOk result (Becomes self.old name.now lock self.new) }
         ensures unchanged { OnErr result (self.new ≡ self.old) }
+        ensures ascending { AscendByName self.new }
     {
         self.locks.insert(name.copy()?, lock)?;
         Ok(())
@@ -91,6 +95,7 @@ impl LockTable {
         ensures answer { AnswersAs Asking.Lock who name.now self.old result }
         ensures after { OnOk result (Becomes self.old name.now (asked Asking.Lock who (lock_at name.now self.old)) self.new) }
         ensures unchanged { OnErr result (self.new ≡ self.old) }
+        ensures ascending { OnOk result (AscendByName self.new) }
     {
         self.ask(alloc, who, name, Asking::Lock)
     }
@@ -103,6 +108,7 @@ impl LockTable {
         ensures answer { AnswersAs Asking.Steal who name.now self.old result }
         ensures after { OnOk result (Becomes self.old name.now (asked Asking.Steal who (lock_at name.now self.old)) self.new) }
         ensures unchanged { OnErr result (self.new ≡ self.old) }
+        ensures ascending { OnOk result (AscendByName self.new) }
     {
         self.ask(alloc, who, name, Asking::Steal)
     }
@@ -119,6 +125,7 @@ impl LockTable {
 
     fn stands(&self, who: u64, name: &Text) -> bool
         ensures value { result ≡ stands who (lock_at name.now self.now) }
+        ensures by_name { AscendByName self.now }
     {
         match self.locks.get(name) {
             Some(lock) => lock.stands(who),
@@ -136,6 +143,7 @@ impl LockTable {
         ensures after { OnOk result (Becomes self.old name.now (without who (lock_at name.now self.old)) self.new) }
         ensures never { OnErr result (stands who (lock_at name.now self.old) ≡ false) }
         ensures unchanged { OnErr result (self.new ≡ self.old) }
+        ensures ascending { OnOk result (AscendByName self.new) }
     {
         if !self.stands(who, name) {
             return Err(NeverAsked);
@@ -147,6 +155,7 @@ impl LockTable {
     // Takes a session out of both lists of a lock.
     fn leave(&mut self, who: u64, name: &Text)
         ensures after { Becomes self.old name.now (without who (lock_at name.now self.old)) self.new }
+        ensures ascending { AscendByName self.new }
     {
         if let Some(lock) = self.locks.get_mut(name) {
             lock.leave(who);
@@ -159,6 +168,7 @@ impl LockTable {
     // Takes a lock away.
     fn remove(&mut self, name: &Text)
         ensures after { Becomes self.old name.now no_lock self.new }
+        ensures ascending { AscendByName self.new }
     {
         let _ = self.locks.remove(name);
     }
@@ -168,6 +178,7 @@ impl LockTable {
         ensures after { AllBecome self.old (without who) self.new }
         ensures gone { (name : List ℕ) → stands who (lock_at name self.new) ≡ false }
         ensures nothing { owed_to who self.new ≡ [] }
+        ensures ascending { AscendByName self.new }
     {
         self.locks.retain(|_name, lock| {
             lock.leave(who);
@@ -180,6 +191,7 @@ impl LockTable {
         ensures after { AllBecome self.old (after_telling who) self.new }
         ensures nothing { owed_to who self.new ≡ [] }
         ensures by_name { AscendByName self.old }
+        ensures ascending { AscendByName self.new }
     {
         self.locks.retain(|_name, lock| {
             lock.note_told(who);
@@ -190,6 +202,7 @@ impl LockTable {
     // What a session is owed.
     fn owed(&self, alloc: Global, who: u64) -> Result<Vec<LockNotice>, NoMemory>
         ensures value { IfOk result (λ notices. notices.items ≡ owed_to who self.now) }
+        ensures by_name { AscendByName self.now }
     {
         let mut notices = Vec::new(alloc);
         for (name, lock) in self.locks.iter() {
@@ -206,7 +219,8 @@ impl LockTable {
     pub fn notices(&mut self, alloc: Global, who: u64) -> Result<Vec<LockNotice>, NoMemory>
         ensures told { IfOk result (λ notices. notices.items ≡ owed_to who self.old) }
         // The locks stand in the order of their names.
-        ensures by_name { OnOk result (AscendByName self.old) }
+        ensures by_name { AscendByName self.old }
+        ensures ascending { OnOk result (AscendByName self.new) }
         ensures after { OnOk result (AllBecome self.old (after_telling who) self.new) }
         ensures nothing { OnOk result (owed_to who self.new ≡ []) }
         ensures unchanged { OnErr result (self.new ≡ self.old) }
@@ -214,5 +228,53 @@ impl LockTable {
         let notices = self.owed(alloc, who)?;
         self.note_told(who);
         Ok(notices)
+    }
+
+    /// The first notice of what a session is owed, which it still is then; `None` where it is owed nothing.
+    ///
+    /// # Errors
+    /// `NoMemory` alone.
+    pub fn first_notice(&self, who: u64) -> Result<Option<LockNotice>, NoMemory>
+        ensures value { IfOk result (λ notice. notice ≡ slice_get (owed_to who self.now) 0) }
+        ensures by_name { AscendByName self.now }
+    {
+        for (name, lock) in self.locks.iter() {
+            let notice = lock.first_notice(who, name)?;
+            if notice.is_some() {
+                return Ok(notice);
+            }
+        }
+        Ok(None)
+    }
+
+    // Notes that a session was told the first notice that it was owed for a lock.
+    fn note_one_told(&mut self, who: u64, name: &Text)
+        ensures value { self.new ≡ after_one_of who name.now self.old }
+    {
+        if let Some(lock) = self.locks.get_mut(name) {
+            lock.note_one_told(who);
+        }
+    }
+
+    /// The first of what `notices` would give, which the session is owed no more then; `None` where it is owed nothing
+    /// (RFC 7047 sections 4.1.9 and 4.1.10). The session is owed the rest, each other session what it was, and no lock
+    /// changes its owner or who stands in its lists.
+    ///
+    /// # Errors
+    /// `NoMemory` alone; the session is then owed what it was.
+    pub fn next_notice(&mut self, who: u64) -> Result<Option<LockNotice>, NoMemory>
+        ensures told { IfOk result (λ notice. notice ≡ slice_get (owed_to who self.old) 0) }
+        ensures by_name { AscendByName self.old }
+        ensures ascending { OnOk result (AscendByName self.new) }
+        ensures rest { OnOk result (owed_to who self.new ≡ drop 1 (owed_to who self.old)) }
+        ensures others { OnOk result ((other : ℕ) → other ≢ who → owed_to other self.new ≡ owed_to other self.old) }
+        ensures stands { OnOk result (KeepsSessions self.old self.new) }
+        ensures unchanged { OnErr result (self.new ≡ self.old) }
+    {
+        let Some(notice) = self.first_notice(who)? else {
+            return Ok(None);
+        };
+        self.note_one_told(who, notice.name());
+        Ok(Some(notice))
     }
 }

@@ -1,5 +1,8 @@
 //! What a session is told of its locks.
 
+ghost use Rattle.std.specs.Prelude.{◌≡◌};
+ghost use Rattle.ovs_locks.specs.Lock.{name_told};
+
 use ovs_types::Text;
 
 /// What became of a lock that a session asked for.
@@ -9,4 +12,15 @@ pub enum LockNotice {
     Locked(Text),
     /// The lock of this name was stolen from the session (`stolen`, RFC 7047 section 4.1.10).
     Stolen(Text),
+}
+
+impl LockNotice {
+    /// The name of the lock.
+    pub(crate) fn name(&self) -> &Text
+        ensures value { result.now ≡ name_told self.now }
+    {
+        match self {
+            LockNotice::Locked(name) | LockNotice::Stolen(name) => name,
+        }
+    }
 }

@@ -1,0 +1,9 @@
+pub mod Fault
+pub mod Reading
+pub mod Operation
+pub mod Owning
+pub mod Mutating
+pub mod Altering
+pub mod Carrying
+pub mod Effect
+pub mod Given

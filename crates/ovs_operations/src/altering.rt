@@ -1,0 +1,188 @@
+//! What an operation makes of the rows that match (RFC 7047 sections 5.2.3 to 5.2.5).
+
+ghost use Rattle.std.specs.Prelude.{◌≡◌, ◌≤◌, ◌+◌, ℕ, IfOk, IfErr, IfSome, Ok, Err, option_map};
+ghost use Rattle.std.specs.Option.{option_copied};
+ghost use Rattle.ovs_rows.specs.Row.{AreDataOf, columns_at};
+ghost use Rattle.ovs_rows.specs.DatabaseDifference.{IsCommit};
+ghost use Rattle.ovs_rows.specs.Scanning.{row_in};
+ghost use Rattle.ovs_operations.specs.Altering.{IsAlterationOf, Course, row_of, altered, matches, alter_at, alter_all};
+
+use crate::fault::Fault;
+use crate::mutating::write_all;
+use crate::operation::Alteration;
+use ovs_json::NoMemory;
+use ovs_query::Conditions;
+use ovs_rows::{Columns, Database, Place, Row};
+use ovs_types::{NamedColumn, RowId, Table, TxnId};
+use std::alloc::Global;
+
+/// The columns of the table of this number, and none past the last.
+pub(crate) fn columns_at(tables: &[Table], number: usize) -> &[NamedColumn]
+    ensures value { result.now ≡ columns_at tables.now number }
+{
+    match tables.get(number) {
+        Some(table) => table.columns.as_slice(),
+        None => &[],
+    }
+}
+
+/// The row of these columns: it keeps the version that it had before the transaction where its columns are those from then, and
+/// else has the commit's id. So a row that is changed and changed back isn't changed.
+pub(crate) fn row_of(commit: TxnId, before: Option<&Row>, columns: Columns) -> Row
+    ensures value { result ≡ row_of commit (option_copied before.entry) columns }
+{
+    let version = match before {
+        Some(old) => {
+            if columns.same(&old.columns) {
+                old.version
+            } else {
+                commit
+            }
+        }
+        None => commit,
+    };
+    Row { version, columns }
+}
+
+// The same where there may be none.
+fn row_or_none(commit: TxnId, before: Option<&Row>, columns: Option<Columns>) -> Option<Row>
+    ensures value { result ≡ option_map (row_of commit (option_copied before.entry)) columns }
+{
+    match columns {
+        Some(columns) => Some(row_of(commit, before, columns)),
+        None => None,
+    }
+}
+
+// What becomes of the data of a row that matches: others, or none where the row goes.
+fn altered(
+    alloc: Global,
+    columns: &[NamedColumn],
+    alteration: &Alteration,
+    old: &Columns,
+) -> Result<Result<Option<Columns>, Fault>, NoMemory>
+    requires row { AreDataOf columns.now old.now }
+    requires alteration { IsAlterationOf columns.now alteration.now }
+    ensures exact { IfOk result (λ r. r ≡ altered columns.now alteration.now old.now) }
+    ensures kept { IfOk result (λ r. IfOk r (λ o. IfSome o (AreDataOf columns.now))) }
+{
+    match alteration {
+        Alteration::Write(mutations) => {
+            match write_all(alloc, columns, old.copy()?, mutations.as_slice())? {
+                Ok(new) => Ok(Ok(Some(new))),
+                Err(fault) => Ok(Err(fault)),
+            }
+        }
+        Alteration::Delete => Ok(Ok(None)),
+    }
+}
+
+// Alters the row of this id, if it is there and matches. Answers how many have matched: one or none.
+fn alter_row(
+    alloc: Global,
+    work: &mut Database,
+    before: &Database,
+    commit: TxnId,
+    table: usize,
+    id: RowId,
+    conditions: &Conditions,
+    alteration: &Alteration,
+) -> Result<Result<usize, Fault>, NoMemory>
+    requires alteration { IsAlterationOf (columns_at work.old.schema.description.tables table) alteration.now }
+    ensures done { IfOk result (λ r. IfOk r (λ n. (count : ℕ) →
+        alter_at commit before.now.rows (columns_at work.old.schema.description.tables table) (matches conditions.now) alteration.now
+        (record { rows = work.old.rows; count = count }) (record { table = table; id = id }) (row_in table id work.old.rows)
+        ≡ Ok (record { rows = work.new.rows; count = count + n }))) }
+    ensures fault { IfOk result (λ r. IfErr r (λ e. (count : ℕ) →
+        alter_at commit before.now.rows (columns_at work.old.schema.description.tables table) (matches conditions.now) alteration.now
+        (record { rows = work.old.rows; count = count }) (record { table = table; id = id }) (row_in table id work.old.rows) ≡ Err e)) }
+    ensures most { IfOk result (λ r. IfOk r (λ n. n ≤ 1)) }
+    ensures schema { work.new.schema ≡ work.old.schema }
+    ensures commit { IsCommit work.old.schema.description.tables before.now.rows work.old.rows commit
+        → IfOk result (λ r. IfOk r (λ n. IsCommit work.old.schema.description.tables before.now.rows work.new.rows commit)) }
+{
+    let schema = work.schema();
+    let Some(row) = work.row(Place { table, id }) else {
+        return Ok(Ok(0));
+    };
+    if !conditions.matches(id, row) {
+        return Ok(Ok(0));
+    }
+    let columns = columns_at(schema.tables(), table);
+    match altered(alloc, columns, alteration, &row.columns)? {
+        Ok(columns) => {
+            let row = row_or_none(commit, before.row(Place { table, id }), columns);
+            work.set_row(Place { table, id }, row)?;
+            Ok(Ok(1))
+        }
+        Err(fault) => Ok(Err(fault)),
+    }
+}
+
+// Alters the rows of the table one after the other.
+fn alter_rows(
+    alloc: Global,
+    work: &mut Database,
+    before: &Database,
+    commit: TxnId,
+    table: usize,
+    conditions: &Conditions,
+    alteration: &Alteration,
+) -> Result<Result<usize, Fault>, NoMemory>
+    requires alteration { IsAlterationOf (columns_at work.old.schema.description.tables table) alteration.now }
+    ensures done { IfOk result (λ r. IfOk r (λ count.
+        alter_all commit before.now.rows (columns_at work.old.schema.description.tables table) (matches conditions.now) alteration.now table work.old.rows
+        ≡ Ok (record { rows = work.new.rows; count = count }))) }
+    ensures fault { IfOk result (λ r. IfErr r (λ e.
+        alter_all commit before.now.rows (columns_at work.old.schema.description.tables table) (matches conditions.now) alteration.now table work.old.rows ≡ Err e)) }
+    ensures schema { work.new.schema ≡ work.old.schema }
+    ensures commit { IsCommit work.old.schema.description.tables before.now.rows work.old.rows commit
+        → IfOk result (λ r. IfOk r (λ count. IsCommit work.old.schema.description.tables before.now.rows work.new.rows commit)) }
+{
+    let most = work.len();
+    let mut count = 0;
+    let mut last = None;
+    while let Some((id, _row)) = work.next_row(table, last) {
+        match alter_row(
+            alloc, work, before, commit, table, id, conditions, alteration,
+        )? {
+            Ok(n) => count += n,
+            Err(fault) => return Ok(Err(fault)),
+        }
+        last = Some(id);
+    }
+    prove!(count <= most);
+    Ok(Ok(count))
+}
+
+/// Alters the rows of the table of this number of which all conditions hold, ascending by id, up to the first fault. Answers how
+/// many have matched. Where a fault is the answer, or memory runs out, some may be altered.
+///
+/// # Errors
+/// `NoMemory` alone.
+pub(crate) fn alter(
+    alloc: Global,
+    work: &mut Database,
+    before: &Database,
+    commit: TxnId,
+    table: usize,
+    conditions: &Conditions,
+    alteration: &Alteration,
+) -> Result<Result<usize, Fault>, NoMemory>
+    requires alteration { IsAlterationOf (columns_at work.old.schema.description.tables table) alteration.now }
+    ensures done { IfOk result (λ r. IfOk r (λ count.
+        alter_all commit before.now.rows (columns_at work.old.schema.description.tables table) (matches conditions.now) alteration.now table work.old.rows
+        ≡ Ok (record { rows = work.new.rows; count = count }))) }
+    ensures fault { IfOk result (λ r. IfErr r (λ e.
+        alter_all commit before.now.rows (columns_at work.old.schema.description.tables table) (matches conditions.now) alteration.now table work.old.rows ≡ Err e)) }
+    ensures schema { work.new.schema ≡ work.old.schema }
+    ensures commit { IsCommit work.old.schema.description.tables before.now.rows work.old.rows commit
+        → IfOk result (λ r. IfOk r (λ count. IsCommit work.old.schema.description.tables before.now.rows work.new.rows commit)) }
+{
+    match conditions.row_id() {
+        Some(id) => alter_row(
+            alloc, work, before, commit, table, id, conditions, alteration,
+        ),
+        None => alter_rows(alloc, work, before, commit, table, conditions, alteration),
+    }
+}
