@@ -2,7 +2,8 @@
 
 use crate::fault::Fault;
 use crate::{
-    changes, data, devices, folds, ids, locks, messages, queries, schemas, scripts, stores, streams,
+    changes, data, devices, folds, ids, locks, messages, queries, schemas, scripts, sources,
+    stores, streams,
 };
 use ovs_types::Schema;
 use serde_json::Value;
@@ -51,6 +52,7 @@ fn of_schema(alloc: Global, schema: &Schema, what: &str, parts: &[Value]) -> Res
         "monitor" => queries::monitor(alloc, schema, parts),
         "initial" => queries::initial(alloc, schema, parts),
         "updates" => queries::updates(alloc, schema, parts),
+        "source" => sources::source(alloc, schema, parts),
         _ => Err(Fault::Malformed),
     }
 }

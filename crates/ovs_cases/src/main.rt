@@ -17,6 +17,7 @@ mod messages;
 mod queries;
 mod schemas;
 mod scripts;
+mod sources;
 mod stores;
 mod streams;
 

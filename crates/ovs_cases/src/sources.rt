@@ -1,0 +1,104 @@
+//! Transactions of a source, one after the other.
+
+ghost use Rattle.std.specs.Prelude.{IfSome};
+ghost use Rattle.ovs_rows.specs.Change.{IsChangeOf};
+
+use crate::case::{list, part, text};
+use crate::fault::Fault;
+use ovs_links::Link;
+use ovs_locks::LockTable;
+use ovs_source::{FreshRows, Outcome, Source, SourceError};
+use ovs_types::{RowId, Schema, Text, TxnId};
+use serde_json::Value;
+use std::alloc::Global;
+
+fn commit_id(parts: &[Value]) -> Result<TxnId, Fault> {
+    TxnId::read(text(parts, 0)?).ok().ok_or(Fault::BadId)
+}
+
+fn row_id(parts: &[Value]) -> Result<RowId, Fault> {
+    RowId::read(text(parts, 1)?).ok().ok_or(Fault::BadId)
+}
+
+fn session(parts: &[Value], at: usize) -> Result<u64, Fault> {
+    part(parts, at)?.as_u64().ok_or(Fault::Malformed)
+}
+
+// The locks that sessions asked for, each a list of the session and the name.
+fn locks_of(alloc: Global, asked: &[Value]) -> Result<LockTable, Fault> {
+    let mut locks = LockTable::new(alloc);
+    for one in asked {
+        let parts = one.as_array().ok_or(Fault::Malformed)?;
+        let name = Text::new(alloc, text(parts, 1)?)?;
+        if locks.lock(alloc, session(parts, 0)?, &name).is_err() {
+            return Err(Fault::Malformed);
+        }
+    }
+    Ok(locks)
+}
+
+fn refusal(error: SourceError) -> Result<&'static str, Fault> {
+    match error {
+        SourceError::IdTaken => Ok("id taken"),
+        SourceError::RowIdsSpent => Ok("row ids spent"),
+        SourceError::Full => Ok("full"),
+        SourceError::NoMemory => Err(Fault::NoMemory),
+    }
+}
+
+fn link_text(alloc: Global, schema: &Schema, link: &Link) -> Result<String, Fault>
+    requires tables { IsChangeOf schema.now.description.tables link.now.change }
+{
+    let prev = link.prev().to_text(alloc)?;
+    let id = link.id().to_text(alloc)?;
+    let change = link.change().to_json(alloc, schema)?.to_string(alloc)?;
+    Ok(format!(in alloc;
+        " link {} {} {}",
+        prev.as_str(),
+        id.as_str(),
+        change.as_str()
+    )?)
+}
+
+fn outcome(alloc: Global, schema: &Schema, outcome: &Outcome) -> Result<String, Fault>
+    requires tables { IfSome outcome.now.link (λ l. IsChangeOf schema.now.description.tables l.change) }
+{
+    let mut told = outcome.results.as_value().to_string(alloc)?;
+    if let Some(link) = &outcome.link {
+        told.push_str(link_text(alloc, schema, link)?.as_str())?;
+    }
+    Ok(told)
+}
+
+fn transaction(
+    alloc: Global,
+    source: &mut Source,
+    fresh: &mut FreshRows,
+    locks: &LockTable,
+    parts: &[Value],
+) -> Result<String, Fault> {
+    let id = commit_id(parts)?;
+    let who = session(parts, 1)?;
+    match source.transact(alloc, who, list(parts, 2)?, id, fresh, locks) {
+        Ok(done) => outcome(alloc, source.store().schema(), &done),
+        Err(error) => Ok(String::from_str(alloc, refusal(error)?)?),
+    }
+}
+
+/// `["source", ROW-ID, [[SESSION, LOCK], ..], [[ID, SESSION, [OPERATION, ..]], ..]]`: what each transaction answers, with the link that
+/// it makes, if it makes one. Rows get ids from the first on.
+pub(crate) fn source(alloc: Global, schema: &Schema, parts: &[Value]) -> Result<String, Fault> {
+    let mut source = Source::new(alloc, schema)?;
+    let mut fresh = FreshRows::new(row_id(parts)?);
+    let locks = locks_of(alloc, list(parts, 2)?)?;
+    let mut told = String::new(alloc);
+    for one in list(parts, 3)? {
+        let parts = one.as_array().ok_or(Fault::Malformed)?;
+        if !told.is_empty() {
+            told.push_str(" | ")?;
+        }
+        let answer = transaction(alloc, &mut source, &mut fresh, &locks, parts)?;
+        told.push_str(answer.as_str())?;
+    }
+    Ok(told)
+}
