@@ -2,7 +2,7 @@
 
 use crate::fault::Fault;
 use crate::{
-    changes, data, devices, folds, ids, locks, messages, queries, schemas, scripts, sources,
+    changes, data, desks, devices, folds, ids, locks, messages, queries, schemas, scripts, sources,
     stores, streams,
 };
 use ovs_types::Schema;
@@ -53,6 +53,7 @@ fn of_schema(alloc: Global, schema: &Schema, what: &str, parts: &[Value]) -> Res
         "initial" => queries::initial(alloc, schema, parts),
         "updates" => queries::updates(alloc, schema, parts),
         "source" => sources::source(alloc, schema, parts),
+        "desk" => desks::desk(alloc, schema, parts),
         _ => Err(Fault::Malformed),
     }
 }

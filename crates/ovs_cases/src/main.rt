@@ -8,6 +8,7 @@ mod case;
 mod changes;
 mod columns;
 mod data;
+mod desks;
 mod devices;
 mod fault;
 mod folds;

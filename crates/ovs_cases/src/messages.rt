@@ -16,7 +16,8 @@ fn kind(message: &Message) -> &'static str {
     }
 }
 
-fn text_of(alloc: Global, message: &Message) -> Result<String, Fault> {
+/// What a message is written as.
+pub(crate) fn text_of(alloc: Global, message: &Message) -> Result<String, Fault> {
     let bytes = message.write(alloc)?;
     match std::str::from_utf8(bytes.as_slice()) {
         Ok(text) => Ok(String::from_str(alloc, text)?),

@@ -7,6 +7,7 @@ use crate::case::{list, part, text};
 use crate::fault::Fault;
 use ovs_links::Link;
 use ovs_locks::LockTable;
+use ovs_rows::Change;
 use ovs_source::{FreshRows, Outcome, Source, SourceError};
 use ovs_types::{RowId, Schema, Text, TxnId};
 use serde_json::Value;
@@ -46,12 +47,18 @@ fn refusal(error: SourceError) -> Result<&'static str, Fault> {
     }
 }
 
+fn change_text(alloc: Global, schema: &Schema, change: &Change) -> Result<String, Fault>
+    requires tables { IsChangeOf schema.now.description.tables change.now }
+{
+    Ok(change.to_json(alloc, schema)?.to_string(alloc)?)
+}
+
 fn link_text(alloc: Global, schema: &Schema, link: &Link) -> Result<String, Fault>
     requires tables { IsChangeOf schema.now.description.tables link.now.change }
 {
+    let change = change_text(alloc, schema, link.change())?;
     let prev = link.prev().to_text(alloc)?;
     let id = link.id().to_text(alloc)?;
-    let change = link.change().to_json(alloc, schema)?.to_string(alloc)?;
     Ok(format!(in alloc;
         " link {} {} {}",
         prev.as_str(),

@@ -8,6 +8,7 @@ mod lock;
 mod lock_table;
 mod notice;
 
+pub use asker::Asking;
 pub use error::{LockError, NeverAsked};
 pub use lock_table::LockTable;
 pub use notice::LockNotice;

@@ -1,11 +1,16 @@
 //! The source's own desk.
 
-ghost use Rattle.std.specs.Prelude.{◌≡◌, ◌++◌, ◌∷◌, ℕ, List, [], Some, IfNone, IfOk, OnOk, OnErr, MatchOption, ◌<◌, option_to_list};
+ghost use Rattle.std.specs.Prelude.{◌≡◌, ◌≢◌, ◌++◌, ◌∷◌, ℕ, List, [], Some, Err, codes, map, IfOk, OnOk, OnErr, MatchOption, ◌<◌, option_to_list};
 ghost use Rattle.std.specs.VecDeque.{deque_len, deque_capacity};
+ghost use Rattle.serde_json.specs.Data.{null, boolean};
 ghost use Rattle.serde_json.specs.View.{view};
+ghost use Rattle.ovs_json.specs.Putting.{under_name};
 ghost use Rattle.ovs_links.specs.declared.link.Link.{Link};
-ghost use Rattle.ovs_source.specs.SourceDesk.{message_of, owing_of, MakesAtMostOne};
-ghost use Rattle.ovs_source.specs.Owing.{LeavesSilent};
+ghost use Rattle.ovs_locks.specs.Lock.{without};
+ghost use Rattle.ovs_locks.specs.LockTable.{AllBecome};
+ghost use Rattle.ovs_source.specs.Owing.{AsksTo, CollectsTo, LeavesSilent, silent};
+ghost use Rattle.ovs_source.specs.Replying.{replied, refused, id_after, IsTold, IsToldOfLock, IsToldOfUnlock, TransactsUnder, RepliesTo, KeepsSource};
+ghost use Rattle.ovs_source.specs.SourceDesk.{message_of, owing_of};
 
 use crate::authority::{Ask, Authority, Verb};
 use crate::error::SourceError;
@@ -14,7 +19,7 @@ use crate::source::Source;
 use crate::transacting::Outcome;
 use ovs_json::{Json, text_json, under_name};
 use ovs_links::Link;
-use ovs_locks::{LockError, LockNotice, LockTable};
+use ovs_locks::{LockError, LockNotice, LockTable, NeverAsked};
 use ovs_types::{NoMemory, Text, TxnId};
 use ovs_wire::{Message, Method, Params};
 use serde_json::{Map, Value};
@@ -64,18 +69,24 @@ struct Answer {
     error: Json,
 }
 
-fn null() -> Json {
+fn null() -> Json
+    ensures value { result ≡ null }
+{
     Json::new(Value::Null)
 }
 
-fn replied(value: Value) -> Answer {
+fn replied(value: Value) -> Answer
+    ensures value { result ≡ replied (view value) }
+{
     Answer {
         result: Json::new(value),
         error: null(),
     }
 }
 
-fn refusal(alloc: Global, text: &str) -> Result<Answer, NoMemory> {
+fn refusal(alloc: Global, text: &str) -> Result<Answer, NoMemory>
+    ensures value { IfOk result (λ a. a ≡ refused text.now) }
+{
     let error = under_name(alloc, "error", text_json(alloc, text)?)?;
     Ok(Answer {
         result: null(),
@@ -83,21 +94,45 @@ fn refusal(alloc: Global, text: &str) -> Result<Answer, NoMemory> {
     })
 }
 
-// The text for a refused transaction.
-fn refused(error: SourceError) -> &'static str {
+fn refused(alloc: Global, error: SourceError) -> Result<Answer, NoMemory>
+    ensures told { IfOk result (IsTold (Err error)) }
+{
     match error {
-        SourceError::IdTaken => "id taken",
-        SourceError::RowIdsSpent => "row ids spent",
-        SourceError::Full => "full",
-        SourceError::NoMemory => "out of memory",
+        SourceError::IdTaken => refusal(alloc, "id taken"),
+        SourceError::RowIdsSpent => refusal(alloc, "row ids spent"),
+        SourceError::Full => refusal(alloc, "full"),
+        SourceError::NoMemory => Err(NoMemory),
     }
 }
 
-fn lock_refusal(alloc: Global, error: LockError) -> Result<Answer, NoMemory> {
-    match error {
-        LockError::BadLock => refusal(alloc, "bad lock"),
-        LockError::AlreadyAsked => refusal(alloc, "already asked"),
-        LockError::NoMemory => Err(NoMemory),
+// What is answered where this came of asking for a lock. The reply was made before, so that nothing is refused after it.
+fn told_of_lock(
+    alloc: Global,
+    came: Result<bool, LockError>,
+    won: bool,
+    reply: Value,
+) -> Result<Answer, NoMemory>
+    requires won { IfOk came (λ w. w ≡ won) }
+    requires reply { view reply ≡ under_name (codes "locked") (boolean won) }
+    ensures told { IfOk result (IsToldOfLock came) }
+    ensures refused { OnErr result (OnOk came ⊥) }
+{
+    match came {
+        Ok(_) => Ok(replied(reply)),
+        Err(LockError::BadLock) => refusal(alloc, "bad lock"),
+        Err(LockError::AlreadyAsked) => refusal(alloc, "already asked"),
+        Err(LockError::NoMemory) => Err(NoMemory),
+    }
+}
+
+// What is answered where this came of leaving a lock.
+fn told_of_unlock(alloc: Global, came: Result<(), NeverAsked>) -> Result<Answer, NoMemory>
+    ensures told { IfOk result (IsToldOfUnlock came) }
+    ensures refused { OnErr result (OnOk came ⊥) }
+{
+    match came {
+        Ok(()) => Ok(replied(Value::Object(Map::new(alloc)))),
+        Err(_) => refusal(alloc, "never asked"),
     }
 }
 
@@ -117,18 +152,23 @@ fn message_of(alloc: Global, notice: &LockNotice) -> Result<Message, NoMemory>
     })
 }
 
-// Puts a link by, if there is one, and moves the next id on then.
-fn put_by(made: &mut VecDeque<Link>, next: &mut Option<TxnId>, id: TxnId, link: Option<Link>)
-    requires room { deque_len made.old < deque_capacity made.old }
-    ensures made { made.new.items ≡ made.old.items ++ option_to_list link }
-    ensures kept { IfNone link (next.new ≡ next.old) }
+// The commit id that comes after a transaction under this one.
+fn id_after(link: &Option<Link>, id: TxnId) -> Option<TxnId>
+    ensures value { result ≡ id_after link.now id }
 {
     match link {
-        Some(link) => {
-            made.push_back_reserved(link);
-            *next = id.value().checked_add(1).map(TxnId::from_value);
-        }
-        None => {}
+        Some(_) => id.value().checked_add(1).map(TxnId::from_value),
+        None => Some(id),
+    }
+}
+
+// Puts a link by, if there is one.
+fn put_by(made: &mut VecDeque<Link>, link: Option<Link>)
+    requires room { deque_len made.old < deque_capacity made.old }
+    ensures value { made.new.items ≡ made.old.items ++ option_to_list link }
+{
+    if let Some(link) = link {
+        made.push_back_reserved(link);
     }
 }
 
@@ -178,11 +218,11 @@ impl SourceDesk {
         who: u64,
         operations: &[Value],
     ) -> Result<Answer, NoMemory>
-        ensures locks { self.new.locks ≡ self.old.locks }
-        ensures made { MakesAtMostOne self.old self.new }
+        ensures reply { IfOk result (λ a. TransactsUnder self.old.next self.old who (map view operations.now) a self.new) }
+        ensures unchanged { OnErr result (self.new ≡ self.old) }
     {
         let Some(id) = self.next else {
-            return refusal(alloc, refused(SourceError::IdTaken));
+            return refused(alloc, SourceError::IdTaken);
         };
         self.made.reserve(1)?;
         match self
@@ -190,54 +230,52 @@ impl SourceDesk {
             .transact(alloc, who, operations, id, &mut self.fresh, &self.locks)
         {
             Ok(Outcome { results, link }) => {
-                put_by(&mut self.made, &mut self.next, id, link);
+                self.next = id_after(&link, id);
+                put_by(&mut self.made, link);
                 Ok(Answer {
                     result: results,
                     error: null(),
                 })
             }
-            Err(SourceError::NoMemory) => Err(NoMemory),
-            Err(error) => refusal(alloc, refused(error)),
+            Err(error) => refused(alloc, error),
         }
     }
-    // The reply is made before the lock is asked for, so that nothing is refused after it.
+
     fn lock(&mut self, alloc: Global, who: u64, name: &Text) -> Result<Answer, NoMemory>
+        ensures reply { IfOk result (λ a. RepliesTo self.old who (Verb.Lock name.now) a self.new) }
         ensures silence { OnOk result (LeavesSilent who (owing_of self.old.locks) (owing_of self.new.locks)) }
-        ensures unchanged { OnErr result (self.new.locks ≡ self.old.locks) }
+        ensures unchanged { OnErr result (self.new ≡ self.old) }
     {
-        let locked = self.locks.owner(name).is_none();
-        let reply = under_name(alloc, "locked", Value::Bool(locked))?;
-        match self.locks.lock(alloc, who, name) {
-            Ok(_) => Ok(replied(reply)),
-            Err(error) => lock_refusal(alloc, error),
-        }
+        let won = self.locks.owner(name).is_none();
+        let reply = under_name(alloc, "locked", Value::Bool(won))?;
+        let came = self.locks.lock(alloc, who, name);
+        told_of_lock(alloc, came, won, reply)
     }
 
     fn steal(&mut self, alloc: Global, who: u64, name: &Text) -> Result<Answer, NoMemory>
+        ensures reply { IfOk result (λ a. RepliesTo self.old who (Verb.Steal name.now) a self.new) }
         ensures silence { OnOk result (LeavesSilent who (owing_of self.old.locks) (owing_of self.new.locks)) }
-        ensures unchanged { OnErr result (self.new.locks ≡ self.old.locks) }
+        ensures unchanged { OnErr result (self.new ≡ self.old) }
     {
         let reply = under_name(alloc, "locked", Value::Bool(true))?;
-        match self.locks.steal(alloc, who, name) {
-            Ok(_) => Ok(replied(reply)),
-            Err(error) => lock_refusal(alloc, error),
-        }
+        let came = self.locks.steal(alloc, who, name);
+        told_of_lock(alloc, came, true, reply)
     }
 
     fn unlock(&mut self, alloc: Global, who: u64, name: &Text) -> Result<Answer, NoMemory>
+        ensures reply { IfOk result (λ a. RepliesTo self.old who (Verb.Unlock name.now) a self.new) }
         ensures silence { OnOk result (LeavesSilent who (owing_of self.old.locks) (owing_of self.new.locks)) }
-        ensures unchanged { OnErr result (self.new.locks ≡ self.old.locks) }
+        ensures unchanged { OnErr result (self.new ≡ self.old) }
     {
-        match self.locks.unlock(who, name) {
-            Ok(()) => Ok(replied(Value::Object(Map::new(alloc)))),
-            Err(_) => refusal(alloc, "never asked"),
-        }
+        let came = self.locks.unlock(who, name);
+        told_of_unlock(alloc, came)
     }
 
     // What is answered to a request.
     fn answer_to(&mut self, alloc: Global, who: u64, verb: &Verb) -> Result<Answer, NoMemory>
+        ensures reply { IfOk result (λ a. RepliesTo self.old who verb.now a self.new) }
         ensures silence { OnOk result (LeavesSilent who (owing_of self.old.locks) (owing_of self.new.locks)) }
-        ensures unchanged { OnErr result (self.new.locks ≡ self.old.locks) }
+        ensures unchanged { OnErr result (self.new ≡ self.old) }
     {
         match verb {
             Verb::Transact(operations) => self.transact(alloc, who, operations),
@@ -251,7 +289,13 @@ impl SourceDesk {
 impl Authority for SourceDesk {
     ghost owing = { λ d who. owing_of d.locks who };
 
-    fn ask(&mut self, alloc: Global, who: u64, ask: Ask) -> Result<Option<Message>, NoMemory> {
+    /// Replies at once. `NoMemory` leaves the whole desk as it was.
+    fn ask(&mut self, alloc: Global, who: u64, ask: Ask) -> Result<Option<Message>, NoMemory>
+        ensures asked { IfOk result (λ m. AsksTo (owing_of self.old.locks who) ask.id m (owing_of self.new.locks who)) }
+        ensures silence { LeavesSilent who (owing_of self.old.locks) (owing_of self.new.locks) }
+        ensures reply { IfOk result (λ m. (a : Answer) × (m ≡ Some (Message.Reply a.result a.error ask.id)) × RepliesTo self.old who ask.verb a self.new) }
+        ensures whole { OnErr result (self.new ≡ self.old) }
+    {
         let answer = self.answer_to(alloc, who, &ask.verb)?;
         Ok(Some(Message::Reply {
             result: answer.result,
@@ -260,7 +304,12 @@ impl Authority for SourceDesk {
         }))
     }
 
-    fn collect(&mut self, alloc: Global, who: u64) -> Result<Option<Message>, NoMemory> {
+    fn collect(&mut self, alloc: Global, who: u64) -> Result<Option<Message>, NoMemory>
+        ensures given { IfOk result (λ m. CollectsTo (owing_of self.old.locks who) m (owing_of self.new.locks who)) }
+        ensures others { (other : ℕ) → other ≢ who → owing_of self.new.locks other ≡ owing_of self.old.locks other }
+        ensures source { KeepsSource self.old self.new }
+        ensures unchanged { OnErr result (self.new ≡ self.old) }
+    {
         let Some(first) = self.locks.first_notice(who)? else {
             return Ok(None);
         };
@@ -270,7 +319,12 @@ impl Authority for SourceDesk {
         Ok(Some(message))
     }
 
-    fn end_session(&mut self, who: u64) {
+    fn end_session(&mut self, who: u64)
+        ensures silent { owing_of self.new.locks who ≡ silent }
+        ensures silence { LeavesSilent who (owing_of self.old.locks) (owing_of self.new.locks) }
+        ensures locks { AllBecome self.old.locks (without who) self.new.locks }
+        ensures source { KeepsSource self.old self.new }
+    {
         self.locks.end_session(who);
     }
 }
