@@ -13,19 +13,10 @@ small one:
     select of all rows    the same on the table that grows: a walk over its rows
     step of one row       a change of one row is carried out, and a monitor of the table tells of it
 """
-import argparse
-import json
-import os
-import resource
-import subprocess
+from timing import arguments, compare, uuid
 
-ROOT = os.path.join(os.path.dirname(os.path.abspath(__file__)), "..")
 COLUMNS = {"columns": {"name": {"type": "string"}, "tags": {"type": {"key": "integer", "min": 0, "max": "unlimited"}}}}
 SCHEMA = {"name": "net", "version": "1.0.0", "tables": {"Large": COLUMNS, "Small": COLUMNS}}
-
-
-def uuid(number):
-    return f"11111111-0000-4000-8000-{number:012x}"
 
 
 def filling(rows):
@@ -55,42 +46,19 @@ def step(rows, times):
     return ["updates", "update2", {"Large": {}, "Small": {}}, [filling(rows)], steps]
 
 
-def processor_seconds():
-    used = resource.getrusage(resource.RUSAGE_CHILDREN)
-    return used.ru_utime + used.ru_stime
-
-
-def seconds(program, line):
-    text = "\n".join([json.dumps(["use", SCHEMA]), json.dumps(line)]) + "\n"
-    best = None
-    for _ in range(3):
-        begun = processor_seconds()
-        subprocess.run([program], input=text.encode(), stdout=subprocess.DEVNULL, check=True)
-        spent = processor_seconds() - begun
-        best = spent if best is None else min(best, spent)
-    return best
-
-
-def each(program, line, rows, times):
-    return (seconds(program, line(rows, 1 + times)) - seconds(program, line(rows, 1))) / times
-
-
 def main():
-    parser = argparse.ArgumentParser(description=__doc__, formatter_class=argparse.RawDescriptionHelpFormatter)
-    parser.add_argument("--program", default=os.path.join(ROOT, "crates", "ovs_cases", "out", "ovs_cases"))
+    parser = arguments(__doc__)
     parser.add_argument("--rows", type=int, default=100_000)
     parser.add_argument("--times", type=int, default=50_000)
     given = parser.parse_args()
+    few = max(given.times // 1000, 1)
     questions = [
-        ("select by id", by_id, given.times),
-        ("select of a table", by_name("Small"), given.times),
-        ("select of all rows", by_name("Large"), max(given.times // 1000, 1)),
-        ("step of one row", step, given.times),
+        ("select by id", by_id, given.times, given.times),
+        ("select of a table", by_name("Small"), given.times, given.times),
+        ("select of all rows", by_name("Large"), given.times, few),
+        ("step of one row", step, given.times, given.times),
     ]
-    print(f"{'':20}{'10 rows':>12}{given.rows:>12,}{'ratio':>10}")
-    for name, line, times in questions:
-        small, large = each(given.program, line, 10, given.times), each(given.program, line, given.rows, times)
-        print(f"{name:20}{small * 1e6:10.1f}us{large * 1e6:10.1f}us{large / small:10.2f}")
+    compare(given.program, SCHEMA, (10, given.rows), questions)
 
 
 main()
