@@ -8,4 +8,4 @@ use Rattle.ovs_cases.proofs.sources.transaction.Goals as goal
 pub outcome-requires : goal.outcome-requires
 outcome-requires c =
     let schema = c.schema.ensures.value ∙ ap (λ (s : Stored). s.schema) c.store.ensures.value in
-    record { tables = subst (λ (s : SchemaValue). IfSome c.in-Ok.done.link (λ l. IsChangeOf s.description.tables l.change)) (sym schema) c.in-Ok.ensures.tables; }
+    record { tables = subst (λ (s : SchemaValue). IfSome c.in-Ok.done.link (λ l. IsChangeOf s.description.tables l.change)) (sym schema) c.in-Ok.ensures.tables }
