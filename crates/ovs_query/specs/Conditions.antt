@@ -1,9 +1,10 @@
 -- Conditions on rows (RFC 7047 section 5.1).
-use Rattle.std.specs.Prelude.{◌≡◌, ℕ, List, [], ◌∷◌, Bool, true, false, not, Option, Some, None, length, ◌==◌, ◌||◌}
+use Rattle.std.specs.Prelude.{◌≡◌, ℕ, List, [], ◌∷◌, Bool, true, false, not, Option, Some, None, length, is_none, ◌==◌, ◌||◌}
 use Rattle.std.specs.List.{list_all, list_any}
 use Rattle.std.specs.declared.cmp.Ordering.{Ordering}
 use Rattle.std.specs.Ordering.{is_lt, is_le, is_gt, is_ge, is_some_and}
 use Rattle.ovs_data.specs.declared.atom.Atom.{Atom}
+use Rattle.ovs_data.specs.declared.atom.Atom.TheVariants.{Uuid}
 use Rattle.ovs_data.specs.declared.datum.Datum.{Datum}
 use Rattle.ovs_types.specs.Atom.{atom_cmp}
 use Rattle.ovs_types.specs.Conditions.{includes, excludes}
@@ -15,6 +16,8 @@ use Rattle.ovs_query.specs.declared.conditions.Test.TheVariants.{Less, AtMost, A
 use Rattle.ovs_query.specs.declared.conditions.Condition.{Condition}
 use Rattle.ovs_query.specs.declared.clauses.Clause.{Clause}
 use Rattle.ovs_query.specs.declared.clauses.Clause.TheVariants.{Always, Where}
+use Rattle.ovs_query.specs.declared.shown.Field.{Field}
+use Rattle.ovs_query.specs.declared.shown.Field.TheVariants.{Id}
 use Rattle.ovs_query.specs.Shown.{datum_at}
 
 -- how the one element stands to the other one; none, where there isn't one in both
@@ -48,6 +51,19 @@ holds id row c = passes_at c.test c.value (datum_at c.field id row)
 -- all of them do
 abbrev pub all_hold : List Condition → ℕ → Row → Bool
 all_hold cs id row = list_all (holds id row) cs
+
+-- the one id of a value
+abbrev pub one_id : List Atom → Option ℕ
+one_id (Uuid id ∷ []) = Some id
+one_id atoms = None
+
+-- the id that `_uuid` has to be equal to, if the condition says so
+abbrev pub equal_id : Field → Test → Datum → Option ℕ
+equal_id Id Equal value = one_id (elements_of value)
+equal_id field test value = None
+
+abbrev pub names_no_row : Condition → Bool
+names_no_row c = is_none (equal_id c.field c.test c.value)
 
 -- no row but that of this id can match
 abbrev pub AdmitOnly : ℕ → List Condition → Type 0

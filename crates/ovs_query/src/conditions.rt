@@ -1,11 +1,11 @@
 //! Conditions on rows (RFC 7047 section 5.1).
 
-ghost use Rattle.std.specs.Prelude.{◌≡◌, ℕ, true, not, IfSome};
+ghost use Rattle.std.specs.Prelude.{◌≡◌, ℕ, true, not, IfSome, IfNone};
 ghost use Rattle.std.specs.List.{list_all};
 ghost use Rattle.ovs_types.specs.Conditions.{includes, excludes};
 ghost use Rattle.ovs_types.specs.Datum.{has_element};
 ghost use Rattle.ovs_query.specs.Shown.{id_datum};
-ghost use Rattle.ovs_query.specs.Conditions.{order_of, passes, holds, all_hold, AdmitOnly};
+ghost use Rattle.ovs_query.specs.Conditions.{order_of, passes, holds, all_hold, equal_id, names_no_row, AdmitOnly};
 
 use crate::shown::Field;
 use ovs_rows::Row;
@@ -128,6 +128,7 @@ fn id_passes(test: Test, id: RowId, value: &Datum) -> bool
 impl Condition {
     // The id that the condition asks of a row, if it asks for one.
     fn row_id(&self) -> Option<RowId>
+        ensures value { result ≡ equal_id self.now.field self.now.test self.now.value }
         ensures alone { IfSome result (λ id. (other : ℕ) → (row : _) → holds other row self.now ≡ true → other ≡ id) }
     {
         match (self.field, self.test) {
@@ -181,8 +182,10 @@ impl Conditions {
     }
 
     /// The id that a row has to have, where one of the conditions is that `_uuid` is equal to it: no other row matches.
+    /// `None` where none of them says so.
     pub fn row_id(&self) -> Option<RowId>
         ensures alone { IfSome result (λ id. AdmitOnly id self.now) }
+        ensures none { IfNone result (list_all names_no_row self.now ≡ true) }
     {
         for condition in &self.items {
             if let Some(id) = condition.row_id() {
