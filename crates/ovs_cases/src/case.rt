@@ -2,8 +2,8 @@
 
 use crate::fault::Fault;
 use crate::{
-    changes, data, desks, devices, folds, ids, locks, messages, queries, schemas, scripts, sources,
-    stores, streams,
+    changes, data, desks, devices, folds, forwards, ids, locks, messages, queries, schemas,
+    scripts, sources, stores, streams,
 };
 use ovs_types::Schema;
 use serde_json::Value;
@@ -80,6 +80,7 @@ fn alone(alloc: Global, what: &str, parts: &[Value]) -> Result<Option<String>, F
         "cut anywhere" => streams::cut_anywhere(alloc, parts)?,
         "message" => messages::message(alloc, parts)?,
         "locks" => locks::locks(alloc, parts)?,
+        "forwards" => forwards::forwards(alloc, parts)?,
         "counted" => devices::counted(alloc, parts)?,
         "fold bytes" => folds::fold_bytes(alloc, parts)?,
         "script" => scripts::script(alloc, parts)?,

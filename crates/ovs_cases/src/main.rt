@@ -12,6 +12,7 @@ mod desks;
 mod devices;
 mod fault;
 mod folds;
+mod forwards;
 mod ids;
 mod locks;
 mod messages;

@@ -1,0 +1,5 @@
+pub mod Firsts
+pub mod Numbers
+pub mod Places
+pub mod Search
+pub mod Steps
