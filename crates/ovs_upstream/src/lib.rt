@@ -7,4 +7,4 @@ mod pending;
 
 pub use error::{ForwardError, Unknown};
 pub use forwards::Forwards;
-pub use pending::{Answer, Pending, Request, State};
+pub use pending::{Answer, Pending, Request, Sought, State};
