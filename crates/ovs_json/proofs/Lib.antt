@@ -2,3 +2,4 @@ pub mod Steps
 pub mod Found
 pub mod FaultOrder
 pub mod Given
+pub mod SameLemmas

@@ -6,3 +6,4 @@ pub mod Putting
 pub mod Items
 pub mod Members
 pub mod FirstFault
+pub mod Same

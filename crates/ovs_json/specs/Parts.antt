@@ -1,8 +1,8 @@
 -- Parts of JSON values.
-use Rattle.std.specs.Prelude.{ℕ, List, [], ◌∷◌, Bool, false, Option, Some, None, option_and_then, nat_eq, if◌then◌else◌}
+use Rattle.std.specs.Prelude.{ℕ, List, [], ◌∷◌, Bool, true, false, Option, Some, None, option_and_then, nat_eq, if◌then◌else◌}
 use Rattle.std.specs.Cmp.Lexicographic.{pointwise}
 use Rattle.std.specs.Str.{is_utf8}
-use Rattle.serde_json.specs.Data.{Data, Items, no_items, item}
+use Rattle.serde_json.specs.Data.{Data, object, no_members, Items, no_items, item}
 use Rattle.serde_json.specs.Find.{as_str, as_array}
 use Rattle.serde_json.specs.Read.{read}
 
@@ -70,6 +70,11 @@ two_items d = option_and_then two_of (as_array d)
 -- the three items of a list of three
 abbrev pub three_items : Data → Option (Data × Data × Data)
 three_items d = option_and_then three_of (as_array d)
+
+-- whether a value is the object without members
+abbrev pub is_empty_object : Data → Bool
+is_empty_object (object no_members) = true
+is_empty_object d = false
 
 -- the second item of a list of two whose first is this text
 abbrev pub under : List ℕ → Data → Option Data

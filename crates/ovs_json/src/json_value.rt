@@ -1,9 +1,12 @@
 //! JSON values that structs may hold.
 
-ghost use Rattle.std.specs.Prelude.{◌≡◌, IfOk};
+ghost use Rattle.std.specs.Prelude.{◌≡◌, ◌↔◌, IfOk, IsTrue};
 ghost use Rattle.serde_json.specs.View.{view};
+ghost use Rattle.ovs_json.specs.JsonCode.{json_code};
+ghost use Rattle.ovs_json.specs.Same.{is_same};
 
 use crate::no_memory::NoMemory;
+use crate::same::same_json;
 use serde_json::Value;
 use std::marker::Model;
 
@@ -53,5 +56,13 @@ impl Json {
     {
         let value = self.value.clone()?;
         Ok(Json { value })
+    }
+
+    /// Whether the two are equal, as `same_json` compares them.
+    pub fn same(&self, other: &Json) -> bool
+        ensures value { result ≡ is_same json_code self.now other.now }
+        ensures same { IsTrue result ↔ (self.now ≡ other.now) }
+    {
+        same_json(&self.value, &other.value)
     }
 }

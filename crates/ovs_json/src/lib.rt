@@ -5,12 +5,17 @@ mod first_fault;
 mod json_value;
 mod no_memory;
 mod parts;
+mod same;
 mod text;
 mod writing;
 
 pub use first_fault::{Fault, both, with_one};
 pub use json_value::Json;
 pub use no_memory::NoMemory;
-pub use parts::{begins_with, is_word, list_under, read_json, three_items, two_items, under};
+pub use parts::{
+    all_three_of, begins_with, is_empty_object, is_word, list_under, read_json, three_items,
+    two_items, under,
+};
+pub use same::same_json;
 pub use text::Text;
 pub use writing::{listed, put, text_json, two, under_name};

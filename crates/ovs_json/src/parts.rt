@@ -2,7 +2,7 @@
 
 ghost use Rattle.std.specs.Prelude.{◌≡◌, IfOk, option_map};
 ghost use Rattle.serde_json.specs.View.{view, items_view};
-ghost use Rattle.ovs_json.specs.Parts.{is_word, begins_with, both_of, all_three_of, two_items, three_items, under, list_under, json_of};
+ghost use Rattle.ovs_json.specs.Parts.{is_word, begins_with, both_of, all_three_of, two_items, three_items, is_empty_object, under, list_under, json_of};
 
 use crate::no_memory::NoMemory;
 use serde_json::Value;
@@ -51,8 +51,8 @@ pub fn two_items(value: &Value) -> Option<(&Value, &Value)>
     }
 }
 
-// All of three items.
-fn all_three_of<T>(items: &[T]) -> Option<(&T, &T, &T)>
+/// All of three items, where there are three.
+pub fn all_three_of<T>(items: &[T]) -> Option<(&T, &T, &T)>
     ensures value { option_map (λ p. (p.0.now, p.1.now, p.2.now)) result ≡ all_three_of items.now }
 {
     match items {
@@ -68,6 +68,16 @@ pub fn three_items(value: &Value) -> Option<(&Value, &Value, &Value)>
     match value {
         Value::Array(items) => all_three_of(items),
         _ => None,
+    }
+}
+
+/// Whether a value is the object without members.
+pub fn is_empty_object(value: &Value) -> bool
+    ensures value { result ≡ is_empty_object (view value.now) }
+{
+    match value {
+        Value::Object(members) => members.is_empty(),
+        _ => false,
     }
 }
 

@@ -10,7 +10,6 @@ pub mod JoinLemmas
 pub mod AppendLemmas
 pub mod MergeLemmas
 pub mod LongestLemmas
-pub mod SameLemmas
 pub mod ValueLemmas
 pub mod TakeOutcomes
 pub mod ChainOutcomes

@@ -177,3 +177,11 @@ is_step_at f (suc n) s k past e =
 pub step_leads : (f : FoldedValue) (n : ℕ) (o : Option Step) → n ≢ 0 → o ≡ slice_get f.steps (n - 1) → IsFoldedChain f → IfSome o (IsStepAt f n)
 step_leads f n None past e k = tt
 step_leads f n (Some s) past e k = is_step_at f n s k past (sym e)
+
+-- the head is the id of the last step
+pub last_head : (from : ℕ) (ss : List Step) (s : Step) → slice_get ss (length ss - 1) ≡ Some s → head_after_steps from ss ≡ s.id
+last_head from [] s e = absurd (let none : None ≡ Some s = e in cc)
+last_head from (t ∷ []) s e = let same : t ≡ s = cc in ap (λ (x : Step). x.id) same
+last_head from (t ∷ u ∷ ss) s e =
+    let place : length (t ∷ u ∷ ss) - 1 ≡ suc (length (u ∷ ss) - 1) = omega arith in
+    last_head t.id (u ∷ ss) s (subst (λ k. slice_get (t ∷ u ∷ ss) k ≡ Some s) place e)

@@ -17,7 +17,7 @@ use Rattle.ovs_links.specs.declared.answer.Took.TheVariants.{New, Held}
 use Rattle.ovs_links.specs.declared.answer.TakeError.{TakeError}
 use Rattle.ovs_links.specs.declared.answer.TakeError.TheVariants.{Fork, Full, NoMemory}
 use Rattle.ovs_links.proofs.JoinLemmas.{Links, IsKeyed, at_prev}
-use Rattle.ovs_links.proofs.SameLemmas.{same_alike, same_itself, not_same}
+use Rattle.ovs_json.proofs.SameLemmas.{same_alike, same_itself, not_same}
 use Rattle.ovs_links.proofs.ValueLemmas.{none_passes, one_passes, found_passes, none_found_passes}
 
 abbrev pub Answer : Type 0

@@ -1,3 +1,4 @@
+pub use Rattle.ovs_json.specs.Same
 pub mod Link
 pub mod Sets
 pub mod Chains
@@ -13,6 +14,5 @@ pub mod MergeLists
 pub mod Parked
 pub mod Merging
 pub mod Runs
-pub mod Same
 pub mod Outcomes
 pub mod Settling

@@ -1,6 +1,6 @@
 -- A database with its steps as a chain of its own: what the steps alone say.
-use Rattle.std.specs.Prelude.{◌≡◌, ◌≢◌, ◌≤◌, ◌^◌, ◌-◌, ℕ, List, [], ◌∷◌, length, take}
-use Rattle.std.specs.List.{AllByRecursion}
+use Rattle.std.specs.Prelude.{◌≡◌, ◌≢◌, ◌≤◌, ◌^◌, ◌-◌, ◌==◌, ℕ, List, [], ◌∷◌, Option, Some, if◌then◌else◌, length, take}
+use Rattle.std.specs.List.{AllByRecursion, position_from}
 use Rattle.ovs_rows.specs.Row.{Rows, no_rows}
 use Rattle.ovs_rows.specs.After.{applied_to, AreFrom}
 use Rattle.ovs_links.specs.Steps.{FoldedValue}
@@ -57,3 +57,7 @@ pub record IsStepAt (f : FoldedValue) (n : ℕ) (s : Step) : Type 0 where
 -- after this many steps the head is this one: so it extends what was shown with that many steps and that head
 abbrev pub ExtendsShown : FoldedValue → ℕ → ℕ → Type 0
 ExtendsShown f shown head = (shown ≤ length f.steps) × (head_at f shown ≡ head)
+
+-- how many steps there are up to this id: 0 is the id before the first
+abbrev pub position_in : FoldedValue → ℕ → Option ℕ
+position_in f id = if id == 0 then Some 0 else position_from (λ s. s.id == id) 1 f.steps

@@ -1,12 +1,13 @@
 //! A database with the steps that led to it.
 
-ghost use Rattle.std.specs.Prelude.{◌≡◌, ◌<◌, ◌==◌, ℕ, [], true, length, find, slice_index_or, Some, None, IfOk, OnOk, OnErr, IfSome, MatchOption};
+ghost use Rattle.std.specs.Prelude.{◌≡◌, ◌<◌, ◌==◌, ℕ, suc, [], true, length, find, slice_index_or, Some, None, IfOk, OnOk, OnErr, IfSome, MatchOption, option_map};
 ghost use Rattle.std.specs.Option.{option_copied};
+ghost use Rattle.std.specs.List.{position_from};
 ghost use Rattle.ovs_rows.specs.After.{fits};
 ghost use Rattle.ovs_links.specs.Sets.{IsOfTables};
 ghost use Rattle.ovs_links.specs.Store.{at_number};
 ghost use Rattle.ovs_links.specs.Steps.{folded_of, folded_with, tables_in};
-ghost use Rattle.ovs_links.specs.StepChains.{IsFoldedChain, IsStepAt, ExtendsShown};
+ghost use Rattle.ovs_links.specs.StepChains.{IsFoldedChain, IsStepAt, ExtendsShown, head_after_steps, position_in};
 ghost use Rattle.ovs_links.specs.declared.step.Step.{Step};
 
 use crate::link::Link;
@@ -20,6 +21,7 @@ use std::marker::Model;
 fn place_of_step(steps: &[Step], id: TxnId) -> Option<usize>
     ensures found { MatchOption result (find (λ (s : Step). s.id == id) steps.now ≡ None)
         (λ k. (k < length steps.now) × ((d : Step) → (slice_index_or steps.now k d).id ≡ id)) }
+    ensures first { option_map suc result ≡ position_from (λ (s : Step). s.id == id) 1 steps.now }
 {
     for (k, step) in steps.iter().enumerate() {
         if step.id == id {
@@ -98,9 +100,20 @@ impl Folded {
         self.steps.get(n - 1)
     }
 
+    /// The id after the last step, 0 where there is none.
+    pub fn head(&self) -> TxnId
+        ensures value { result ≡ head_after_steps 0 self.now.steps }
+    {
+        match self.steps.last() {
+            Some(step) => step.id,
+            None => TxnId::zero(),
+        }
+    }
+
     /// How many steps there are up to this id: 0 for the id 0, k for the id of the k-th step, else none. On a chain
     /// each id stands at one place.
     pub fn position_of(&self, id: TxnId) -> Option<usize>
+        ensures value { result ≡ position_in self.now id }
         ensures place { MatchOption result ((k : ℕ) → ¬ (ExtendsShown self.now k id)) (λ k. ExtendsShown self.now k id) }
         ensures only { IsFoldedChain self.now → (k : ℕ) → ExtendsShown self.now k id → result ≡ Some k }
     {

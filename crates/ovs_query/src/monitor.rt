@@ -117,6 +117,13 @@ pub struct Monitor {
 }
 
 impl Monitor {
+    /// How its updates are written.
+    pub fn notation(&self) -> Notation
+        ensures value { result ≡ self.now.notation }
+    {
+        self.notation
+    }
+
     /// The rows that the monitor shows at first, of the tables that ask for them, in its notation: each table that has any
     /// by name, as an object of those rows by id. In `update2` and `update3` a row is `{"initial": row}` with the columns
     /// that aren't at their default, in `update` it is `{"new": row}` with all that are shown.

@@ -1,10 +1,11 @@
 //! The id of a request and its reply.
 ghost use Rattle.std.specs.Prelude.{◌≡◌, ◌≢◌, IfOk};
-ghost use Rattle.serde_json.specs.Data.{null};
+ghost use Rattle.serde_json.specs.Data.{null, string};
 ghost use Rattle.serde_json.specs.View.{view};
 
-use ovs_json::NoMemory;
+use ovs_json::{NoMemory, text_json};
 use serde_json::Value;
+use std::alloc::Global;
 use std::marker::Model;
 
 /// The id of a request and of its reply: any JSON value but null (JSON-RPC 1.0; RFC 7047 section 4.1).
@@ -49,6 +50,18 @@ impl Id {
         Id {
             value: Value::from(number),
         }
+    }
+
+    /// The id that is this text.
+    ///
+    /// # Errors
+    /// `NoMemory` alone.
+    pub fn from_text(alloc: Global, text: &str) -> Result<Id, NoMemory>
+        ensures value { IfOk result (λ i. i ≡ string text.now) }
+    {
+        Ok(Id {
+            value: text_json(alloc, text)?,
+        })
     }
 
     /// The number that the id is, if it is an integer from 0 to `u64::MAX` without fraction or exponent.

@@ -3,7 +3,7 @@ use Rattle.ovs_links.specs.contracts.link.Link as link_row
 use Rattle.ovs_links.specs.Sets.{Among, Contradict, Holds, IsConsistent}
 use Rattle.ovs_links.specs.Outcomes.{same_link}
 use Rattle.ovs_links.specs.declared.link.Link.{Link}
-use Rattle.ovs_links.proofs.SameLemmas.{same_alike}
+use Rattle.ovs_json.proofs.SameLemmas.{same_alike}
 use Rattle.ovs_links.proofs.TakeOutcomes.{different}
 use Rattle.ovs_links.proofs.laws.consistent_sets_have_no_contradiction.Goals as goal
 

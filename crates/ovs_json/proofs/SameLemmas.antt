@@ -1,8 +1,10 @@
 -- Values are the same exactly where the test says so.
-use Rattle.std.proofs.Common.{◌≡◌, Bool, true, false, refl, ap}
+use Rattle.std.proofs.Common.{◌≡◌, Bool, true, false, refl, ap, subst}
 use Rattle.std.proofs.lemmas.Bool.{eqb-true, eq-eqb, and_parts, and_from}
+use Rattle.std.proofs.lemmas.Bool.Decides.{same_from_decides}
+use Rattle.std.specs.Bool.{Decides}
 use base.Stored.{Gv, gnil, gnum, gcons, Coded}
-use Rattle.ovs_links.specs.Same.{same_code, is_same}
+use Rattle.ovs_json.specs.Same.{same_code, is_same}
 
 alike : (x y : Gv) → same_code x y ≡ true → x ≡ y
 alike gnil gnil e = refl
@@ -27,6 +29,13 @@ same_alike coded x y e = coded.inj x y (alike (coded.code x) (coded.code y) e)
 
 pub same_itself : {A : Type 0} (coded : Coded A) (x : A) → is_same coded x x ≡ true
 same_itself coded x = itself (coded.code x)
+
+pub same_decides : {A : Type 0} (coded : Coded A) (x y : A) → Decides (is_same coded x y) (x ≡ y)
+same_decides coded x y = (same_alike coded x y, λ e. subst (λ z. is_same coded x z ≡ true) e (same_itself coded x))
+
+-- any other test that says so gives the same answer
+pub same_answer : {A : Type 0} (coded : Coded A) (x y : A) (answer : Bool) → Decides answer (x ≡ y) → answer ≡ is_same coded x y
+same_answer coded x y answer decides = same_from_decides answer (is_same coded x y) decides (same_decides coded x y)
 
 pub not_same : {A : Type 0} (coded : Coded A) (x y : A) → ¬ (x ≡ y) → is_same coded x y ≡ false
 not_same coded x y n = cases (is_same coded x y) refl
