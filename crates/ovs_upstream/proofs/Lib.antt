@@ -3,3 +3,8 @@ pub mod Numbers
 pub mod Places
 pub mod Search
 pub mod Steps
+pub mod Runs
+pub mod Quiet
+pub mod Streams
+pub mod OfTables
+pub mod Three

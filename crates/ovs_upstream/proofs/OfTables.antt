@@ -1,0 +1,85 @@
+-- The links that a session makes are of its schema's tables.
+use Rattle.std.proofs.Common.{◌≡◌, ◌==◌, ◌&&◌, ◌^◌, ℕ, Bool, true, false, cond, List, [], ◌∷◌, Ok, Err, refl, sym, subst}
+use Rattle.std.specs.Prelude.{Result, nat_le}
+use Rattle.serde_json.specs.Data.{Data}
+use Rattle.ovs_json.specs.Results.{◌>>=◌}
+use Rattle.ovs_types.specs.SchemaReading.{read_description}
+use Rattle.ovs_types.specs.declared.schema.Table.{Table}
+use Rattle.ovs_rows.specs.declared.error.ChangeError.{ChangeError}
+use Rattle.ovs_rows.specs.Change.{Actions}
+use Rattle.ovs_rows.specs.ChangeReading.{read_change}
+use Rattle.ovs_rows.proofs.ChangeLaws.{found}
+use Rattle.ovs_rows.proofs.ChangeTables.{of_tables}
+use Rattle.ovs_links.specs.Sets.{AllOf, IsOfTables}
+use Rattle.ovs_links.specs.declared.link.Link.{Link}
+use Rattle.ovs_upstream.specs.Requests.{monitor_request}
+use Rattle.ovs_json.specs.Parts.{is_empty_object}
+use Rattle.ovs_upstream.specs.Talk.{Talk, Schema, Reached, Update, Aside, Improper}
+use Rattle.ovs_upstream.specs.Hearing.{Hearing, heard, says, opened, are_ends, change_in, made, linked, placed, reached, hears_at, links_in}
+use Rattle.ovs_upstream.specs.declared.error.UpError.TheVariants.{OtherSchema, BadId}
+use Rattle.ovs_upstream.specs.declared.up_event.UpEvent.{UpEvent}
+use Rattle.ovs_upstream.specs.declared.up_event.UpEvent.TheVariants as event
+use Rattle.ovs_upstream.specs.declared.up_session.Heard.{Heard}
+use Rattle.ovs_upstream.specs.declared.up_session.Stage.{Stage}
+use Rattle.ovs_upstream.specs.declared.up_session.Stage.TheVariants as stage
+use Rattle.ovs_upstream.specs.declared.up_session.UpSession.{UpSession}
+use Rattle.ovs_upstream.proofs.Runs.{NoLinks}
+
+abbrev AreOf : List Table → Heard → Type 0
+AreOf tables h = AllOf (IsOfTables tables) (links_in h.event)
+
+abbrev same : Hearing → Hearing → Type 0
+same r q = r ≡ q
+
+given : (tables : List Table) (x h : Heard) → AreOf tables x → same (Ok x) (Ok h) → AreOf tables h
+given tables x h are e = let one : x ≡ h = cc in subst (AreOf tables) one are
+
+linked_of : (tables : List Table) (prev id : ℕ) (d : Data) (h : Heard) → linked tables prev id d ≡ Ok h → AreOf tables h
+linked_of tables prev id d h = by (are_ends prev id) (read_change tables d) refl
+  where
+    by : (b : Bool) (r : Result Actions ChangeError) → read_change tables d ≡ r → cond b (change_in r >>= made prev id) (Err BadId) ≡ Ok h → AreOf tables h
+    by true (Ok c) read e = given tables (record { stage = stage.At id; event = event.Links (record { prev = prev; id = id; change = c } ∷ []) }) h (of_tables tables d c (found tables d c read), tt) e
+    by true (Err fault) read e = absurd (cc e)
+    by false r read e = absurd (cc e)
+
+placed_of : (tables : List Table) (b : Bool) (id : ℕ) (h : Heard) → placed b id ≡ Ok h → AreOf tables h
+placed_of tables true id h e = given tables (record { stage = stage.At id; event = event.Nothing }) h tt e
+placed_of tables false id h e = absurd (cc e)
+
+either : (tables : List Table) (b : Bool) (x y : Hearing) (h : Heard) → (x ≡ Ok h → AreOf tables h) → (y ≡ Ok h → AreOf tables h) → cond b x y ≡ Ok h → AreOf tables h
+either tables true x y h f g e = f e
+either tables false x y h f g e = g e
+
+reached_of : (s : UpSession) (known : Bool) (id : ℕ) (d : Data) (h : Heard) → reached s known id d ≡ Ok h → AreOf s.schema.description.tables h
+reached_of s true id d h = either s.schema.description.tables (id == s.asked) (placed (is_empty_object d) id) (linked s.schema.description.tables s.asked id d) h
+    (placed_of s.schema.description.tables (is_empty_object d) id h) (linked_of s.schema.description.tables s.asked id d h)
+reached_of s false id d h = either s.schema.description.tables (nat_le (2 ^ 64) id) (linked s.schema.description.tables 0 id d) (placed ((id == 0) && is_empty_object d) id) h
+    (linked_of s.schema.description.tables 0 id d h) (placed_of s.schema.description.tables ((id == 0) && is_empty_object d) id h)
+
+opened_of : (s : UpSession) (d : Data) (h : Heard) → opened s d ≡ Ok h → AreOf s.schema.description.tables h
+opened_of s d h = by (says s.schema.description (read_description d))
+  where
+    by : (b : Bool) → cond b (heard stage.Asking (event.Send (monitor_request s.schema s.asked))) (Err OtherSchema) ≡ Ok h → AreOf s.schema.description.tables h
+    by true e = given s.schema.description.tables (record { stage = stage.Asking; event = event.Send (monitor_request s.schema s.asked) }) h tt e
+    by false e = absurd (cc e)
+
+aside_of : (tables : List Table) (at : Stage) (e : UpEvent) (h : Heard) → links_in e ≡ [] → heard at e ≡ Ok h → AreOf tables h
+aside_of tables at e h quiet same = given tables (record { stage = at; event = e }) h (subst (λ (ls : List Link). AllOf (IsOfTables tables) ls) (sym quiet) tt) same
+
+pub heard_of : (at : Stage) (s : UpSession) (t : Talk) (h : Heard) → NoLinks t → hears_at at s t ≡ Ok h → AllOf (IsOfTables s.schema.description.tables) (links_in h.event)
+heard_of stage.Ended s t h quiet e = absurd (cc e)
+heard_of stage.Opening s (Aside x) h quiet e = aside_of s.schema.description.tables stage.Opening x h quiet e
+heard_of stage.Asking s (Aside x) h quiet e = aside_of s.schema.description.tables stage.Asking x h quiet e
+heard_of (stage.At p) s (Aside x) h quiet e = aside_of s.schema.description.tables (stage.At p) x h quiet e
+heard_of stage.Opening s (Schema d) h quiet e = opened_of s d h e
+heard_of stage.Asking s (Reached known id d) h quiet e = reached_of s known id d h e
+heard_of (stage.At p) s (Update id d) h quiet e = linked_of s.schema.description.tables p id d h e
+heard_of stage.Opening s (Reached known id d) h quiet e = absurd (cc e)
+heard_of stage.Opening s (Update id d) h quiet e = absurd (cc e)
+heard_of stage.Opening s Improper h quiet e = absurd (cc e)
+heard_of stage.Asking s (Schema d) h quiet e = absurd (cc e)
+heard_of stage.Asking s (Update id d) h quiet e = absurd (cc e)
+heard_of stage.Asking s Improper h quiet e = absurd (cc e)
+heard_of (stage.At p) s (Schema d) h quiet e = absurd (cc e)
+heard_of (stage.At p) s (Reached known id d) h quiet e = absurd (cc e)
+heard_of (stage.At p) s Improper h quiet e = absurd (cc e)

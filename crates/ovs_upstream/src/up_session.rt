@@ -1,0 +1,321 @@
+//! A session with an upstream: its messages in, links out.
+
+ghost use Rattle.std.specs.Prelude.{◌≡◌, ◌≢◌, [], ◌∷◌, Err, IfOk, OnOk, OnErr, map};
+ghost use Rattle.serde_json.specs.View.{view};
+ghost use Rattle.ovs_json.specs.Gives.{Gives};
+ghost use Rattle.ovs_types.specs.SchemaReading.{read_description};
+ghost use Rattle.ovs_rows.specs.ChangeReading.{read_change};
+ghost use Rattle.ovs_links.specs.Sets.{AllOf, IsOfTables};
+ghost use Rattle.ovs_upstream.specs.Talk.{answer_in, schema_said, answer_said, number_said, reply_said, update_in, update_said, notice_said};
+ghost use Rattle.ovs_upstream.specs.Requests.{schema_request};
+ghost use Rattle.ovs_upstream.specs.Hearing.{says, change_in, heard, opened, linked, placed, reached, hears_at, hears, opening, at_stage, links_in};
+
+use crate::error::UpError;
+use crate::pending::Answer;
+use crate::requests::{monitor_request, schema_request};
+use crate::talk::{answer_in, noticed, replied, update_in};
+use crate::up_event::{Links, UpEvent};
+use ovs_json::{NoMemory, is_empty_object, is_word};
+use ovs_links::Link;
+use ovs_rows::{Change, ChangeError};
+use ovs_types::{DatumError, Schema, SchemaError, TxnId};
+use ovs_wire::{Id, Message};
+use serde_json::Value;
+use std::alloc::Global;
+
+// Numbers of requests that were passed on are below it.
+const NUMBERS_END: u64 = 1 << 63;
+
+/// How far a session has come.
+#[derive(Clone, Copy, Debug)]
+pub enum Stage {
+    /// The schema is awaited.
+    Opening,
+    /// The answer to the monitor is awaited.
+    Asking,
+    /// All up to the commit of this id was heard, or up to this start id.
+    At(TxnId),
+    /// It was given up.
+    Ended,
+}
+
+/// What was heard: the stage after it, and what it comes to.
+#[derive(Drop)]
+pub struct Heard {
+    pub stage: Stage,
+    pub event: UpEvent,
+}
+
+fn change_fault(fault: ChangeError) -> UpError
+    ensures told { result ≢ UpError.NoMemory → (result ≡ UpError.Change fault) × (fault ≢ ChangeError.NoMemory) }
+{
+    match fault {
+        ChangeError::NoMemory | ChangeError::Datum(DatumError::NoMemory) => UpError::NoMemory,
+        _ => UpError::Change(fault),
+    }
+}
+
+fn change_in(alloc: Global, updates: &Value, schema: &Schema) -> Result<Change, UpError>
+    ensures exact { Gives UpError.NoMemory (λ c. c) result (change_in (read_change schema.now.description.tables (view updates.now))) }
+{
+    match Change::read(alloc, updates, schema) {
+        Ok(change) => Ok(change),
+        Err(fault) => Err(change_fault(fault)),
+    }
+}
+
+// The link behind an id, after which the session stands at the link's own.
+fn linked(
+    alloc: Global,
+    schema: &Schema,
+    prev: TxnId,
+    id: TxnId,
+    updates: &Value,
+) -> Result<Heard, UpError>
+    ensures exact { Gives UpError.NoMemory (λ h. h) result (linked schema.now.description.tables prev id (view updates.now)) }
+{
+    if id.is_start() || id == prev {
+        return Err(UpError::BadId);
+    }
+    let change = change_in(alloc, updates, schema)?;
+    match Link::new(prev, id, change) {
+        Ok(link) => Ok(Heard {
+            stage: Stage::At(id),
+            event: UpEvent::Links(Links::one(alloc, link)?),
+        }),
+        Err(_) => Err(UpError::BadId),
+    }
+}
+
+fn placed(fits: bool, id: TxnId) -> Result<Heard, UpError>
+    ensures value { result ≡ placed fits id }
+{
+    if fits {
+        Ok(Heard {
+            stage: Stage::At(id),
+            event: UpEvent::Nothing,
+        })
+    } else {
+        Err(UpError::BadReply)
+    }
+}
+
+/// A relay's session with one of its upstreams: it follows the upstream's database from an id on, and makes links of what
+/// it is told.
+#[derive(Drop)]
+pub struct UpSession {
+    pub(crate) schema: Schema,
+    pub(crate) asked: TxnId,
+    pub(crate) stage: Stage,
+}
+
+impl UpSession {
+    /// A session that asks for what comes after an id, for databases of this schema.
+    ///
+    /// # Errors
+    /// `NoMemory` alone.
+    pub fn open(alloc: Global, schema: &Schema, asked: TxnId) -> Result<UpSession, NoMemory>
+        ensures value { IfOk result (λ s. s ≡ opening schema.now asked) }
+    {
+        Ok(UpSession {
+            schema: schema.copy(alloc)?,
+            asked,
+            stage: Stage::Opening,
+        })
+    }
+
+    /// What is sent first: the request for the schema (RFC 7047 section 4.1.2).
+    ///
+    /// # Errors
+    /// `NoMemory` alone.
+    pub fn first_requests(&self, alloc: Global) -> Result<Vec<Message>, NoMemory>
+        ensures value { IfOk result (λ ms. ms.items ≡ schema_request self.now.schema ∷ []) }
+    {
+        let mut messages = Vec::with_capacity(alloc, 1)?;
+        messages.push_reserved(schema_request(alloc, &self.schema)?);
+        Ok(messages)
+    }
+
+    /// Takes the next message of the upstream, and tells what it comes to.
+    ///
+    /// # Errors
+    /// The session is ended by each of them, and every later call answers `Ended`:
+    /// - `OtherSchema`: the upstream's database hasn't the same schema.
+    /// - `BadReply`: a message that may not come, or not yet.
+    /// - `BadId`: updates lead to a start id, or to the id at which the session stands.
+    /// - `Change`: updates are no change of the schema's tables.
+    /// - `NoMemory`.
+    pub fn take_message(&mut self, alloc: Global, message: Message) -> Result<UpEvent, UpError>
+        ensures heard { IfOk result (λ e. hears self.old message ≡ heard self.new.stage e) }
+        ensures refused { (e : UpError) → result ≡ Err e → e ≢ UpError.NoMemory → hears self.old message ≡ Err e }
+        // Its links are changes of the schema's tables.
+        ensures tables { IfOk result (λ e. AllOf (IsOfTables self.old.schema.description.tables) (links_in e)) }
+        ensures same { self.new ≡ at_stage self.old self.new.stage }
+        ensures ended { OnErr result (self.new.stage ≡ Stage.Ended) }
+        ensures over { self.old.stage ≡ Stage.Ended → result ≡ Err UpError.Ended }
+    {
+        if let Stage::Ended = self.stage {
+            return Err(UpError::Ended);
+        }
+        match self.hear(alloc, message) {
+            Ok(heard) => {
+                self.stage = heard.stage;
+                Ok(heard.event)
+            }
+            Err(error) => {
+                self.stage = Stage::Ended;
+                Err(error)
+            }
+        }
+    }
+
+    fn hear(&self, alloc: Global, message: Message) -> Result<Heard, UpError>
+        requires open { self.now.stage ≢ Stage.Ended }
+        ensures exact { Gives UpError.NoMemory (λ h. h) result (hears self.now message) }
+    {
+        match message {
+            Message::Request { method, params, id } => {
+                let reply = replied(alloc, method.as_str(), params, id)?;
+                Ok(self.aside(UpEvent::Send(reply)))
+            }
+            Message::Reply { result, error, id } => {
+                self.hear_reply(alloc, Answer { result, error }, &id)
+            }
+            Message::Notice { method, params } => {
+                self.hear_notice(alloc, method.as_str(), params.as_slice())
+            }
+        }
+    }
+
+    fn aside(&self, event: UpEvent) -> Heard
+        ensures value { result ≡ record { stage = self.now.stage; event = event } }
+    {
+        Heard {
+            stage: self.stage,
+            event,
+        }
+    }
+
+    fn hear_notice(&self, alloc: Global, method: &str, params: &[Value]) -> Result<Heard, UpError>
+        requires open { self.now.stage ≢ Stage.Ended }
+        ensures exact { Gives UpError.NoMemory (λ h. h) result (hears_at self.now.stage self.now (notice_said method.now (map view params.now))) }
+    {
+        if method == "update3" {
+            self.hear_update(alloc, params)
+        } else if method == "update" || method == "update2" {
+            Err(UpError::BadReply)
+        } else {
+            Ok(self.aside(noticed(alloc, method, params)?))
+        }
+    }
+
+    fn hear_update(&self, alloc: Global, params: &[Value]) -> Result<Heard, UpError>
+        requires open { self.now.stage ≢ Stage.Ended }
+        ensures exact { Gives UpError.NoMemory (λ h. h) result (hears_at self.now.stage self.now (update_said (update_in (map view params.now)))) }
+    {
+        let Some((id, updates)) = update_in(params) else {
+            return Err(UpError::BadReply);
+        };
+        match self.stage {
+            Stage::At(position) => linked(alloc, &self.schema, position, id, updates),
+            _ => Err(UpError::BadReply),
+        }
+    }
+
+    fn hear_reply(&self, alloc: Global, answer: Answer, id: &Id) -> Result<Heard, UpError>
+        requires open { self.now.stage ≢ Stage.Ended }
+        ensures exact { Gives UpError.NoMemory (λ h. h) result (hears_at self.now.stage self.now (reply_said answer id.now)) }
+    {
+        if is_word("schema", id.as_value()) {
+            self.hear_schema(alloc, &answer)
+        } else if is_word("monitor", id.as_value()) {
+            self.hear_answer(alloc, &answer)
+        } else {
+            self.hear_number(answer, id.as_number())
+        }
+    }
+
+    // The answer to a request that was passed on under a number.
+    fn hear_number(&self, answer: Answer, number: Option<u64>) -> Result<Heard, UpError>
+        requires open { self.now.stage ≢ Stage.Ended }
+        ensures value { result ≡ hears_at self.now.stage self.now (number_said answer number) }
+    {
+        match number {
+            Some(number) if number < NUMBERS_END => {
+                Ok(self.aside(UpEvent::ReplyFor { number, answer }))
+            }
+            _ => Err(UpError::BadReply),
+        }
+    }
+
+    fn hear_schema(&self, alloc: Global, answer: &Answer) -> Result<Heard, UpError>
+        requires open { self.now.stage ≢ Stage.Ended }
+        ensures exact { Gives UpError.NoMemory (λ h. h) result (hears_at self.now.stage self.now (schema_said answer.now)) }
+    {
+        match self.stage {
+            Stage::Opening if answer.error.as_value().is_null() => {
+                self.opened(alloc, answer.result.as_value())
+            }
+            _ => Err(UpError::BadReply),
+        }
+    }
+
+    // Whether JSON says the session's schema.
+    fn has_schema(&self, alloc: Global, schema: &Value) -> Result<bool, NoMemory>
+        ensures value { IfOk result (λ same. same ≡ says self.now.schema.description (read_description (view schema.now))) }
+    {
+        match Schema::read(alloc, schema) {
+            Ok(schema) => Ok(schema.same(&self.schema)),
+            Err(SchemaError::NoMemory) => Err(NoMemory),
+            Err(_) => Ok(false),
+        }
+    }
+
+    // Asks for what comes after the id, where the schema is the same.
+    fn opened(&self, alloc: Global, schema: &Value) -> Result<Heard, UpError>
+        ensures exact { Gives UpError.NoMemory (λ h. h) result (opened self.now (view schema.now)) }
+    {
+        if !self.has_schema(alloc, schema)? {
+            return Err(UpError::OtherSchema);
+        }
+        Ok(Heard {
+            stage: Stage::Asking,
+            event: UpEvent::Send(monitor_request(alloc, &self.schema, self.asked)?),
+        })
+    }
+
+    fn hear_answer(&self, alloc: Global, answer: &Answer) -> Result<Heard, UpError>
+        requires open { self.now.stage ≢ Stage.Ended }
+        ensures exact { Gives UpError.NoMemory (λ h. h) result (hears_at self.now.stage self.now (answer_said (answer_in answer.now))) }
+    {
+        let Some((known, id, updates)) = answer_in(answer) else {
+            return Err(UpError::BadReply);
+        };
+        match self.stage {
+            Stage::Asking => self.reached(alloc, known, id, updates),
+            _ => Err(UpError::BadReply),
+        }
+    }
+
+    // Stands where the answer leads.
+    fn reached(
+        &self,
+        alloc: Global,
+        known: bool,
+        id: TxnId,
+        updates: &Value,
+    ) -> Result<Heard, UpError>
+        ensures exact { Gives UpError.NoMemory (λ h. h) result (reached self.now known id (view updates.now)) }
+    {
+        let nothing = is_empty_object(updates);
+        if known && id == self.asked {
+            placed(nothing, id)
+        } else if known {
+            linked(alloc, &self.schema, self.asked, id, updates)
+        } else if id.is_start() {
+            placed(id == TxnId::zero() && nothing, id)
+        } else {
+            linked(alloc, &self.schema, TxnId::zero(), id, updates)
+        }
+    }
+}
