@@ -2,8 +2,8 @@
 
 use crate::fault::Fault;
 use crate::{
-    changes, data, desks, devices, folds, forwards, ids, locks, messages, queries, schemas,
-    scripts, sources, stores, streams,
+    changes, data, desks, devices, folds, forwards, ids, locks, messages, queries, readers,
+    schemas, scripts, sources, stores, streams, upstreams,
 };
 use ovs_types::Schema;
 use serde_json::Value;
@@ -54,6 +54,8 @@ fn of_schema(alloc: Global, schema: &Schema, what: &str, parts: &[Value]) -> Res
         "updates" => queries::updates(alloc, schema, parts),
         "source" => sources::source(alloc, schema, parts),
         "desk" => desks::desk(alloc, schema, parts),
+        "upstream" => upstreams::upstream(alloc, schema, parts),
+        "reader" => readers::reader(alloc, schema, parts),
         _ => Err(Fault::Malformed),
     }
 }

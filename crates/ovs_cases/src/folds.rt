@@ -32,8 +32,8 @@ fn replaced(alloc: Global, text: &str, part: &str, by: &str) -> Result<String, F
     Ok(told)
 }
 
-// A line as it is read: each text of one letter is spelled out.
-fn spelled_out(alloc: Global, line: &Value) -> Result<String, Fault> {
+/// A line as it is read: each text of one letter is spelled out.
+pub(crate) fn spelled_out(alloc: Global, line: &Value) -> Result<String, Fault> {
     let mut text = line.to_string(alloc)?;
     for (letter, id) in IDS {
         let short = format!(in alloc; "\"{letter}\"")?;
@@ -43,8 +43,8 @@ fn spelled_out(alloc: Global, line: &Value) -> Result<String, Fault> {
     Ok(text)
 }
 
-// What was written in one line, the ids as letters.
-fn shortened(alloc: Global, text: &str) -> Result<String, Fault> {
+/// What was written in one line, the ids as letters.
+pub(crate) fn shortened(alloc: Global, text: &str) -> Result<String, Fault> {
     let mut text = replaced(alloc, text, "\n", " | ")?;
     for (letter, id) in IDS {
         text = replaced(alloc, text.as_str(), id, letter)?;

@@ -17,11 +17,13 @@ mod ids;
 mod locks;
 mod messages;
 mod queries;
+mod readers;
 mod schemas;
 mod scripts;
 mod sources;
 mod stores;
 mod streams;
+mod upstreams;
 
 use fault::Fault;
 use ovs_types::Schema;

@@ -53,7 +53,8 @@ fn change_text(alloc: Global, schema: &Schema, change: &Change) -> Result<String
     Ok(change.to_json(alloc, schema)?.to_string(alloc)?)
 }
 
-fn link_text(alloc: Global, schema: &Schema, link: &Link) -> Result<String, Fault>
+/// The link's ids and its change.
+pub(crate) fn link_text(alloc: Global, schema: &Schema, link: &Link) -> Result<String, Fault>
     requires tables { IsChangeOf schema.now.description.tables link.now.change }
 {
     let change = change_text(alloc, schema, link.change())?;

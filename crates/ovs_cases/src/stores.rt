@@ -54,8 +54,11 @@ fn refused_text(alloc: Global, error: &TakeError) -> Result<String, Fault> {
     }
 }
 
-fn take(alloc: Global, store: &mut LinkStore, parts: &[Value]) -> Result<String, Fault>
+/// Takes a link, and says how it went.
+pub(crate) fn take(alloc: Global, store: &mut LinkStore, parts: &[Value]) -> Result<String, Fault>
     ensures tables { tables_of store.new ≡ tables_of store.old }
+    ensures schema { store.new.schema ≡ store.old.schema }
+    ensures folded { store.new.folded ≡ store.old.folded }
 {
     let link = link(alloc, store.schema(), parts)?;
     match store.take(link) {
@@ -111,8 +114,8 @@ fn take_all(alloc: Global, store: &mut LinkStore, links: &[Value]) -> Result<(),
     Ok(())
 }
 
-// A settled store of these links.
-fn settled(alloc: Global, schema: &Schema, links: &[Value]) -> Result<LinkStore, Fault>
+/// A settled store of these links.
+pub(crate) fn settled(alloc: Global, schema: &Schema, links: &[Value]) -> Result<LinkStore, Fault>
     ensures tables { IfOk result (λ store. tables_of store ≡ schema.now.description.tables) }
 {
     let mut store = LinkStore::new(alloc, schema)?;
