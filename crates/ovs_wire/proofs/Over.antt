@@ -1,5 +1,5 @@
 -- Balanced bytes above the limits.
-use Rattle.std.proofs.Common.{◌≡◌, ℕ, zero, suc, ◌+◌, ◌<◌, ◌≤◌, ◌⊎◌, ⊎_elim, inl, inr, List, [], ◌∷◌, ◌++◌, length, take, drop, get_or, sym, ap, ◌∙◌, subst, arith, add-one, append_assoc, length-append}
+use Rattle.std.proofs.Common.{◌≡◌, ℕ, zero, suc, ◌+◌, ◌-◌, ◌<◌, ◌≤◌, ◌⊎◌, ⊎_elim, inl, inr, List, [], ◌∷◌, ◌++◌, length, take, drop, get_or, sym, ap, ◌∙◌, subst, arith, add-one, append_assoc, length-append}
 use Rattle.std.proofs.lemmas.Bool.{cases_lt}
 use Rattle.std.proofs.lemmas.List.{take_more, take_all, take-append-drop, length-take-le, take-append-le}
 use Rattle.std.proofs.Math.Seq.{take-length}
@@ -7,9 +7,9 @@ use Rattle.ovs_wire.specs.declared.error.FrameError.{FrameError}
 use Rattle.ovs_wire.specs.declared.error.FrameError.TheVariants.{TooDeep, TooLong}
 use Rattle.ovs_wire.specs.Limits.{most_nesting, most_bytes}
 use Rattle.ovs_wire.specs.Depth.{depth}
-use Rattle.ovs_wire.specs.Frames.{IsBalanced, IsUnfinished, HasFault, Breaks, AreFrames, Fault}
+use Rattle.ovs_wire.specs.Frames.{IsBalanced, IsObject, IsUnfinished, IsTooLarge, HasFault, Breaks, AreFrames, Fault}
 use Rattle.ovs_wire.proofs.Cuts.{nothing, only_fault}
-use Rattle.ovs_wire.proofs.NextByte.{unfinished_more, deeper}
+use Rattle.ovs_wire.proofs.NextByte.{unfinished_more, object_whole, deeper}
 
 -- a fault at the byte after the first k
 fault_after : (o : List ℕ) (k : ℕ) (f : FrameError) → k < length o → IsUnfinished (take k o)
@@ -109,20 +109,42 @@ too_long o is long low = only_fault o TooLong (⊎_elim (long_by o long low)
     (up_to o most_bytes is long (omega arith)))
 
 -- the byte that is one too many is one of the two faults
-either_by : (o : List ℕ) → IsBalanced o → most_bytes < length o → IsUnfinished (take most_bytes o)
-    → AreFrames o [] (Fault TooDeep) ⊎ AreFrames o [] (Fault TooLong)
-either_by o is long unfinished =
+long_either : (o : List ℕ) → IsBalanced o → most_bytes < length o → IsUnfinished (take most_bytes o) → IsTooLarge o
+long_either o is long unfinished =
     let next : take (most_bytes + 1) o ≡ take most_bytes o ++ get_or o most_bytes 0 ∷ [] = take_more o most_bytes 0 long in
     ⊎_elim
-    (λ (deep : most_nesting < depth (take (most_bytes + 1) o)). inl
-    (only_fault o TooDeep (deep_after o most_bytes is long (omega arith) deep)))
+    (λ (deep : most_nesting < depth (take (most_bytes + 1) o)). inl (deep_after o most_bytes is long (omega arith) deep))
     (λ (low : depth (take (most_bytes + 1) o) ≤ most_nesting). inr
-    (only_fault o TooLong (fault_after o most_bytes TooLong long unfinished
-    (length-take-le most_bytes o (omega arith), subst (λ (l : List ℕ). depth l ≤ most_nesting) next low))))
+    (fault_after o most_bytes TooLong long unfinished
+    (length-take-le most_bytes o (omega arith), subst (λ (l : List ℕ). depth l ≤ most_nesting) next low)))
     (cases_lt most_nesting (depth (take (most_bytes + 1) o)))
+
+above : (o : List ℕ) → IsBalanced o → most_bytes < length o → IsTooLarge o
+above o is long = ⊎_elim (long_either o is long) (λ (h : HasFault o TooDeep). inl h) (up_to o most_bytes is long (omega arith))
 
 -- above the limit of length it is one of the two
 pub either : (o : List ℕ) → IsBalanced o → most_bytes < length o
     → AreFrames o [] (Fault TooDeep) ⊎ AreFrames o [] (Fault TooLong)
-either o is long = ⊎_elim (either_by o is long) (λ (h : HasFault o TooDeep). inl (only_fault o TooDeep h))
-    (up_to o most_bytes is long (omega arith))
+either o is long = ⊎_elim (λ (h : HasFault o TooDeep). inl (only_fault o TooDeep h))
+    (λ (h : HasFault o TooLong). inr (only_fault o TooLong h)) (above o is long)
+
+-- within that limit it is an object, or has a place that is too deep
+last_byte : (o : List ℕ) → IsBalanced o → length o ≤ most_bytes → IsUnfinished (take (length o - 1) o) → IsObject o
+last_byte o is fits unfinished =
+    let k = length o - 1 in
+    let lt : k < length o = omega (arith, is.begins.0) in
+    let one : k + 1 ≡ length o = omega (arith, is.begins.0) in
+    let len : length (take k o) ≡ k = length-take-le k o (omega (arith, lt)) in
+    let whole : take k o ++ get_or o k 0 ∷ [] ≡ o = sym (take_more o k 0 lt) ∙ ap (λ n. take n o) one ∙ take-length o in
+    subst IsObject whole
+    (object_whole (take k o) (get_or o k 0) unfinished (λ none. ap (λ i. get_or o i 0) (omega (arith, len, none)) ∙ is.begins.1)
+    (ap depth whole ∙ is.ends) (omega (arith, len, lt, fits)))
+
+pub object_or_large : (o : List ℕ) → IsBalanced o → IsObject o ⊎ IsTooLarge o
+object_or_large o is = ⊎_elim
+    (λ (long : most_bytes < length o). inr (above o is long))
+    (λ (fits : length o ≤ most_bytes). ⊎_elim
+    (λ (unfinished : IsUnfinished (take (length o - 1) o)). inl (last_byte o is fits unfinished))
+    (λ (deep : HasFault o TooDeep). inr (inl deep))
+    (up_to o (length o - 1) is (omega (arith, is.begins.0)) (omega (arith, fits))))
+    (cases_lt most_bytes (length o))

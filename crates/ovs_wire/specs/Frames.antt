@@ -68,6 +68,10 @@ pub record HasFault (r : List ℕ) (f : FrameError) : Type 0 where
   pub unfinished : IsUnfinished before
   pub breaks : Breaks before byte f
 
+-- a place of it is too deep, or it is too long
+abbrev pub IsTooLarge : List ℕ → Type 0
+IsTooLarge t = HasFault t TooDeep ⊎ HasFault t TooLong
+
 -- a byte of white space, or an object
 pub data Part : Type 0 where
   Space : ℕ → Part

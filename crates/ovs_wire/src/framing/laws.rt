@@ -1,11 +1,12 @@
 //! Laws on the frames of a stream, and on a framer that is fed it.
-ghost use Rattle.std.specs.Prelude.{◌≡◌, ◌<◌, ◌≤◌, ◌+◌, ◌++◌, ◌∷◌, ℕ, List, [], All, length, take};
+ghost use Rattle.std.specs.Prelude.{◌≡◌, ◌<◌, ◌≤◌, ◌+◌, ◌⊎◌, ◌++◌, ◌∷◌, ℕ, List, [], All, length, take};
 ghost use Rattle.std.specs.List.{concat};
 ghost use Rattle.ovs_wire.specs.declared.error.FrameError.{FrameError};
 ghost use Rattle.ovs_wire.specs.declared.error.FrameError.TheVariants.{TooDeep, TooLong};
 ghost use Rattle.ovs_wire.specs.Limits.{most_nesting, most_bytes};
 ghost use Rattle.ovs_wire.specs.Depth.{depth, openers, closers};
-ghost use Rattle.ovs_wire.specs.Frames.{Ending, Rest, Fault, IsBalanced, IsBegun, IsObject, AreFrames};
+ghost use Rattle.ovs_wire.specs.Frames.{Ending, Rest, Fault, IsBalanced, IsBegun, IsObject, IsTooLarge, AreFrames};
+ghost use Rattle.ovs_wire.specs.Texts.{Remain};
 ghost use Rattle.ovs_wire.specs.Framing.{Framing, IsNew, Feeds, Takes, Follows, Call, Leads, fed, taken};
 
 /// In a message and in the beginning of one, the depth at a place is the number of brackets that open before it
@@ -71,4 +72,15 @@ pub fn objects_are_their_own_frames()
         → All IsObject texts → IsNew new → Leads calls new now → fed calls ++ later ≡ concat texts
         → (others : List (List ℕ)) × (texts ≡ (taken calls ++ now.waiting) ++ others)
         × (later ≡ [] → (others ≡ []) × (now.ending ≡ Rest [])) }
+{}
+
+/// Balanced texts one after another, each within the limits or too large, may be cut anywhere: the messages of what has
+/// come are the first of the texts, and what is still to come makes the others whole. Where what has come has a fault,
+/// the next text is too large.
+pub fn texts_may_be_cut_anywhere()
+    ensures sizes { (text : List ℕ) → IsBalanced text → IsObject text ⊎ IsTooLarge text }
+    ensures cut { (texts : List (List ℕ)) (come coming : List ℕ) (found : List (List ℕ)) (ending : Ending)
+        → All IsBalanced texts → come ++ coming ≡ concat texts → AreFrames come found ending
+        → All IsObject found
+        × ((left : List (List ℕ)) × (found ++ left ≡ texts) × Remain ending coming left) }
 {}
