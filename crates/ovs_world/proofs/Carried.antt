@@ -1,0 +1,204 @@
+-- What a channel carries, call by call.
+use Rattle.std.specs.List.{concat, AllZip}
+use Rattle.std.proofs.Common.{All, ◌≡◌, ℕ, ◌<◌, ◌≤◌, List, [], ◌∷◌, ◌++◌, Result, Err, refl, ap, sym, ◌∙◌, subst, arith, append_assoc, append-nil}
+use Rattle.std.proofs.lemmas.List.Elements.{All-nil, All-cons, All-append, All-head, All-tail}
+use Rattle.ovs_wire.specs.declared.error.FrameError.{FrameError}
+use Rattle.ovs_wire.specs.declared.error.FrameError.TheVariants as faults
+use Rattle.ovs_wire.specs.declared.error.MessageError.{MessageError}
+use Rattle.ovs_wire.specs.declared.error.MessageError.TheVariants.{NotJson, BadShape, NoMemory}
+use Rattle.ovs_wire.specs.declared.message.Message.{Message}
+use Rattle.ovs_wire.specs.Frames.{Ending, Rest, Fault, IsBalanced, IsObject}
+use Rattle.ovs_wire.specs.Framing.{Framing, Feeds, FeedsAfter, Takes, Answers}
+use Rattle.ovs_wire.specs.Texts.{Remain}
+use Rattle.ovs_wire.specs.Message.{Says, Spells, Reads, IsWritten}
+use Rattle.ovs_wire.proofs.Beginnings.{cut_anywhere}
+use Rattle.ovs_wire.proofs.Spelling.{one_message}
+use Rattle.ovs_world.specs.Carrying.{Line, IsIdle, Carries}
+
+pub carries_nothing : (line : Line) → IsIdle line → Carries line []
+carries_nothing line is = record {
+  coming = [];
+  texts = subst (λ (w : List (List ℕ)). AllZip IsWritten [] (w ++ [])) (sym is.0.0) tt;
+  whole = subst (All IsObject) (sym is.0.0) (All-nil IsObject);
+  rest = subst (λ (e : Ending). Remain e line.flight []) (sym is.0.1) is.1;
+}
+
+-- ---- feeding
+
+texts_balanced : (messages : List Message) (texts : List (List ℕ)) → AllZip IsWritten messages texts → All IsBalanced texts
+texts_balanced [] [] are = All-nil IsBalanced
+texts_balanced (m ∷ ms) (t ∷ ts) are = All-cons IsBalanced t ts are.0.balanced (texts_balanced ms ts are.1)
+texts_balanced [] (t ∷ ts) are = absurd are
+texts_balanced (m ∷ ms) [] are = absurd are
+
+others_balanced : (messages : List Message) (waiting coming : List (List ℕ)) → AllZip IsWritten messages (waiting ++ coming)
+    → All IsBalanced coming
+others_balanced messages [] coming are = texts_balanced messages coming are
+others_balanced (m ∷ ms) (t ∷ waiting) coming are = others_balanced ms waiting coming are.1
+others_balanced [] (t ∷ waiting) coming are = absurd are
+
+fed_by : (ending : Ending) (old new : Framing) (flight piece left : List ℕ) (messages : List Message)
+    (coming : List (List ℕ)) → flight ≡ piece ++ left → FeedsAfter ending old piece new
+    → AllZip IsWritten messages (old.waiting ++ coming) → All IsObject old.waiting → Remain ending flight coming
+    → ending ≡ old.ending → Carries (record { framing = new; flight = left }) messages
+fed_by (Rest rest) old new flight piece left messages coming parts feeds texts whole remain same =
+    let all : (rest ++ piece) ++ left ≡ concat coming = append_assoc rest piece left ∙ ap (λ l. rest ++ l) (sym parts) ∙ remain in
+    let cut = cut_anywhere coming (rest ++ piece) left feeds.found new.ending (others_balanced messages old.waiting coming texts) all feeds.frames in
+    record {
+      coming = cut.1.0;
+      texts = subst (λ (l : List (List ℕ)). AllZip IsWritten messages l)
+          (ap (λ l. old.waiting ++ l) (sym cut.1.1) ∙ sym (append_assoc old.waiting feeds.found cut.1.0)
+          ∙ ap (λ l. l ++ cut.1.0) (sym feeds.waiting)) texts;
+      whole = subst (All IsObject) (sym feeds.waiting) (All-append IsObject old.waiting feeds.found whole cut.0);
+      rest = cut.1.2;
+    }
+fed_by (Fault fault) old new flight piece left messages coming parts feeds texts whole remain same =
+    record {
+      coming = coming;
+      texts = subst (λ (n : Framing). AllZip IsWritten messages (n.waiting ++ coming)) (sym feeds) texts;
+      whole = subst (λ (n : Framing). All IsObject n.waiting) (sym feeds) whole;
+      rest = subst (λ (n : Framing). Remain n.ending left coming) (sym feeds)
+          (subst (λ (e : Ending). Remain e left coming) same remain);
+    }
+
+pub carries_fed : (old new : Framing) (flight piece left : List ℕ) (messages : List Message)
+    → Carries (record { framing = old; flight = flight }) messages → flight ≡ piece ++ left → Feeds old piece new
+    → Carries (record { framing = new; flight = left }) messages
+carries_fed old new flight piece left messages carries parts feeds =
+    fed_by old.ending old new flight piece left messages carries.coming parts feeds carries.texts carries.whole carries.rest refl
+
+-- a fault, after which what is in flight doesn't count
+fault_stays : (ending : Ending) (fault : FrameError) (flight left : List ℕ) (coming : List (List ℕ)) → ending ≡ Fault fault
+    → Remain ending left coming → Remain ending flight coming
+fault_stays ending fault flight left coming is remain =
+    subst (λ (e : Ending). Remain e flight coming) (sym is) (subst (λ (e : Ending). Remain e left coming) is remain)
+
+pub carries_stopped : (old new : Framing) (fault : FrameError) (flight piece left : List ℕ) (messages : List Message)
+    → Carries (record { framing = old; flight = flight }) messages → flight ≡ piece ++ left → Feeds old piece new
+    → new.ending ≡ Fault fault → Carries (record { framing = new; flight = flight }) messages
+carries_stopped old new fault flight piece left messages carries parts feeds is =
+    let next = carries_fed old new flight piece left messages carries parts feeds in
+    record {
+      coming = next.coming;
+      texts = next.texts;
+      whole = next.whole;
+      rest = fault_stays new.ending fault flight left next.coming is next.rest;
+    }
+
+abbrev pub refused : FrameError → Result (Unit {0}) FrameError
+refused e = Err e
+
+answer_is : (ending : Ending) (e : FrameError) → Answers ending (refused e) → ending ≡ Fault e
+answer_is (Rest rest) e answer = absurd answer
+answer_is (Fault fault) e answer = ap Fault answer
+
+-- a feed that was refused: it found a fault, or did nothing
+pub carries_refused : (old new : Framing) (flight piece left : List ℕ) (messages : List Message) (e : FrameError)
+    → Carries (record { framing = old; flight = flight }) messages → flight ≡ piece ++ left
+    → ((refused e ≡ Err faults.NoMemory → ⊥) → Feeds old piece new)
+    → ((refused e ≡ Err faults.NoMemory → ⊥) → Answers new.ending (refused e))
+    → (refused e ≡ Err faults.NoMemory → new ≡ old)
+    → Carries (record { framing = new; flight = flight }) messages
+carries_refused old new flight piece left messages e carries parts feeds answer memory = by e feeds answer memory
+  where
+    stopped : (e : FrameError) → Feeds old piece new → Answers new.ending (refused e)
+        → Carries (record { framing = new; flight = flight }) messages
+    stopped e feeds answer =
+        carries_stopped old new e flight piece left messages carries parts feeds (answer_is new.ending e answer)
+
+    by : (e : FrameError) → ((refused e ≡ Err faults.NoMemory → ⊥) → Feeds old piece new)
+        → ((refused e ≡ Err faults.NoMemory → ⊥) → Answers new.ending (refused e))
+        → (refused e ≡ Err faults.NoMemory → new ≡ old) → Carries (record { framing = new; flight = flight }) messages
+    by faults.NoMemory feeds answer memory =
+        subst (λ (f : Framing). Carries (record { framing = f; flight = flight }) messages) (sym (memory refl)) carries
+    by faults.NotObject feeds answer memory = stopped faults.NotObject (feeds (λ e. cc)) (answer (λ e. cc))
+    by faults.TooDeep feeds answer memory = stopped faults.TooDeep (feeds (λ e. cc)) (answer (λ e. cc))
+    by faults.TooLong feeds answer memory = stopped faults.TooLong (feeds (λ e. cc)) (answer (λ e. cc))
+
+-- ---- sending
+
+written_more : (ms : List Message) (ts : List (List ℕ)) (m : Message) (t : List ℕ) → AllZip IsWritten ms ts → IsWritten m t
+    → AllZip IsWritten (ms ++ m ∷ []) (ts ++ t ∷ [])
+written_more [] [] m t are is = (is, tt)
+written_more (n ∷ ms) (x ∷ ts) m t are is = (are.0, written_more ms ts m t are.1 is)
+written_more [] (x ∷ ts) m t are is = absurd are
+written_more (n ∷ ms) [] m t are is = absurd are
+
+concat_more : (ts : List (List ℕ)) (t : List ℕ) → concat (ts ++ t ∷ []) ≡ concat ts ++ t
+concat_more [] t = append-nil t
+concat_more (x ∷ ts) t = ap (λ l. x ++ l) (concat_more ts t) ∙ sym (append_assoc x (concat ts) t)
+
+remain_more : (ending : Ending) (flight t : List ℕ) (texts : List (List ℕ)) → Remain ending flight texts
+    → Remain ending (flight ++ t) (texts ++ t ∷ [])
+remain_more (Rest rest) flight t texts remain =
+    sym (append_assoc rest flight t) ∙ ap (λ l. l ++ t) remain ∙ sym (concat_more texts t)
+remain_more (Fault fault) flight t texts remain =
+    (remain.0, remain.1 ++ t ∷ [], ap (λ l. l ++ t ∷ []) remain.2, remain.3)
+
+pub carries_sent : (line : Line) (messages : List Message) (m : Message) (t : List ℕ) → Carries line messages → IsWritten m t
+    → Carries (record { framing = line.framing; flight = line.flight ++ t }) (messages ++ m ∷ [])
+carries_sent line messages m t carries is = record {
+  coming = carries.coming ++ t ∷ [];
+  texts = subst (λ (l : List (List ℕ)). AllZip IsWritten (messages ++ m ∷ []) l)
+      (append_assoc line.framing.waiting carries.coming (t ∷ []))
+      (written_more messages (line.framing.waiting ++ carries.coming) m t carries.texts is);
+  whole = carries.whole;
+  rest = remain_more line.framing.ending line.flight t carries.coming carries.rest;
+}
+
+-- ---- taking out
+
+-- an object nests no deeper than what can be read, and says the message that was written
+object_says : (m : Message) (t : List ℕ) → IsWritten m t → IsObject t → Says t m
+object_says m t written object =
+    let at = written.nested.reached in
+    written.says (omega (arith, object.limits.nests at.0, at.1))
+
+-- the first message, which the text says, and what the channel carries without it
+pub record Took (line : Line) (text : List ℕ) (messages : List Message) : Type 0 where
+  pub first : Message
+  pub more : List Message
+  pub are : messages ≡ first ∷ more
+  pub says : Says text first
+  pub rest : Carries line more
+
+took_by : (old new : Framing) (flight text : List ℕ) (messages : List Message) (coming : List (List ℕ))
+    → new.ending ≡ old.ending → AllZip IsWritten messages (text ∷ (new.waiting ++ coming))
+    → All IsObject (text ∷ new.waiting) → Remain old.ending flight coming
+    → Took (record { framing = new; flight = flight }) text messages
+took_by old new flight text [] coming same texts whole remain = absurd texts
+took_by old new flight text (m ∷ ms) coming same texts whole remain = record {
+  first = m;
+  more = ms;
+  are = refl;
+  says = object_says m text texts.0 (All-head IsObject text new.waiting whole);
+  rest = record {
+    coming = coming;
+    texts = texts.1;
+    whole = All-tail IsObject text new.waiting whole;
+    rest = subst (λ (e : Ending). Remain e flight coming) (sym same) remain;
+  };
+}
+
+pub carries_taken : (old new : Framing) (flight text : List ℕ) (messages : List Message)
+    → Carries (record { framing = old; flight = flight }) messages → Takes old text new
+    → Took (record { framing = new; flight = flight }) text messages
+carries_taken old new flight text messages carries takes =
+    took_by old new flight text messages carries.coming takes.1
+    (subst (λ (l : List (List ℕ)). AllZip IsWritten messages (l ++ carries.coming)) takes.0 carries.texts)
+    (subst (All IsObject) takes.0 carries.whole) carries.rest
+
+-- the message that was read is the first
+pub took_this : (line : Line) (text : List ℕ) (messages : List Message) (m : Message) → Took line text messages
+    → Says text m → (more : List Message) × (messages ≡ m ∷ more) × Carries line more
+took_this line text messages m took says =
+    let same : took.first ≡ m = one_message text took.first m took.says says in
+    (took.more, took.are ∙ ap (λ x. x ∷ took.more) same, took.rest)
+
+-- what says a message is refused for want of memory alone
+pub says_no_other_error : (text : List ℕ) (m : Message) (e : MessageError) → Says text m → Reads text (Err e) → e ≡ NoMemory
+says_no_other_error text m NotJson says refused = absurd (refused says.0 says.1)
+says_no_other_error text m BadShape says refused =
+    let same : says.0 ≡ refused.0 = cc (says.1.1, refused.1.1) in
+    absurd (refused.2 m (subst (λ d. Spells d m) same says.2))
+says_no_other_error text m NoMemory says refused = refl

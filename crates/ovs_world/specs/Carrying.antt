@@ -1,0 +1,34 @@
+-- What one direction of a connection has on its way.
+use Rattle.std.specs.Prelude.{◌≡◌, ℕ, List, [], ◌++◌, All, take, drop}
+use Rattle.std.specs.List.{AllZip}
+use Rattle.ovs_wire.specs.declared.message.Message.{Message}
+use Rattle.ovs_wire.specs.Frames.{IsObject}
+use Rattle.ovs_wire.specs.Framing.{Framing, IsNew, Feeds}
+use Rattle.ovs_wire.specs.Texts.{Remain}
+use Rattle.ovs_wire.specs.Message.{IsWritten}
+
+-- what the receiving end has framed, and the bytes in flight
+pub record Line : Type 0 where
+  pub framing : Framing
+  pub flight : List ℕ
+
+-- nothing was sent yet
+abbrev pub IsIdle : Line → Type 0
+IsIdle line = IsNew line.framing × (line.flight ≡ [])
+
+-- the message's text came behind what was in flight
+abbrev pub Sends : Line → Message → Line → Type 0
+Sends old message new =
+    (text : List ℕ) × IsWritten message text × (new ≡ record { framing = old.framing; flight = old.flight ++ text })
+
+-- the first n bytes in flight were fed to the receiving end
+abbrev pub Moves : Line → ℕ → Line → Type 0
+Moves old n new = Feeds old.framing (take n old.flight) new.framing × (new.flight ≡ drop n old.flight)
+
+-- these messages were sent and weren't taken out yet: those that are whole at the receiving end, and those of which
+-- bytes are still to come, or of which the first is above the limits
+pub record Carries (line : Line) (messages : List Message) : Type 0 where
+  pub coming : List (List ℕ)
+  pub texts : AllZip IsWritten messages (line.framing.waiting ++ coming)
+  pub whole : All IsObject line.framing.waiting
+  pub rest : Remain line.framing.ending line.flight coming
