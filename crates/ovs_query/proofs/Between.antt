@@ -90,7 +90,7 @@ module _ {U : Type 0} (told : Option Watched → ℕ → Option Row → Option R
       (ap (λ r. told (watched_at watches p.table) p.id r (get b p)) goes.0 ∙ ap (told (watched_at watches p.table) p.id t.before) goes.1 ∙ ap (λ q. told (watched_at watches q.table) q.id t.before t.after) (sym (touched_place ts p t is)))
       each
 
-  step_related : ((p : Place) → R p (shown_at watches p (get a p)) (shown_at watches p (get b p)) (told (watched_at watches p.table) p.id (get a p) (get b p)))
+  pub step_related : ((p : Place) → R p (shown_at watches p (get a p)) (shown_at watches p (get b p)) (told (watched_at watches p.table) p.id (get a p) (get b p)))
       → (p : Place) → R p (get (view watches a) p) (get (view watches b) p) (get (told_by_place told watches ts) p)
   step_related each p =
       subst (λ v. R p v (get (view watches b) p) (get (told_by_place told watches ts) p)) (sym (get-view watches a p))

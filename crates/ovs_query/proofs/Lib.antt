@@ -5,6 +5,7 @@ pub mod SelectLaws
 pub mod QueryFaulty
 pub mod ShownFields
 pub mod AnswerLaws
+pub mod Spelled
 pub mod TableSteps
 pub mod MonitorLaws
 pub mod MonitorFaulty
@@ -18,4 +19,5 @@ pub mod FirstRows
 pub mod ShownRows
 pub mod NoFloat
 pub mod Between
+pub mod Whole
 pub mod Shares

@@ -11,7 +11,8 @@ use Rattle.serde_json.specs.Data.{Data, Members, no_members, member, object, put
 use Rattle.ovs_data.specs.declared.datum.Datum.{Datum}
 use Rattle.ovs_rows.specs.Writing.{with_member}
 use Rattle.ovs_rows.proofs.Writings.{zip_empty}
-use Rattle.ovs_rows.specs.ChangeWriting.{cell_members, as_edited, with_some}
+use Rattle.ovs_rows.specs.ChangeWriting.{cell_members, as_edited, with_some, AreSpelled}
+use Rattle.ovs_rows.proofs.ChangeWritingLemmas.{spelled_end}
 use Rattle.ovs_query.specs.declared.monitor.Watched.{Watched}
 use Rattle.ovs_query.specs.declared.shown.Shown.{Shown}
 use Rattle.ovs_query.specs.Shown.{shown_columns}
@@ -29,6 +30,10 @@ edits_end shown edits ms all done whole = rw (zip_empty (shown_columns shown) ed
     named : (shown ≡ []) ⊎ (edits ≡ []) → (shown_columns shown ≡ []) ⊎ (edits ≡ [])
     named (inl none) = inl (ap shown_columns none)
     named (inr none) = inr none
+
+pub edits_spelled_end : (shown : List Shown) (edits : List (Option Datum)) → (shown ≡ []) ⊎ (edits ≡ []) → AreSpelled as_edited (shown_columns shown) edits
+edits_spelled_end shown edits (inl none) = spelled_end as_edited (shown_columns shown) edits (inl (ap shown_columns none))
+edits_spelled_end shown edits (inr none) = spelled_end as_edited (shown_columns shown) edits (inr none)
 
 -- ---- members that may be left out
 

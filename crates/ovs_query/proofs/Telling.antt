@@ -67,7 +67,7 @@ module _ {U : Type 0} (f : TouchedRow → Option U) where
       by None rest = rest
       by (Some u) rest = (listed_all (λ y. place_cmp t.place y ≡ Less) ts h.0, rest)
 
-  entries-by_place : (ts : List TouchedRow) → AscendByPlace ts → entries (by_place f ts) ≡ listed f ts
+  pub entries-by_place : (ts : List TouchedRow) → AscendByPlace ts → entries (by_place f ts) ≡ listed f ts
   entries-by_place ts sorted = entries-from_ordered place_total place_exact (listed f ts) (listed_ascend ts sorted)
 
 module _ {U : Type 0} (json : List NamedColumn → U → Data) (told : Option Watched → ℕ → Option Row → Option Row → Option U) (watches : List (Option Watched)) (number : ℕ) (w : Watched) where

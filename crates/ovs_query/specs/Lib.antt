@@ -5,6 +5,7 @@ pub mod View
 pub mod RowUpdates
 pub mod Mirror
 pub mod Updates
+pub mod Whole
 pub mod UpdateWriting
 pub mod UpdateMeaning
 pub mod Telling

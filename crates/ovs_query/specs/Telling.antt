@@ -1,6 +1,6 @@
 -- What is written of the rows of one table, row by row.
 use Rattle.std.specs.Prelude.{◌≡◌, ℕ, List, [], Option, Some, None, IfSome, ◌==◌, if◌then◌else◌, filter, option_map}
-use Rattle.std.specs.List.{AllByRecursion, filter_map}
+use Rattle.std.specs.List.{AllByRecursion, enumerate_from, filter_map}
 use Rattle.serde_json.specs.Data.{Data, Members, no_members, member, object}
 use Rattle.ovs_data.specs.declared.datum.Datum.{Datum}
 use Rattle.ovs_types.specs.declared.schema.NamedColumn.{NamedColumn}
@@ -9,7 +9,7 @@ use Rattle.ovs_rows.specs.declared.place.Place.{Place}
 use Rattle.ovs_rows.specs.declared.change.Action.TheVariants.{Insert}
 use Rattle.ovs_rows.specs.declared.row.Row.{Row}
 use Rattle.ovs_rows.specs.After.{TouchedRow}
-use Rattle.ovs_rows.specs.ChangeWriting.{action_json}
+use Rattle.ovs_rows.specs.ChangeWriting.{action_json, IsSpelledAction, IsSpelledUpdate}
 use Rattle.ovs_rows.specs.Row.{Rows, AreDataOf}
 use Rattle.ovs_rows.specs.Writing.{rows_in}
 use Rattle.ovs_query.specs.declared.monitor.Notation.{Notation}
@@ -53,6 +53,27 @@ IsTellable Update3 w t = AreShown w t.place.id t.before × AreShown w t.place.id
 -- the same of the rows of all tables
 abbrev pub AreTellable : Notation → List (Option Watched) → List TouchedRow → Type 0
 AreTellable notation watches ts = (number : ℕ) (w : Watched) → watched_at watches number ≡ Some w → AllByRecursion (IsTellable notation w) (touched_in number ts)
+
+-- ---- what is told stands for what it tells
+
+-- where changes are told, what is written of a touched row stands for its action
+abbrev pub IsSpelledTold : Notation → Watched → TouchedRow → Type 0
+IsSpelledTold Update w t = Unit {0}
+IsSpelledTold Update2 w t = IfSome (action_told (Some w) t.place.id t.before t.after) (IsSpelledAction (shown_columns w.shown))
+IsSpelledTold Update3 w t = IfSome (action_told (Some w) t.place.id t.before t.after) (IsSpelledAction (shown_columns w.shown))
+
+-- and its id's text for the id
+abbrev pub IsSpelledRow : Notation → Watched → TouchedRow → Type 0
+IsSpelledRow Update w t = Unit {0}
+IsSpelledRow Update2 w t = IfSome (action_told (Some w) t.place.id t.before t.after) (λ a. IsSpelledUpdate (shown_columns w.shown) (t.place, a))
+IsSpelledRow Update3 w t = IfSome (action_told (Some w) t.place.id t.before t.after) (λ a. IsSpelledUpdate (shown_columns w.shown) (t.place, a))
+
+-- the same of the rows of a table, if it is watched, and of all tables
+abbrev pub IsSpelledTable : Notation → List TouchedRow → ℕ × Option Watched → Type 0
+IsSpelledTable notation ts t = IfSome t.1 (λ w. AllByRecursion (IsSpelledRow notation w) (touched_in t.0 ts))
+
+abbrev pub AreSpelledTables : Notation → List (Option Watched) → List TouchedRow → Type 0
+AreSpelledTables notation watches ts = AllByRecursion (IsSpelledTable notation ts) (enumerate_from 0 watches)
 
 -- ---- the first rows
 

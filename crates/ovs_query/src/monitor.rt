@@ -1,17 +1,20 @@
 //! Monitors (RFC 7047 section 4.1.5; ovsdb-server(7)).
 
-ghost use Rattle.std.specs.Prelude.{◌≡◌, IfOk, List, Some, false, option_map};
+ghost use Rattle.std.specs.Prelude.{◌≡◌, IfOk, Ok, List, Some, false, option_map};
 ghost use Rattle.std.specs.FinMap.{empty};
 ghost use Rattle.std.specs.Option.{option_copied};
 ghost use Rattle.serde_json.specs.View.{view};
 ghost use Rattle.serde_json.specs.Written.{has_float};
 ghost use Rattle.ovs_types.specs.declared.schema.Table.{Table};
+ghost use Rattle.ovs_rows.specs.ChangeReading.{read_change};
+ghost use Rattle.ovs_rows.specs.DatabaseDifference.{database_difference};
 ghost use Rattle.ovs_rows.specs.Row.{Rows, AreRowsOf};
 ghost use Rattle.ovs_query.specs.Mirror.{mirror, replace};
 ghost use Rattle.ovs_query.specs.Shown.{shown_data};
 ghost use Rattle.ovs_query.specs.Updates.{updates, row_updates, first_updates, first_row_updates, IsStep, AreTouchedOf, AsksAll, AsksFirst};
 ghost use Rattle.ovs_query.specs.UpdateWriting.{update1_json, update2_json, initial_json};
 ghost use Rattle.ovs_query.specs.View.{shown_by, view as rows_shown, IsMonitorOf};
+ghost use Rattle.ovs_query.specs.Whole.{IsWhole};
 
 mod initial;
 mod row_update1;
@@ -154,6 +157,9 @@ impl Monitor {
         // Where all are asked for, they lead a copy of what was shown to what is shown.
         ensures mirrored { (tables : List Table) (old new : Rows) → IsMonitorOf tables self.now.watches → AsksAll self.now.watches → AreRowsOf tables old → AreRowsOf tables new → IsStep applied.now old new
             → mirror self.now.watches (rows_shown self.now.watches old) (updates self.now.watches applied.now) ≡ Some (rows_shown self.now.watches new) }
+        // Of a monitor of all columns of all tables it is read as the difference of the two databases.
+        ensures reads_back { IfOk result (λ v. (tables : List Table) (old new : Rows) → IsWhole tables self.now.watches → AreRowsOf tables old → AreRowsOf tables new → IsStep applied.now old new
+            → read_change tables (view v) ≡ Ok (database_difference tables old new)) }
         ensures whole { IfOk result (λ v. has_float (view v) ≡ false) }
     {
         step_json(

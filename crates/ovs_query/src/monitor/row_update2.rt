@@ -1,11 +1,11 @@
 //! What is told of one row in the notation of `update2` and `update3` (ovsdb-server(7)).
 
-ghost use Rattle.std.specs.Prelude.{◌≡◌, IfOk, OnOk, Some, option_map, is_some};
+ghost use Rattle.std.specs.Prelude.{◌≡◌, IfOk, OnOk, IfSome, Some, option_map, is_some};
 ghost use Rattle.std.specs.List.{list_any};
 ghost use Rattle.std.specs.Option.{option_copied};
 ghost use Rattle.serde_json.specs.View.{view, members_view};
 ghost use Rattle.ovs_types.specs.Datum.{IsDatumOf};
-ghost use Rattle.ovs_rows.specs.ChangeWriting.{beside_default, cell_member, with_some, insert_json, modify_json, action_json};
+ghost use Rattle.ovs_rows.specs.ChangeWriting.{beside_default, as_edited, cell_member, with_some, insert_json, modify_json, action_json, IsSpelled, AreSpelled, IsSpelledAction};
 ghost use Rattle.ovs_rows.specs.DatabaseDifference.{edit_between, edits_between};
 ghost use Rattle.ovs_rows.specs.Row.{AreDataOf};
 ghost use Rattle.ovs_query.specs.Shown.{shown_data, shown_columns};
@@ -44,6 +44,7 @@ fn put_cell(
     cell: Option<&Datum>,
 ) -> Result<(), NoMemory>
     ensures value { OnOk result (members_view members.new.entries ≡ with_some (members_view members.old.entries) (cell_member named.now (option_map (λ d. d.now) cell.entry))) }
+    ensures spelled { OnOk result (IfSome (option_map (λ d. d.now) cell.entry) IsSpelled) }
 {
     match cell {
         Some(datum) => {
@@ -62,6 +63,7 @@ pub(crate) fn insert_json(
     row: &Row,
 ) -> Result<Value, NoMemory>
     ensures value { IfOk result (λ v. view v ≡ insert_json (shown_columns shown.now) (shown_data shown.now id row.now)) }
+    ensures spelled { OnOk result (AreSpelled beside_default (shown_columns shown.now) (shown_data shown.now id row.now)) }
 {
     let mut members = Map::new(alloc);
     for part in shown {
@@ -120,6 +122,7 @@ pub(crate) fn modify_json(
     edits: &[Option<Datum>],
 ) -> Result<Value, NoMemory>
     ensures value { IfOk result (λ v. view v ≡ modify_json (shown_columns shown.now) edits.now) }
+    ensures spelled { OnOk result (AreSpelled as_edited (shown_columns shown.now) edits.now) }
 {
     let mut members = Map::new(alloc);
     for (part, edit) in shown.iter().zip(edits) {
@@ -139,6 +142,7 @@ pub(crate) fn row_update2(
     requires old { AreShown watched.now id (option_copied before) }
     requires new { AreShown watched.now id (option_copied after) }
     ensures value { IfOk result (λ o. option_map view o ≡ option_map (action_json (shown_columns watched.now.shown)) (action_told (Some watched.now) id (option_copied before.entry) (option_copied after.entry))) }
+    ensures spelled { OnOk result (IfSome (action_told (Some watched.now) id (option_copied before.entry) (option_copied after.entry)) (IsSpelledAction (shown_columns watched.now.shown))) }
 {
     let shown = watched.shown.as_slice();
     match (watched.presented(id, before), watched.presented(id, after)) {

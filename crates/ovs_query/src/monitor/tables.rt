@@ -1,8 +1,8 @@
 //! Rows and tables of updates, each under its name.
 
-ghost use Rattle.std.specs.Prelude.{◌≡◌, OnOk, option_map};
+ghost use Rattle.std.specs.Prelude.{◌≡◌, ◌<◌, ◌^◌, OnOk, IfSome, Some, option_map};
 ghost use Rattle.serde_json.specs.View.{view, members_view};
-ghost use Rattle.ovs_types.specs.Id.{id_text};
+ghost use Rattle.ovs_types.specs.Id.{id_text, read_id};
 ghost use Rattle.ovs_rows.specs.ChangeWriting.{with_some};
 ghost use Rattle.ovs_query.specs.Telling.{some_object};
 
@@ -19,6 +19,7 @@ pub(crate) fn put_row(
     row: Option<Value>,
 ) -> Result<(), NoMemory>
     ensures value { OnOk result (members_view members.new.entries ≡ with_some (members_view members.old.entries) (option_map (λ d. (id_text id, d)) (option_map view row))) }
+    ensures spelled { OnOk result (IfSome row (λ _. (id < 2 ^ 128) × (read_id (id_text id) ≡ Some id))) }
 {
     match row {
         Some(row) => {

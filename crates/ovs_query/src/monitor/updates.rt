@@ -8,7 +8,7 @@ ghost use Rattle.serde_json.specs.View.{view, members_view};
 ghost use Rattle.ovs_rows.specs.Applied.{seen, AscendByPlace};
 ghost use Rattle.ovs_rows.specs.ChangeWriting.{with_some};
 ghost use Rattle.ovs_rows.specs.Writing.{with_member};
-ghost use Rattle.ovs_query.specs.Telling.{told_json, told_member, touched_in, told_members, IsTellable, AreTellable};
+ghost use Rattle.ovs_query.specs.Telling.{told_json, told_member, touched_in, told_members, IsTellable, AreTellable, IsSpelledTold, IsSpelledRow, IsSpelledTable, AreSpelledTables};
 ghost use Rattle.ovs_query.specs.UpdateWriting.{table_member, tables_json};
 
 use crate::monitor::row_update1::row_update1;
@@ -51,6 +51,7 @@ fn told_json(
 ) -> Result<Option<Value>, NoMemory>
     requires tellable { IsTellable notation watched.now (seen touched.now) }
     ensures value { IfOk result (λ o. option_map view o ≡ told_json notation watched.now (seen touched.now)) }
+    ensures spelled { OnOk result (IsSpelledTold notation watched.now (seen touched.now)) }
 {
     let id = touched.place.id;
     let before = row_of(&touched.before);
@@ -70,6 +71,7 @@ fn told_rows(
 ) -> Result<Map<String, Value>, NoMemory>
     requires tellable { AllByRecursion (IsTellable notation watched.now) (map seen rows.now) }
     ensures value { IfOk result (λ m. members_view m.entries ≡ fold with_member no_members (filter_map (told_member notation watched.now) (map seen rows.now))) }
+    ensures spelled { OnOk result (AllByRecursion (IsSpelledRow notation watched.now) (map seen rows.now)) }
 {
     let mut members = Map::new(alloc);
     for touched in rows {
@@ -91,6 +93,7 @@ fn put_told(
     requires ascending { AscendByPlace (map seen applied.now) }
     requires tellable { IfSome watched.now (λ w. AllByRecursion (IsTellable notation w) (touched_in number (map seen applied.now))) }
     ensures value { OnOk result (members_view members.new.entries ≡ with_some (members_view members.old.entries) (table_member (told_members notation (map seen applied.now)) (number, watched.now))) }
+    ensures spelled { OnOk result (IsSpelledTable notation (map seen applied.now) (number, watched.now)) }
 {
     match watched {
         Some(watched) => {
@@ -112,6 +115,7 @@ pub(crate) fn step_json(
     requires ascending { AscendByPlace (map seen applied.now) }
     requires tellable { AreTellable notation watches.now (map seen applied.now) }
     ensures value { IfOk result (λ v. view v ≡ tables_json (told_members notation (map seen applied.now)) watches.now) }
+    ensures spelled { OnOk result (AreSpelledTables notation watches.now (map seen applied.now)) }
 {
     let mut members = Map::new(alloc);
     for (number, watched) in watches.iter().enumerate() {

@@ -15,10 +15,9 @@ told_rows-requires c =
     let known = subst (λ o. IfSome o (λ w. AllByRecursion (IsTellable c.args.notation w) (touched_in c.args.number (map seen c.args.applied.now)))) c.in-Some.is c.requires.tellable in
     record { tellable = subst (AllByRecursion (IsTellable c.args.notation c.in-Some.watched)) (sym c.rows_of_table-rows.ensures.value) known }
 
-pub returns-in_ok-told-in-Some : goal.returns-in_ok-told-in-Some
-returns-in_ok-told-in-Some c = record {
-  value = subst (λ o. OnOk c.put_table.result (members_view c.put_table.new.members.entries ≡ with_some (members_view c.args.members.now.entries) o))
-      (table_put (told_members c.args.notation (map seen c.args.applied.now)) c.args.number c.args.watched.now _ _ c.in-Some.is
-      (c.in_ok-told-in-Some.ensures.value ∙ ap (λ ts. fold with_member no_members (filter_map (told_member c.args.notation c.in-Some.watched) ts)) c.rows_of_table-rows.ensures.value))
-      c.put_table.ensures.value;
-}
+pub returns-in_ok-told-in-Some-clause-value : goal.returns-in_ok-told-in-Some-clause-value
+returns-in_ok-told-in-Some-clause-value c =
+    subst (λ o. OnOk c.put_table.result (members_view c.put_table.new.members.entries ≡ with_some (members_view c.args.members.now.entries) o))
+    (table_put (told_members c.args.notation (map seen c.args.applied.now)) c.args.number c.args.watched.now _ _ c.in-Some.is
+    (c.in_ok-told-in-Some.ensures.value ∙ ap (λ ts. fold with_member no_members (filter_map (told_member c.args.notation c.in-Some.watched) ts)) c.rows_of_table-rows.ensures.value))
+    c.put_table.ensures.value

@@ -15,8 +15,7 @@ put_told-requires c = record {
   tellable = item_tellable c.args.notation c.args.watches.now (map seen c.args.applied.now) c.loop-number.number c.index-watches-number.result c.loop-number-test.true c.index-watches-number.is c.requires.tellable;
 }
 
-pub returns : goal.returns
-returns c = record {
-  value = view-Object c.loop-number.members
-      ∙ ap object (all_counted (table_member (told_members c.args.notation (map seen c.args.applied.now))) c.args.watches.now c.loop-number.number (members_view c.loop-number.members.entries) _ c.loop-number-test.false c.loop-number.invariant);
-}
+pub returns-clause-value : goal.returns-clause-value
+returns-clause-value c =
+    view-Object c.loop-number.members
+    ∙ ap object (all_counted (table_member (told_members c.args.notation (map seen c.args.applied.now))) c.args.watches.now c.loop-number.number (members_view c.loop-number.members.entries) _ c.loop-number-test.false c.loop-number.invariant.whole)
