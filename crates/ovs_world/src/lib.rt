@@ -2,5 +2,7 @@
 #![tactic(auto)]
 
 mod channel;
+mod laws;
 
 pub use channel::Channel;
+pub use laws::a_relay_is_told_links;
