@@ -1,9 +1,10 @@
 //! Schemas (RFC 7047 section 3.2): a database's tables and columns.
 
-ghost use Rattle.std.specs.Prelude.{◌≡◌, ◌≢◌, ◌<◌, ℕ, None, Some, false, IsTrue, ◌↔◌, IfOk, IfSome, IfNone, option_map, length, slice_get};
+ghost use Rattle.std.specs.Prelude.{◌≡◌, ◌≢◌, ◌<◌, ℕ, None, Some, Ok, false, IsTrue, ◌↔◌, IfOk, IfSome, IfNone, option_map, length, slice_get};
 ghost use Rattle.serde_json.specs.View.{view};
 ghost use Rattle.ovs_types.specs.Finding.{column_named, table_named, columns_of, column_of};
 ghost use Rattle.ovs_types.specs.Names.{is_name, IsAscendingBy, AreNames};
+ghost use Rattle.ovs_types.specs.SchemaReading.{read_description};
 
 pub(crate) mod error;
 mod parts;
@@ -166,13 +167,17 @@ impl Model for Schema {
     ghost use Rattle.std.specs.Coded.{codes};
     ghost use Rattle.serde_json.specs.View.{view as data_of};
     ghost use Rattle.ovs_json.specs.JsonCode.{json_code};
+    ghost use Rattle.std.specs.Prelude.{◌≡◌, Ok};
     ghost use Rattle.ovs_types.specs.Schema.{SchemaValue};
+    ghost use Rattle.ovs_types.specs.SchemaReading.{read_description};
 
     ghost Value = { SchemaValue };
 
     ghost coded = { Prim.hlevel (codes, json_code) };
 
     ghost view = { λ s. record { description = s.description; json = data_of s.json } };
+
+    ghost invariant = { λ s. read_description (data_of s.json) ≡ Ok s.description };
 }
 
 impl Schema {
@@ -232,6 +237,8 @@ impl Schema {
     /// `NoMemory` alone.
     pub fn to_json(&self) -> Result<Value, NoMemory>
         ensures json { IfOk result (λ value. view value ≡ self.now.json) }
+        // It says what the schema says.
+        ensures reads_back { read_description self.now.json ≡ Ok self.now.description }
     {
         Ok(self.json.clone()?)
     }
@@ -249,6 +256,8 @@ impl Schema {
     /// `NoMemory` alone.
     pub fn copy(&self, alloc: Global) -> Result<Schema, NoMemory>
         ensures equal { IfOk result (λ schema. schema ≡ self.now) }
+        // Its JSON says what it says.
+        ensures reads_back { read_description self.now.json ≡ Ok self.now.description }
     {
         Ok(Schema {
             description: self.description.copy(alloc)?,

@@ -1,13 +1,13 @@
 //! A session with an upstream: its messages in, links out.
 
-ghost use Rattle.std.specs.Prelude.{◌≡◌, ◌≢◌, [], ◌∷◌, Err, IfOk, OnOk, OnErr, map};
+ghost use Rattle.std.specs.Prelude.{◌≡◌, ◌≢◌, [], ◌∷◌, Ok, Err, IfOk, OnOk, OnErr, map};
 ghost use Rattle.serde_json.specs.View.{view};
 ghost use Rattle.ovs_json.specs.Gives.{Gives};
 ghost use Rattle.ovs_types.specs.SchemaReading.{read_description};
 ghost use Rattle.ovs_rows.specs.ChangeReading.{read_change};
 ghost use Rattle.ovs_links.specs.Sets.{AllOf, IsOfTables};
 ghost use Rattle.ovs_upstream.specs.Talk.{answer_in, schema_said, answer_said, number_said, reply_said, update_in, update_said, notice_said};
-ghost use Rattle.ovs_upstream.specs.Requests.{schema_request};
+ghost use Rattle.ovs_upstream.specs.Requests.{schema_request, CanBeAsked};
 ghost use Rattle.ovs_upstream.specs.Hearing.{says, change_in, heard, opened, linked, placed, reached, hears_at, hears, opening, at_stage, links_in};
 
 use crate::error::UpError;
@@ -116,6 +116,8 @@ impl UpSession {
     /// `NoMemory` alone.
     pub fn open(alloc: Global, schema: &Schema, asked: TxnId) -> Result<UpSession, NoMemory>
         ensures value { IfOk result (λ s. s ≡ opening schema.now asked) }
+        // The schema's JSON says what the schema says.
+        ensures says { IfOk result (λ s. read_description s.schema.json ≡ Ok s.schema.description) }
     {
         Ok(UpSession {
             schema: schema.copy(alloc)?,
@@ -153,6 +155,8 @@ impl UpSession {
         ensures same { self.new ≡ at_stage self.old self.new.stage }
         ensures ended { OnErr result (self.new.stage ≡ Stage.Ended) }
         ensures over { self.old.stage ≡ Stage.Ended → result ≡ Err UpError.Ended }
+        // Where it sends the request for the monitor, each name stands in it once, and the id can be read.
+        ensures asked { OnOk result (self.old.stage ≡ Stage.Opening → self.new.stage ≡ Stage.Asking → CanBeAsked self.old.schema self.old.asked) }
     {
         if let Stage::Ended = self.stage {
             return Err(UpError::Ended);
@@ -172,6 +176,7 @@ impl UpSession {
     fn hear(&self, alloc: Global, message: Message) -> Result<Heard, UpError>
         requires open { self.now.stage ≢ Stage.Ended }
         ensures exact { Gives UpError.NoMemory (λ h. h) result (hears self.now message) }
+        ensures asked { IfOk result (λ h. self.now.stage ≡ Stage.Opening → h.stage ≡ Stage.Asking → CanBeAsked self.now.schema self.now.asked) }
     {
         match message {
             Message::Request { method, params, id } => {
@@ -225,6 +230,7 @@ impl UpSession {
     fn hear_reply(&self, alloc: Global, answer: Answer, id: &Id) -> Result<Heard, UpError>
         requires open { self.now.stage ≢ Stage.Ended }
         ensures exact { Gives UpError.NoMemory (λ h. h) result (hears_at self.now.stage self.now (reply_said answer id.now)) }
+        ensures asked { IfOk result (λ h. self.now.stage ≡ Stage.Opening → h.stage ≡ Stage.Asking → CanBeAsked self.now.schema self.now.asked) }
     {
         if is_word("schema", id.as_value()) {
             self.hear_schema(alloc, &answer)
@@ -251,6 +257,7 @@ impl UpSession {
     fn hear_schema(&self, alloc: Global, answer: &Answer) -> Result<Heard, UpError>
         requires open { self.now.stage ≢ Stage.Ended }
         ensures exact { Gives UpError.NoMemory (λ h. h) result (hears_at self.now.stage self.now (schema_said answer.now)) }
+        ensures asked { OnOk result (CanBeAsked self.now.schema self.now.asked) }
     {
         match self.stage {
             Stage::Opening if answer.error.as_value().is_null() => {
@@ -274,6 +281,7 @@ impl UpSession {
     // Asks for what comes after the id, where the schema is the same.
     fn opened(&self, alloc: Global, schema: &Value) -> Result<Heard, UpError>
         ensures exact { Gives UpError.NoMemory (λ h. h) result (opened self.now (view schema.now)) }
+        ensures asked { OnOk result (CanBeAsked self.now.schema self.now.asked) }
     {
         if !self.has_schema(alloc, schema)? {
             return Err(UpError::OtherSchema);
