@@ -1,2 +1,4 @@
 pub mod Carried
 pub mod Telling
+pub mod Asking
+pub mod Answering

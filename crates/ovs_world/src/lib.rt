@@ -5,4 +5,4 @@ mod channel;
 mod laws;
 
 pub use channel::Channel;
-pub use laws::a_relay_is_told_links;
+pub use laws::{a_relay_is_answered, a_relay_is_told_links};

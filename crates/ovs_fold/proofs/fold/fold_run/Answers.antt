@@ -1,13 +1,30 @@
-use Rattle.std.proofs.Common.{subst}
-use Rattle.std.specs.Prelude.{IfSome, option_and_then}
+use Rattle.std.proofs.Common.{◌≡◌, subst}
+use Rattle.std.specs.Prelude.{IfSome, IsTrue, if◌then◌else◌, option_and_then}
+use Rattle.std.specs.Io.KnownBytes.{Appends}
 use Rattle.ovs_wire.specs.Counted.{Counting}
 use Rattle.ovs_script.specs.Sending.{AppendsBeginning}
-use Rattle.ovs_script.specs.Texts.{Texts, texts_of, script_output, AreFirstAnswers, HearsAllRead}
+use Rattle.ovs_script.specs.RunEnd.{is_whole}
+use Rattle.ovs_script.specs.declared.run_end.RunEnd.TheVariants.{Clean, Refused}
+use Rattle.ovs_script.specs.Texts.{Texts, texts_of, script_output, is_content_with, AreFirstAnswers, HearsAllRead}
 use Rattle.ovs_script.specs.Said.{WritesSaid}
 use Rattle.ovs_fold.specs.declared.fold.Fold.{Fold}
 use Rattle.ovs_fold.specs.Folding.{fold_rules}
 use Rattle.ovs_fold.proofs.Passing.{not_read}
 use Rattle.ovs_fold.proofs.fold.fold_run.Goals as goal
+
+pub returns-clause-whole : goal.returns-clause-whole
+returns-clause-whole g c =
+    let texts = texts_of (g.R.Read.remaining c.args.reader.now.device) (λ (m : Counting _). g.M.Read.remaining m.device) c.args.merge.now in
+    let whole : Fold → Type 0 = λ f. IsTrue (is_whole c.run_script.result) → IfSome texts (λ (t : Texts).
+    Appends (g.W.Write.contents c.args.writer.now.device) (g.W.Write.contents c.run_script.new.writer.device) (script_output fold_rules f t)) in
+    subst whole c.new.ensures.value c.run_script.ensures.whole
+
+pub returns-clause-status : goal.returns-clause-status
+returns-clause-status g c =
+    let texts = texts_of (g.R.Read.remaining c.args.reader.now.device) (λ (m : Counting _). g.M.Read.remaining m.device) c.args.merge.now in
+    let status : Fold → Type 0 = λ f. IsTrue (is_whole c.run_script.result) → IfSome texts (λ (t : Texts).
+    c.run_script.result ≡ if is_content_with fold_rules f t then Clean else Refused) in
+    subst status c.new.ensures.value c.run_script.ensures.content
 
 pub returns-clause-begun : goal.returns-clause-begun
 returns-clause-begun g c =
