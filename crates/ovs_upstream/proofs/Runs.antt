@@ -39,23 +39,23 @@ pub record IsLine (tables : List Table) (ls : List Link) : Type 0 where
   pub joined : JoinUp tables 0 no_rows ls
   pub ends : AllOf (λ l. AreEnds l.prev l.id) ls
 
-ends_at : (ls : List Link) (k : ℕ) (l : Link) → AllOf (λ l. AreEnds l.prev l.id) ls → slice_get ls k ≡ Some l → AreEnds l.prev l.id
+pub ends_at : (ls : List Link) (k : ℕ) (l : Link) → AllOf (λ l. AreEnds l.prev l.id) ls → slice_get ls k ≡ Some l → AreEnds l.prev l.id
 ends_at [] k l a e = absurd (let n : None ≡ Some l = e in cc)
 ends_at (m ∷ ms) zero l a e = let s : m ≡ l = cc in subst (λ (x : Link). AreEnds x.prev x.id) s a.0
 ends_at (m ∷ ms) (suc k) l a e = ends_at ms k l a.1 e
 
-prev_at : (tables : List Table) (from : ℕ) (rows : Rows) (ls : List Link) (k : ℕ) (l : Link) → JoinUp tables from rows ls → slice_get ls k ≡ Some l
+pub prev_at : (tables : List Table) (from : ℕ) (rows : Rows) (ls : List Link) (k : ℕ) (l : Link) → JoinUp tables from rows ls → slice_get ls k ≡ Some l
     → l.prev ≡ head_after from (take k ls)
 prev_at tables from rows [] k l j e = absurd (let n : None ≡ Some l = e in cc)
 prev_at tables from rows (m ∷ ms) zero l j e = let s : m ≡ l = cc in sym (ap (λ (x : Link). x.prev) s) ∙ j.0
 prev_at tables from rows (m ∷ ms) (suc k) l j e = prev_at tables m.id (after tables rows m.change m.id) ms k l j.2 e
 
-id_at : (from : ℕ) (ls : List Link) (k : ℕ) (l : Link) → slice_get ls k ≡ Some l → head_after from (take (suc k) ls) ≡ l.id
+pub id_at : (from : ℕ) (ls : List Link) (k : ℕ) (l : Link) → slice_get ls k ≡ Some l → head_after from (take (suc k) ls) ≡ l.id
 id_at from [] k l e = absurd (let n : None ≡ Some l = e in cc)
 id_at from (m ∷ ms) zero l e = let s : m ≡ l = cc in ap (λ (x : Link). x.id) s
 id_at from (m ∷ ms) (suc k) l e = id_at m.id ms k l e
 
-within_at : (ls : List Link) (k : ℕ) (l : Link) → slice_get ls k ≡ Some l → suc k ≤ length ls
+pub within_at : (ls : List Link) (k : ℕ) (l : Link) → slice_get ls k ≡ Some l → suc k ≤ length ls
 within_at [] k l e = absurd (let n : None ≡ Some l = e in cc)
 within_at (m ∷ ms) zero l e = omega arith
 within_at (m ∷ ms) (suc k) l e = let t = within_at ms k l e in omega arith
@@ -80,7 +80,7 @@ are_ends_of prev id ends = both (le_true (2 ^ 64) id ends.0) (not_same id prev e
     both {a} {b} e f = cc
 
 -- the session hears the link that stands there
-linked_at : (tables : List Table) (ls : List Link) (p k id : ℕ) (d : Data) → IsLine tables ls → IsAt ls p k → (i : IsLinkAt tables ls k id d)
+pub linked_at : (tables : List Table) (ls : List Link) (p k id : ℕ) (d : Data) → IsLine tables ls → IsAt ls p k → (i : IsLinkAt tables ls k id d)
     → linked tables p id d ≡ Ok (record { stage = At i.link.id; event = event.Links (i.link ∷ []) })
 linked_at tables ls p k id d line is i =
     let l = i.link in
@@ -91,10 +91,10 @@ linked_at tables ls p k id d line is i =
     ∙ ap (λ r. change_in r >>= made p id) i.spells
     ∙ λ j. Ok (record { stage = At (sym i.id_is j); event = event.Links (record { prev = sym prev j; id = sym i.id_is j; change = l.change } ∷ []) })
 
-at_next : (tables : List Table) (ls : List Link) (k id : ℕ) (d : Data) → (i : IsLinkAt tables ls k id d) → IsAt ls i.link.id (suc k)
+pub at_next : (tables : List Table) (ls : List Link) (k id : ℕ) (d : Data) → (i : IsLinkAt tables ls k id d) → IsAt ls i.link.id (suc k)
 at_next tables ls k id d i = (within_at ls k i.link i.found, id_at 0 ls k i.link i.found)
 
-at_start : (ls : List Link) → IsAt ls 0 0
+pub at_start : (ls : List Link) → IsAt ls 0 0
 at_start ls = (omega arith, refl)
 
 -- ---- consecutive links
@@ -134,13 +134,13 @@ derived_from s ls p k (Improper ∷ ts) line quiet is h = absurd h
 
 -- ---- the answer
 
-same_test : (a b : ℕ) → a ≡ b → (a == b) ≡ true
+pub same_test : (a b : ℕ) → a ≡ b → (a == b) ≡ true
 same_test a b e = grind (arith, nat_tests)
 
-other_test : (a b : ℕ) → a ≢ b → (a == b) ≡ false
+pub other_test : (a b : ℕ) → a ≢ b → (a == b) ≡ false
 other_test a b e = grind (arith, nat_tests)
 
-large_test : (a : ℕ) → 2 ^ 64 ≤ a → nat_le (2 ^ 64) a ≡ true
+pub large_test : (a : ℕ) → 2 ^ 64 ≤ a → nat_le (2 ^ 64) a ≡ true
 large_test a le = grind (arith, nat_tests)
 
 stands : (s : UpSession) (ls : List Link) (id : ℕ) (d : Data) (ts : List Talk) (k n : ℕ) (h : Hearing) → h ≡ placed true id
@@ -148,7 +148,7 @@ stands : (s : UpSession) (ls : List Link) (id : ℕ) (d : Data) (ts : List Talk)
 stands s ls id d ts k n h is e = ap (λ r. links_after r (λ stage. derived_of (at_stage s stage) ts)) is ∙ e
 
 -- the id behind a link isn't the one before it
-next_is_other : (tables : List Table) (ls : List Link) (p k id : ℕ) (d : Data) → IsLine tables ls → IsAt ls p k → (i : IsLinkAt tables ls k id d) → AreEnds p id
+pub next_is_other : (tables : List Table) (ls : List Link) (p k id : ℕ) (d : Data) → IsLine tables ls → IsAt ls p k → (i : IsLinkAt tables ls k id d) → AreEnds p id
 next_is_other tables ls p k id d line is i =
     let l = i.link in
     let prev : l.prev ≡ p = prev_at tables 0 no_rows ls k l line.joined i.found ∙ is.1 in

@@ -1,19 +1,24 @@
 -- What a channel carries, call by call.
 use Rattle.std.specs.List.{concat, AllZip}
-use Rattle.std.proofs.Common.{All, ◌≡◌, ℕ, ◌<◌, ◌≤◌, List, [], ◌∷◌, ◌++◌, Result, Err, refl, ap, sym, ◌∙◌, subst, arith, append_assoc, append-nil}
+use Rattle.std.proofs.Common.{All, ◌≡◌, ℕ, ◌<◌, ◌≤◌, ◌⊎◌, inl, inr, List, [], ◌∷◌, ◌++◌, Result, Ok, Err, refl, ap, sym, ◌∙◌, subst, arith, append_assoc, append-nil, length, take, drop_of_length-le}
+use Rattle.std.proofs.Math.Seq.{take-length}
 use Rattle.std.proofs.lemmas.List.Elements.{All-nil, All-cons, All-append, All-head, All-tail}
 use Rattle.ovs_wire.specs.declared.error.FrameError.{FrameError}
+use Rattle.ovs_wire.specs.declared.error.FrameError.TheVariants.{TooDeep, TooLong}
 use Rattle.ovs_wire.specs.declared.error.FrameError.TheVariants as faults
 use Rattle.ovs_wire.specs.declared.error.MessageError.{MessageError}
 use Rattle.ovs_wire.specs.declared.error.MessageError.TheVariants.{NotJson, BadShape, NoMemory}
 use Rattle.ovs_wire.specs.declared.message.Message.{Message}
-use Rattle.ovs_wire.specs.Frames.{Ending, Rest, Fault, IsBalanced, IsObject}
-use Rattle.ovs_wire.specs.Framing.{Framing, Feeds, FeedsAfter, Takes, Answers}
+use Rattle.ovs_wire.specs.Frames.{Ending, Rest, Fault, IsBalanced, IsObject, IsTooLarge, HasFault, AreFrames}
+use Rattle.ovs_wire.specs.Framing.{Framing, IsNew, Feeds, FeedsAfter, Takes, Answers}
 use Rattle.ovs_wire.specs.Texts.{Remain}
 use Rattle.ovs_wire.specs.Message.{Says, Spells, Reads, IsWritten}
 use Rattle.ovs_wire.proofs.Beginnings.{cut_anywhere}
+use Rattle.ovs_wire.proofs.Cuts.{only_object, only_fault}
+use Rattle.ovs_wire.proofs.Over.{object_or_large}
 use Rattle.ovs_wire.proofs.Spelling.{one_message}
-use Rattle.ovs_world.specs.Carrying.{Line, IsIdle, Carries}
+use Rattle.ovs_wire.proofs.Unique.{once}
+use Rattle.ovs_world.specs.Carrying.{Line, IsIdle, Carries, Sends, Receives, Moves}
 
 pub carries_nothing : (line : Line) → IsIdle line → Carries line []
 carries_nothing line is = record {
@@ -202,3 +207,90 @@ says_no_other_error text m BadShape says refused =
     let same : says.0 ≡ refused.0 = cc (says.1.1, refused.1.1) in
     absurd (refused.2 m (subst (λ d. Spells d m) same says.2))
 says_no_other_error text m NoMemory says refused = refl
+
+-- ---- passing a message at once
+
+-- a text that was fed to a framer that holds nothing, without a fault: it waits, and nothing else
+pub record IsWhole (text : List ℕ) (now : Framing) : Type 0 where
+  pub object : IsObject text
+  pub waiting : now.waiting ≡ text ∷ []
+  pub ending : now.ending ≡ Rest []
+
+fed_alone : (old new : Framing) (text : List ℕ) → IsNew old → Feeds old text new → (found : List (List ℕ)) × AreFrames text found new.ending × (new.waiting ≡ found)
+fed_alone old new text is feeds =
+    let adds : FeedsAfter (Rest []) old text new = subst (λ (e : Ending). FeedsAfter e old text new) is.1 feeds in
+    (adds.found, adds.frames, adds.waiting ∙ ap (λ (w : List (List ℕ)). w ++ adds.found) is.0)
+
+-- there is no fault in an object, and one in every other balanced text
+pub whole_or_large : (old new : Framing) (text : List ℕ) → IsNew old → Feeds old text new → IsBalanced text
+    → IsWhole text new ⊎ (IsTooLarge text × ((fault : FrameError) × (new.ending ≡ Fault fault)))
+whole_or_large old new text is feeds balanced = by (object_or_large text balanced)
+  where
+    alone : (found : List (List ℕ)) × AreFrames text found new.ending × (new.waiting ≡ found)
+    alone = fed_alone old new text is feeds
+
+    large : (fault : FrameError) → HasFault text fault → IsTooLarge text → IsWhole text new ⊎ (IsTooLarge text × ((fault : FrameError) × (new.ending ≡ Fault fault)))
+    large fault has is_large = inr (is_large, (fault, sym (once text [] alone.0 (Fault fault) new.ending (only_fault text fault has) alone.1).1))
+
+    by : IsObject text ⊎ IsTooLarge text → IsWhole text new ⊎ (IsTooLarge text × ((fault : FrameError) × (new.ending ≡ Fault fault)))
+    by (inl object) =
+        let same = once text (text ∷ []) alone.0 (Rest []) new.ending (only_object text object) alone.1 in
+        inl (record { object = object; waiting = alone.2 ∙ sym same.0; ending = sym same.1 })
+    by (inr (inl deep)) = large TooDeep deep (inl deep)
+    by (inr (inr long)) = large TooLong long (inr long)
+
+abbrev pub fine : ℕ → Result ℕ FrameError
+fine n = Ok n
+
+-- a message that was sent and fed whole, where nothing else was on its way
+pub passes : (old mid new : Line) (m : Message) (n : ℕ) → IsIdle old → Sends old m mid → n ≡ length mid.flight → Moves mid n new → Answers new.framing.ending (fine n)
+    → (text : List ℕ) × IsWritten m text × IsWhole text new.framing × (new.flight ≡ [])
+passes old mid new m n idle sends all moves answers = (text, sends.1, whole (whole_or_large old.framing new.framing text idle.0 feeds sends.1.balanced), moves.1 ∙ drop_of_length-le mid.flight (omega (arith, all)))
+  where
+    text : List ℕ
+    text = sends.0
+
+    flight_is : mid.flight ≡ text
+    flight_is = ap (λ (l : Line). l.flight) sends.2 ∙ ap (λ (f : List ℕ). f ++ text) idle.1
+
+    feeds : Feeds old.framing text new.framing
+    feeds = subst (λ (f : Framing). Feeds f text new.framing) (ap (λ (l : Line). l.framing) sends.2)
+        (subst (λ (p : List ℕ). Feeds mid.framing p new.framing) (ap (λ k. take k mid.flight) all ∙ take-length mid.flight ∙ flight_is) moves.0)
+
+    no_fault : (ending : Ending) (fault : FrameError) → ending ≡ Fault fault → Answers ending (fine n) → ⊥
+    no_fault (Rest rest) fault is a = absurd cc
+    no_fault (Fault f) fault is a = a
+
+    whole : IsWhole text new.framing ⊎ (IsTooLarge text × ((fault : FrameError) × (new.framing.ending ≡ Fault fault))) → IsWhole text new.framing
+    whole (inl w) = w
+    whole (inr large) = absurd (no_fault new.framing.ending large.1.0 large.1.1 answers)
+
+-- and what is taken out then is the message
+pub passed_this : (m other : Message) (text : List ℕ) (now new : Line) → IsWritten m text → IsWhole text now.framing → now.flight ≡ [] → Receives now other new
+    → (other ≡ m) × IsIdle new
+passed_this m other text now new written whole none receives =
+    let waits : text ∷ [] ≡ receives.0 ∷ new.framing.waiting = sym whole.waiting ∙ receives.2.0 in
+    let same : receives.0 ≡ text = cc in
+    let rest : new.framing.waiting ≡ [] = cc in (
+      one_message text other m (subst (λ (t : List ℕ). Says t other) same receives.1) (object_says m text written whole.object),
+      ((rest, receives.2.1 ∙ whole.ending), receives.3 ∙ none),
+    )
+
+-- a fault tells that the message is too large
+pub stopped_large : (old mid : Line) (now : Framing) (m : Message) (n : ℕ) (fault : FrameError) → IsIdle old → Sends old m mid → n ≡ length mid.flight → Feeds mid.framing (take n mid.flight) now
+    → now.ending ≡ Fault fault → (text : List ℕ) × IsWritten m text × IsTooLarge text
+stopped_large old mid now m n fault idle sends all fed is = (text, sends.1, large (whole_or_large old.framing now text idle.0 feeds sends.1.balanced))
+  where
+    text : List ℕ
+    text = sends.0
+
+    flight_is : mid.flight ≡ text
+    flight_is = ap (λ (l : Line). l.flight) sends.2 ∙ ap (λ (f : List ℕ). f ++ text) idle.1
+
+    feeds : Feeds old.framing text now
+    feeds = subst (λ (f : Framing). Feeds f text now) (ap (λ (l : Line). l.framing) sends.2)
+        (subst (λ (p : List ℕ). Feeds mid.framing p now) (ap (λ k. take k mid.flight) all ∙ take-length mid.flight ∙ flight_is) fed)
+
+    large : IsWhole text now ⊎ (IsTooLarge text × ((fault : FrameError) × (now.ending ≡ Fault fault))) → IsTooLarge text
+    large (inl w) = absurd (let e : Rest [] ≡ Fault fault = sym w.ending ∙ is in cc)
+    large (inr l) = l.0

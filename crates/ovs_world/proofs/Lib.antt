@@ -2,3 +2,12 @@ pub mod Carried
 pub mod Telling
 pub mod Asking
 pub mod Answering
+pub mod Heard
+pub mod Led
+pub mod Held
+pub mod Moving
+pub mod Scenes
+pub mod Delivered
+pub mod Faithful
+pub mod Opened
+pub mod Longer

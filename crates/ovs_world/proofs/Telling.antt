@@ -49,7 +49,7 @@ of_commits tables (suc n) start rows (k ∷ ks) commits =
       subst (λ (r : Rows). AreDifferences tables r (take n (links_of tables k.id k.rows ks))) (sym is) (of_commits tables n k.id k.rows ks commits.1),
     )
 
-length_links : (tables : List Table) (start : ℕ) (rows : Rows) (h : List Commit) → length (links_of tables start rows h) ≡ length h
+pub length_links : (tables : List Table) (start : ℕ) (rows : Rows) (h : List Commit) → length (links_of tables start rows h) ≡ length h
 length_links tables start rows [] = refl
 length_links tables start rows (k ∷ ks) = let rest = length_links tables k.id k.rows ks in omega (arith, rest)
 

@@ -1,11 +1,11 @@
 -- What one direction of a connection has on its way.
-use Rattle.std.specs.Prelude.{◌≡◌, ℕ, List, [], ◌++◌, All, take, drop}
+use Rattle.std.specs.Prelude.{◌≡◌, ℕ, List, [], ◌∷◌, ◌++◌, Option, Some, None, All, take, drop}
 use Rattle.std.specs.List.{AllZip}
 use Rattle.ovs_wire.specs.declared.message.Message.{Message}
 use Rattle.ovs_wire.specs.Frames.{IsObject}
-use Rattle.ovs_wire.specs.Framing.{Framing, IsNew, Feeds}
+use Rattle.ovs_wire.specs.Framing.{Framing, IsNew, Feeds, Takes}
 use Rattle.ovs_wire.specs.Texts.{Remain}
-use Rattle.ovs_wire.specs.Message.{IsWritten}
+use Rattle.ovs_wire.specs.Message.{Says, IsWritten}
 
 -- what the receiving end has framed, and the bytes in flight
 pub record Line : Type 0 where
@@ -20,6 +20,20 @@ IsIdle line = IsNew line.framing × (line.flight ≡ [])
 abbrev pub Sends : Line → Message → Line → Type 0
 Sends old message new =
     (text : List ℕ) × IsWritten message text × (new ≡ record { framing = old.framing; flight = old.flight ++ text })
+
+-- the messages' texts came, one after another
+abbrev pub SendsAll : Line → List Message → Line → Type 0
+SendsAll old [] new = new ≡ old
+SendsAll old (m ∷ ms) new = (mid : Line) × Sends old m mid × SendsAll mid ms new
+
+-- the message's text came, if there is one
+abbrev pub SendsAny : Line → Option Message → Line → Type 0
+SendsAny old None new = new ≡ old
+SendsAny old (Some m) new = Sends old m new
+
+-- the first message that waits at the receiving end was taken out
+abbrev pub Receives : Line → Message → Line → Type 0
+Receives old m new = (text : List ℕ) × Says text m × Takes old.framing text new.framing × (new.flight ≡ old.flight)
 
 -- the first n bytes in flight were fed to the receiving end
 abbrev pub Moves : Line → ℕ → Line → Type 0

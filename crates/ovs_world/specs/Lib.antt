@@ -1,3 +1,10 @@
 pub mod Carrying
 pub mod Asking
 pub mod Awaiting
+pub mod Refusals
+pub mod Nodes
+pub mod Sessions
+pub mod Leading
+pub mod Deliveries
+pub mod Worlds
+pub mod Headline

@@ -1,10 +1,13 @@
 //! One direction of a connection between two nodes: messages go in whole and come out whole, and pass as bytes.
-ghost use Rattle.std.specs.Prelude.{◌≡◌, ◌∷◌, ◌++◌, [], ℕ, List, length, take, drop, min, None, OnOk, OnErr, IfOk, IfSome};
+ghost use Rattle.std.specs.Prelude.{◌≡◌, ◌⊎◌, ◌∷◌, ◌++◌, [], ℕ, List, length, take, drop, min, None, OnOk, OnErr, IfOk, IfSome};
+ghost use Rattle.std.specs.Option.{option_copied};
 ghost use Rattle.ovs_wire.specs.Framing.{Feeds, Answers};
 ghost use Rattle.ovs_wire.specs.Message.{IsWritten, Says};
 ghost use Rattle.ovs_wire.specs.declared.message.Message.{Message};
-ghost use Rattle.ovs_world.specs.Carrying.{Line, IsIdle, Carries, Sends, Moves};
+ghost use Rattle.ovs_world.specs.Carrying.{Line, IsIdle, Carries, Sends, SendsAll, SendsAny, Receives, Moves};
+ghost use Rattle.ovs_wire.specs.Frames.{IsTooLarge};
 
+use crate::error::WorldError;
 use ovs_wire::{FrameError, Framer, Message, MessageError, NoMemory};
 use std::alloc::Global;
 use std::marker::Model;
@@ -69,6 +72,54 @@ impl Channel {
         Ok(())
     }
 
+    /// Sends messages, one after another. After `NoMemory` some of them may be in flight.
+    pub(crate) fn send_all(&mut self, alloc: Global, messages: &[Message]) -> Result<(), NoMemory>
+        ensures sent { OnOk result (SendsAll self.old messages.now self.new) }
+    {
+        for message in messages {
+            self.send(alloc, message)?;
+        }
+        Ok(())
+    }
+
+    /// Sends a message, if there is one. `NoMemory` leaves the channel as it was.
+    pub(crate) fn send_any(
+        &mut self,
+        alloc: Global,
+        message: Option<&Message>,
+    ) -> Result<(), NoMemory>
+        ensures sent { OnOk result (SendsAny self.old (option_copied message.entry) self.new) }
+    {
+        match message {
+            Some(message) => self.send(alloc, message),
+            None => Ok(()),
+        }
+    }
+
+    /// Sends a message and takes it out at once, where nothing else is on its way.
+    ///
+    /// # Errors
+    /// - `TooLarge`: the message is above the limits.
+    /// - `NoMemory`.
+    ///
+    /// The channel can't be used after either.
+    pub(crate) fn pass(&mut self, alloc: Global, message: &Message) -> Result<Message, WorldError>
+        requires idle { IsIdle self.old }
+        ensures passed { IfOk result (λ m. (m ≡ message.now) × IsIdle self.new) }
+        ensures large { result ≡ Err WorldError.TooLarge → (text : List ℕ) × IsWritten message.now text × IsTooLarge text }
+        ensures refused { (e : _) → result ≡ Err e → (e ≡ WorldError.TooLarge) ⊎ (e ≡ WorldError.NoMemory) }
+    {
+        self.send(alloc, message)?;
+        self.feed(self.in_flight())?;
+        match self.receive(alloc) {
+            Ok(Some(message)) => Ok(message),
+            Ok(None) => unreachable!(),
+            Err(MessageError::NoMemory) => Err(WorldError::NoMemory),
+            Err(MessageError::NotJson) => unreachable!(),
+            Err(MessageError::BadShape) => unreachable!(),
+        }
+    }
+
     /// Feeds the receiving end with the next `n` of the bytes in flight, or with all if there are fewer, and says with
     /// how many.
     ///
@@ -77,7 +128,8 @@ impl Channel {
     pub fn feed(&mut self, n: usize) -> Result<usize, FrameError>
         ensures moved { IfOk result (λ fed. Moves self.old fed self.new × (fed ≡ min n (length self.old.flight))) }
         ensures fault { (f : _) → result ≡ Err f → (f ≡ FrameError.NoMemory → ⊥)
-            → Feeds self.old.framing (take n self.old.flight) self.new.framing × Answers self.new.framing.ending result }
+            → Feeds self.old.framing (take n self.old.flight) self.new.framing }
+        ensures answer { (result ≡ Err FrameError.NoMemory → ⊥) → Answers self.new.framing.ending result }
         ensures carried { (messages : List Message) → Carries self.old messages → Carries self.new messages }
         ensures memory { result ≡ Err FrameError.NoMemory → self.new ≡ self.old }
     {
@@ -99,6 +151,7 @@ impl Channel {
     pub fn receive(&mut self, alloc: Global) -> Result<Option<Message>, MessageError>
         ensures some { IfOk result (λ r. IfSome r (λ m. (messages : List Message) → Carries self.old messages
             → (more : List Message) × (messages ≡ m ∷ more) × Carries self.new more)) }
+        ensures received { IfOk result (λ r. IfSome r (λ m. Receives self.old m self.new)) }
         ensures none { result ≡ Ok None → (self.new ≡ self.old) × (self.old.framing.waiting ≡ []) }
         ensures err { (e : _) → result ≡ Err e → (messages : List Message) → Carries self.old messages → e ≡ MessageError.NoMemory }
     {

@@ -2,7 +2,15 @@
 #![tactic(auto)]
 
 mod channel;
+mod delivering;
+mod error;
+mod holding;
 mod laws;
+mod session;
+mod world;
 
 pub use channel::Channel;
+pub use error::WorldError;
+pub use holding::Counts;
 pub use laws::{a_relay_is_answered, a_relay_is_told_links};
+pub use world::{MAX_RELAYS, World};

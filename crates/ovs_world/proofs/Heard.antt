@@ -1,0 +1,185 @@
+-- What is on its way to a relay is heard.
+use Rattle.std.proofs.Common.{◌≡◌, ◌≤◌, ◌⊎◌, inl, inr, ℕ, zero, suc, Bool, true, false, cond, List, [], ◌∷◌, ◌++◌, Option, Some, None, Ok, Err, length, refl, sym, ◌∙◌, ap, subst, arith}
+use Rattle.std.specs.Prelude.{slice_get, nat_le, ◌==◌, ◌&&◌, ◌^◌}
+use Rattle.serde_json.specs.Data.{Data}
+use Rattle.ovs_json.specs.Parts.{is_empty_object}
+use Rattle.ovs_types.specs.Schema.{SchemaValue}
+use Rattle.ovs_types.specs.SchemaReading.{read_description}
+use Rattle.ovs_types.specs.declared.schema.Table.{Table}
+use Rattle.ovs_rows.specs.Row.{no_rows}
+use Rattle.ovs_links.specs.History.{links_of}
+use Rattle.ovs_links.specs.Sets.{AllOf, Among}
+use Rattle.ovs_links.specs.Store.{Stored, tables_of}
+use Rattle.ovs_links.specs.declared.link.Link.{Link}
+use Rattle.ovs_reader.specs.declared.subscription.Subscription.{Subscription}
+use Rattle.ovs_source.specs.Commits.{IsSource, history_of}
+use Rattle.ovs_upstream.proofs.Runs.{IsLine, linked_at, at_next, at_start, next_is_other, same_test, other_test, large_test}
+use Rattle.ovs_upstream.proofs.Streams.{history_line}
+use Rattle.ovs_upstream.specs.Hearing.{Hearing, heard, hears, hears_at, links_in, linked, placed, reached, opening}
+use Rattle.ovs_upstream.specs.Lawful.{IsAt, IsLinkAt, Answers}
+use Rattle.ovs_upstream.specs.Requests.{monitor_request}
+use Rattle.ovs_upstream.specs.Talk.{Talk, Schema, Reached, Update, Aside, Improper, talk_of}
+use Rattle.ovs_upstream.specs.declared.up_event.UpEvent.{UpEvent}
+use Rattle.ovs_upstream.specs.declared.up_event.UpEvent.TheVariants.{Links, Send, Nothing}
+use Rattle.ovs_upstream.specs.declared.up_session.Heard.{Heard}
+use Rattle.ovs_upstream.specs.declared.up_session.Stage.{Stage}
+use Rattle.ovs_upstream.specs.declared.up_session.Stage.TheVariants.{Opening, Asking, At, Ended}
+use Rattle.ovs_upstream.specs.declared.up_session.UpSession.{UpSession}
+use Rattle.ovs_wire.specs.declared.message.Message.{Message}
+use Rattle.ovs_world.specs.Asking.{schema_reply}
+use Rattle.ovs_world.specs.Awaiting.{TellsPlace, TellsLink, TellLinks}
+use Rattle.ovs_world.specs.Leading.{HasMonitor, AwaitsSchema, AwaitsAnswer, AwaitsLinks, Awaits}
+use Rattle.ovs_world.proofs.Answering.{schema_heard}
+
+pub source_line : (source : Stored) → IsSource source → IsLine (tables_of source) source.folded
+source_line source is = subst (IsLine (tables_of source)) is.links (history_line (tables_of source) (history_of source) is.history)
+
+among_at : (ls : List Link) (k : ℕ) (l : Link) → slice_get ls k ≡ Some l → Among ls l
+among_at [] k l e = absurd (let n : None ≡ Some l = e in cc)
+among_at (m ∷ ms) zero l e = inl (let s : m ≡ l = cc in sym s)
+among_at (m ∷ ms) (suc k) l e = inr (among_at ms k l e)
+
+-- ---- the answer, and updates: the session stands behind so many links, and has made at most the last of them
+
+pub record StandsBehind (ls : List Link) (h : Heard) (k : ℕ) : Type 0 where
+  pub id : ℕ
+  pub stage : h.stage ≡ At id
+  pub stands : IsAt ls id k
+  pub event : (h.event ≡ Nothing) ⊎ ((l : Link) × (h.event ≡ Links (l ∷ [])) × Among ls l)
+
+behind_link : (tables : List Table) (ls : List Link) (k id : ℕ) (d : Data) → (i : IsLinkAt tables ls k id d)
+    → StandsBehind ls (record { stage = At i.link.id; event = Links (i.link ∷ []) }) (suc k)
+behind_link tables ls k id d i = record {
+  id = i.link.id;
+  stage = refl;
+  stands = at_next tables ls k id d i;
+  event = inr (i.link, refl, among_at ls k i.link i.found);
+}
+
+module _ (s : UpSession) (ls : List Link) (line : IsLine s.schema.description.tables ls) where
+  abbrev tables : List Table
+  tables = s.schema.description.tables
+
+  abbrev Leads : Hearing → ℕ → Type 0
+  Leads hearing k = (h : Heard) × (hearing ≡ Ok h) × StandsBehind ls h k
+
+  update_heard : (p k id : ℕ) (d : Data) → IsAt ls p k → IsLinkAt tables ls k id d → Leads (linked tables p id d) (suc k)
+  update_heard p k id d at i = (_, linked_at tables ls p k id d line at i, behind_link tables ls k id d i)
+
+  answer_heard : (known : Bool) (id : ℕ) (d : Data) (k : ℕ) → Answers tables ls s.asked known id d k → Leads (reached s known id d) k
+  answer_heard true id d k (inl a) = (
+    record { stage = At id; event = Nothing },
+    ap (λ b. cond b (placed (is_empty_object d) id) (linked tables s.asked id d)) (same_test id s.asked a.0) ∙ ap (λ b. placed b id) a.1,
+    record { id = id; stage = refl; stands = subst (λ n. IsAt ls n k) (sym a.0) a.2; event = inl refl },
+  )
+  answer_heard true id d k (inr a) =
+      let i = a.3 in
+      let ends = next_is_other tables ls s.asked a.0 id d line a.2 i in (
+        _,
+        ap (λ b. cond b (placed (is_empty_object d) id) (linked tables s.asked id d)) (other_test id s.asked ends.1)
+            ∙ linked_at tables ls s.asked a.0 id d line a.2 i,
+        subst (StandsBehind ls (record { stage = At i.link.id; event = Links (i.link ∷ []) })) (sym a.1) (behind_link tables ls a.0 id d i),
+      )
+  answer_heard false id d k (inl a) =
+      let tests : ((id == 0) && is_empty_object d) ≡ true = ap (λ b. b && is_empty_object d) (same_test id 0 a.0) ∙ a.1 in (
+        record { stage = At id; event = Nothing },
+        ap (λ b. cond b (linked tables 0 id d) (placed ((id == 0) && is_empty_object d) id)) (ap (λ n. nat_le (2 ^ 64) n) a.0)
+            ∙ ap (λ b. placed b id) tests,
+        record {
+          id = id;
+          stage = refl;
+          stands = subst (λ n. IsAt ls n k) (sym a.0) (subst (IsAt ls 0) (sym a.2) (at_start ls));
+          event = inl refl;
+        },
+      )
+  answer_heard false id d k (inr a) =
+      let i = a.1 in
+      let ends = next_is_other tables ls 0 0 id d line (at_start ls) i in (
+        _,
+        ap (λ b. cond b (linked tables 0 id d) (placed ((id == 0) && is_empty_object d) id)) (large_test id ends.0)
+            ∙ linked_at tables ls 0 0 id d line (at_start ls) i,
+        subst (StandsBehind ls (record { stage = At i.link.id; event = Links (i.link ∷ []) })) (sym a.0) (behind_link tables ls 0 id d i),
+      )
+
+  tells_link : (p k : ℕ) (t : Talk) → IsAt ls p k → TellsLink tables ls k t → Leads (hears_at (At p) s t) (suc k)
+  tells_link p k (Update id d) at i = update_heard p k id d at i
+  tells_link p k (Schema d) at i = absurd i
+  tells_link p k (Reached known id d) at i = absurd i
+  tells_link p k (Aside e) at i = absurd i
+  tells_link p k Improper at i = absurd i
+
+  tells_place : (k : ℕ) (t : Talk) → TellsPlace tables ls s.asked k t → Leads (hears_at Asking s t) k
+  tells_place k (Reached known id d) a = answer_heard known id d k a
+  tells_place k (Update id d) a = absurd a
+  tells_place k (Schema d) a = absurd a
+  tells_place k (Aside e) a = absurd a
+  tells_place k Improper a = absurd a
+
+-- ---- what is on its way
+
+-- the first message is heard: it is the schema, and the monitor is asked for; or the rest is on its way still
+pub record IsHeard (source : Stored) (n : ℕ) (s : UpSession) (monitors : List Subscription) (m : Message) (more : List Message) (h : Heard) : Type 0 where
+  pub is : hears s m ≡ Ok h
+  pub then : ((h.stage ≡ Asking) × (h.event ≡ Send (monitor_request s.schema s.asked)) × (s.stage ≡ Opening) × (monitors ≡ []) × (more ≡ []))
+      ⊎ (((h.event ≡ Nothing) ⊎ ((l : Link) × (h.event ≡ Links (l ∷ [])) × Among source.folded l)) × Awaits source n s.asked h.stage monitors more)
+
+behind_awaits : (source : Stored) (n : ℕ) (asked : ℕ) (monitors : List Subscription) (m : Subscription) (more : List Message) (h : Heard) (k : ℕ)
+    → StandsBehind source.folded h k → HasMonitor source n monitors m → TellLinks (tables_of source) source.folded k m.position more
+    → Awaits source n asked h.stage monitors more
+behind_awaits source n asked monitors m more h k behind has links =
+    subst (λ (stage : Stage). Awaits source n asked stage monitors more) (sym behind.stage)
+    (record { monitor = m; has = has; place = k; stands = behind.stands; links = links })
+
+module _ (source : Stored) (is : IsSource source)
+    (n : ℕ) (s : UpSession) (reads : read_description s.schema.json ≡ Ok s.schema.description) (same : s.schema ≡ source.schema) (monitors : List Subscription) (m : Message) (more : List Message) where
+  abbrev Hears : Type 0
+  Hears = (h : Heard) × IsHeard source n s monitors m more h
+
+  line : IsLine s.schema.description.tables source.folded
+  line = subst (λ (v : SchemaValue). IsLine v.description.tables source.folded) (sym same) (source_line source is)
+
+  schema_first : s.stage ≡ Opening → AwaitsSchema source monitors (m ∷ more) → Hears
+  schema_first at a =
+      let all : m ∷ more ≡ schema_reply source.schema ∷ [] = a.1 in
+      let first : m ≡ schema_reply source.schema = cc in
+      let none : more ≡ [] = cc in
+      let this : m ≡ schema_reply s.schema = first ∙ ap schema_reply (sym same) in (
+        record { stage = Asking; event = Send (monitor_request s.schema s.asked) },
+        record {
+          is = ap (λ stage. hears_at stage s (talk_of m)) at ∙ ap (λ x. hears_at Opening s (talk_of x)) this ∙ schema_heard s.schema s.asked reads;
+          then = inl (refl, refl, at, a.0, none);
+        },
+      )
+
+  onward : (k : ℕ) (sub : Subscription) (h : Heard) → hears s m ≡ Ok h → StandsBehind source.folded h k → HasMonitor source n monitors sub
+      → TellLinks (tables_of source) source.folded k sub.position more → Hears
+  onward k sub h heard_is behind has links = (h, record { is = heard_is; then = inr (behind.event, behind_awaits source n s.asked monitors sub more h k behind has links) })
+
+  answer_first : s.stage ≡ Asking → AwaitsAnswer source n s.asked monitors (m ∷ more) → Hears
+  answer_first at a =
+      let all : m ∷ more ≡ a.answer ∷ a.more = a.are in
+      let first : a.answer ≡ m = cc in
+      let rest : a.more ≡ more = cc in
+      let tells : TellsPlace s.schema.description.tables source.folded s.asked a.place (talk_of m) = subst (λ (v : SchemaValue). TellsPlace v.description.tables source.folded s.asked a.place (talk_of m)) (sym same)
+      (subst (λ x. TellsPlace (tables_of source) source.folded s.asked a.place (talk_of x)) first a.tells) in
+      let t = tells_place s source.folded line a.place (talk_of m) tells in
+      onward a.place a.monitor t.0 (ap (λ stage. hears_at stage s (talk_of m)) at ∙ t.1) t.2 a.has
+      (subst (TellLinks (tables_of source) source.folded a.place a.monitor.position) rest a.links)
+
+  update_first : (id : ℕ) → s.stage ≡ At id → AwaitsLinks source n id monitors (m ∷ more) → Hears
+  update_first id at a =
+      let tells : TellsLink s.schema.description.tables source.folded a.place (talk_of m) = subst (λ (v : SchemaValue). TellsLink v.description.tables source.folded a.place (talk_of m)) (sym same) a.links.0 in
+      let t = tells_link s source.folded line id a.place (talk_of m) a.stands tells in
+      onward (suc a.place) a.monitor t.0 (ap (λ stage. hears_at stage s (talk_of m)) at ∙ t.1) t.2 a.has a.links.1
+
+  by_stage : (stage : Stage) → s.stage ≡ stage → Awaits source n s.asked stage monitors (m ∷ more) → Hears
+  by_stage Opening at a = schema_first at a
+  by_stage Asking at a = answer_first at a
+  by_stage (At id) at a = update_first id at a
+  by_stage Ended at a = absurd a
+
+-- what comes first is heard
+pub first_heard : (source : Stored) (n : ℕ) (s : UpSession) (monitors : List Subscription) (m : Message) (more : List Message)
+    → IsSource source → read_description s.schema.json ≡ Ok s.schema.description → s.schema ≡ source.schema
+    → Awaits source n s.asked s.stage monitors (m ∷ more) → (h : Heard) × IsHeard source n s monitors m more h
+first_heard source n s monitors m more is reads same awaits = by_stage source is n s reads same monitors m more s.stage refl awaits

@@ -1,0 +1,105 @@
+-- A relay takes links of the source's chain, and settles.
+use Rattle.std.proofs.Common.{◌≡◌, ◌≤◌, ◌⊎◌, inl, inr, ⊎_elim, ℕ, zero, suc, List, [], ◌∷◌, ◌++◌, Result, Ok, Err, length, take, refl, sym, ◌∙◌, ap, subst, arith}
+use Rattle.ovs_rows.specs.Row.{no_rows}
+use Rattle.ovs_types.specs.Schema.{SchemaValue}
+use Rattle.ovs_links.specs.Answers.{IsSourceChain, AreOfOneSource, IsFork, TakesAs}
+use Rattle.ovs_links.specs.Chains.{IsPrefixOf}
+use Rattle.ovs_links.specs.History.{links_of}
+use Rattle.ovs_links.specs.Runs.{HoldsBoth, IsRefusedAt}
+use Rattle.ovs_links.specs.Settling.{KeepsLinks, IsWholeChain, chain_of}
+use Rattle.ovs_links.specs.Sets.{AllOf, Among, Holds}
+use Rattle.ovs_links.specs.Store.{Stored, IsStore, IsChainOf, tables_of}
+use Rattle.ovs_links.specs.declared.answer.By.{By}
+use Rattle.ovs_links.specs.declared.answer.By.TheVariants.{Prev, Id}
+use Rattle.ovs_links.specs.declared.answer.TakeError.{TakeError}
+use Rattle.ovs_links.specs.declared.answer.TakeError.TheVariants.{Fork}
+use Rattle.ovs_links.specs.declared.link.Link.{Link}
+use Rattle.ovs_links.proofs.HistoryLemmas.{no_fork}
+use Rattle.ovs_source.specs.Commits.{IsSource, history_of}
+use Rattle.ovs_world.specs.Nodes.{IsNode, Extends}
+
+-- of a beginning of a list's first links
+front_of : (xs rest ls : List Link) (n : ℕ) → xs ++ rest ≡ take n ls → xs ≡ take (length xs) ls
+front_of [] rest ls n e = refl
+front_of (x ∷ xs) rest ls zero e = absurd cc
+front_of (x ∷ xs) rest [] (suc n) e = absurd cc
+front_of (x ∷ xs) rest (l ∷ ls) (suc n) e =
+    let first : x ≡ l = cc e in
+    let later : xs ++ rest ≡ take n ls = cc e in
+    (λ i. first i ∷ front_of xs rest ls n later i)
+
+module _ (source : Stored) (is : IsSource source) where
+  abbrev all : List Link
+  all = links_of (tables_of source) 0 no_rows (history_of source)
+
+  -- a store of links of the chain that was settled, if perhaps not to the end
+  pub node_settled : (mid new : Stored) → mid.schema ≡ source.schema → ((l : Link) → Holds mid.links l → Among source.folded l)
+      → KeepsLinks mid new → IsStore new → IsWholeChain mid (chain_of mid) → IsNode source new
+  node_settled mid new schema within keeps store whole =
+      let same : new.schema ≡ source.schema = keeps.schema ∙ schema in
+      let source_chain : IsSourceChain (tables_of mid) (Holds mid.links) (chain_of mid) = whole.source in
+      let of_source : IsSourceChain (tables_of source) (Holds mid.links) (chain_of mid) = subst (λ (v : _). IsSourceChain v.description.tables (Holds mid.links) (chain_of mid)) schema source_chain in
+      let place = of_source (history_of source) is.history (λ l held. subst (λ (ls : List Link). Among ls l) (sym is.links) (within l held)) in
+      let chain : chain_of mid ≡ take (length (chain_of mid)) source.folded = place.1 ∙ ap (take (length (chain_of mid))) is.links in
+      let longest : IsChainOf new (chain_of mid) = subst (λ (v : _). IsChainOf (record { schema = v; links = new.links; folded = new.folded }) (chain_of mid)) (sym keeps.schema)
+      (subst (λ (v : _). IsChainOf (record { schema = mid.schema; links = v; folded = new.folded }) (chain_of mid)) (sym keeps.links) whole.longest) in
+      let prefix = store.prefix (chain_of mid) longest in
+      record {
+        schema = same;
+        store = store;
+        within = λ l held. within l (subst (λ (v : _). Holds v l) keeps.links held);
+        front = front_of new.folded prefix.0 source.folded (length (chain_of mid)) (prefix.1 ∙ chain);
+      }
+
+  among_all : (xs : List Link) (x : Link) → AllOf (Among source.folded) xs → Among xs x → Among source.folded x
+  among_all [] x a m = absurd m
+  among_all (y ∷ ys) x a (inl e) = subst (Among source.folded) (sym e) a.0
+  among_all (y ∷ ys) x a (inr m) = among_all ys x a.1 m
+
+  front_among : (before behind ls : List Link) → before ++ behind ≡ ls → AllOf (Among source.folded) ls → AllOf (Among source.folded) before
+  front_among before behind ls place among = left before (subst (AllOf (Among source.folded)) (sym place) among)
+    where
+      left : (xs : List Link) → AllOf (Among source.folded) (xs ++ behind) → AllOf (Among source.folded) xs
+      left [] a = tt
+      left (x ∷ xs) a = (a.0, left xs a.1)
+
+  -- links of the chain are never refused as contradictions
+  pub never_fork : (S : Link → Type 0) (m : _) (ls : List Link) (e : TakeError) (l : Link) (by : By) (p i : ℕ) → ((l : Link) → S l → Among source.folded l)
+      → AllOf (Among source.folded) ls → IsRefusedAt S m ls e → e ≡ Fork l by p i → ⊥
+  never_fork S m ls e l by p i within among at is_fork =
+      let answer : TakesAs m at.link (Err (Fork l by p i)) = subst (λ (x : TakeError). TakesAs m at.link (Err x)) is_fork at.answer in
+      let held : (x : Link) → Holds m x → Among source.folded x = λ x h. ⊎_elim (λ (s : S x). within x s) (λ (a : Among at.before x). among_all at.before x (front_among at.before (at.link ∷ at.behind) ls at.place among) a) ((at.held x).0 h) in
+      let link : Among source.folded at.link = (behind_among at.before at.place).0 in
+      by_answer by held link answer
+    where
+      behind_among : (before : List Link) → before ++ at.link ∷ at.behind ≡ ls → AllOf (Among source.folded) (at.link ∷ at.behind)
+      behind_among before place = right before (subst (AllOf (Among source.folded)) (sym place) among)
+        where
+          right : (xs : List Link) → AllOf (Among source.folded) (xs ++ at.link ∷ at.behind) → AllOf (Among source.folded) (at.link ∷ at.behind)
+          right [] a = a
+          right (x ∷ xs) a = right xs a.1
+
+      one_source : ((x : Link) → Holds m x → Among source.folded x) → AreOfOneSource (tables_of source) (Holds m) (Among source.folded)
+      one_source held = (
+        history_of source,
+        is.history,
+        λ x h. subst (λ (ls : List Link). Among ls x) (sym is.links) (held x h),
+        λ x h. subst (λ (ls : List Link). Among ls x) (sym is.links) h,
+      )
+
+      by_answer : (by : By) → ((x : Link) → Holds m x → Among source.folded x) → Among source.folded at.link → TakesAs m at.link (Err (Fork l by p i)) → ⊥
+      by_answer Prev held link answer = no_fork (Holds m) (Among source.folded) (tables_of source) at.link answer.1.0 (one_source held) link answer.1.1 answer.1.2
+      by_answer Id held link answer = no_fork (Holds m) (Among source.folded) (tables_of source) at.link answer.1.1.0 (one_source held) link answer.1.1.1 answer.1.1.2
+
+  -- after all links were taken
+  pub node_taken : (old mid new : Stored) (ls : List Link) → IsNode source old → AllOf (Among source.folded) ls → HoldsBoth mid.links (Holds old.links) ls → mid.schema ≡ old.schema
+      → KeepsLinks mid new → IsStore new → IsWholeChain mid (chain_of mid) → IsNode source new
+  node_taken old mid new ls node among both schema keeps store whole =
+      node_settled mid new (schema ∙ node.schema)
+      (λ l h. ⊎_elim (λ (s : Holds old.links l). node.within l s) (λ (a : Among ls l). among_all ls l among a) ((both l).0 h)) keeps store whole
+
+  -- after those before one that was refused
+  pub node_stopped : (old mid new : Stored) (ls : List Link) (e : TakeError) → IsNode source old → AllOf (Among source.folded) ls → IsRefusedAt (Holds old.links) mid.links ls e → mid.schema ≡ old.schema
+      → KeepsLinks mid new → IsStore new → IsWholeChain mid (chain_of mid) → IsNode source new
+  node_stopped old mid new ls e node among at schema keeps store whole =
+      node_taken old mid new at.before node (front_among at.before (at.link ∷ at.behind) ls at.place among) at.held schema keeps store whole

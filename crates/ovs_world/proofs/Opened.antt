@@ -1,0 +1,145 @@
+-- The sessions of a world.
+use Rattle.std.specs.List.{AllByRecursion}
+use Rattle.std.proofs.lemmas.List.{take_at}
+use Rattle.std.proofs.Common.{◌≡◌, ◌≤◌, ◌<◌, ◌-◌, ℕ, zero, suc, List, [], ◌∷◌, ◌++◌, Option, Some, None, Ok, length, take, get_or, slice_set, refl, sym, ◌∙◌, ap, subst, arith}
+use Rattle.std.specs.Prelude.{slice_get}
+use Rattle.std.proofs.lemmas.List.{set-set}
+use Rattle.ovs_links.specs.Store.{Stored, IsStore}
+use Rattle.ovs_types.specs.SchemaReading.{read_description}
+use Rattle.ovs_links.specs.Steps.{FoldedValue}
+use Rattle.ovs_reader.specs.Session.{MayBeShown}
+use Rattle.ovs_world.specs.Carrying.{Line}
+use Rattle.ovs_world.specs.Leading.{IsLed}
+use Rattle.ovs_world.specs.Sessions.{Opens}
+use Rattle.ovs_world.proofs.Led.{led_opened}
+use Rattle.ovs_world.specs.Deliveries.{IsBetween, IsScene, IsHeardOut}
+use Rattle.ovs_world.specs.Nodes.{IsNode, IsTier, Extends, Grow, node_at, folded_in}
+use Rattle.ovs_world.specs.Worlds.{IsWorld, IsOpen, IsOpenAt, NoneIsOpenAt}
+use Rattle.ovs_world.specs.declared.session.Session.{Session}
+use Rattle.ovs_world.proofs.Scenes.{node_of, length_grow, node_grows, led_grows, any_default}
+
+all_set : {X : Type 0} (P : X → Type 0) (xs : List X) (i : ℕ) (x : X) → AllByRecursion P xs → P x → AllByRecursion P (slice_set xs i x)
+all_set P [] i x a p = a
+all_set P (y ∷ ys) zero x a p = (p, a.1)
+all_set P (y ∷ ys) (suc i) x a p = (a.0, all_set P ys i x a.1 p)
+
+pub all_push : {X : Type 0} (P : X → Type 0) (xs : List X) (x : X) → AllByRecursion P xs → P x → AllByRecursion P (xs ++ x ∷ [])
+all_push P [] x a p = (p, tt)
+all_push P (y ∷ xs) x a p = (a.0, all_push P xs x a.1 p)
+
+all_weaker : {X : Type 0} (P Q : X → Type 0) (xs : List X) → ((x : X) → P x → Q x) → AllByRecursion P xs → AllByRecursion Q xs
+all_weaker P Q [] f a = tt
+all_weaker P Q (x ∷ xs) f a = (f x a.0, all_weaker P Q xs f a.1)
+
+between_grows : (source : Stored) (ss ts : List Stored) (s : Session) → IsStore source → Grow ss ts → IsBetween source ss s → IsBetween source ts s
+between_grows source ss ts s store grow is =
+    let long = length_grow ss ts grow in
+    let relay = is.relay.1 in
+    let upstream = is.upstream in
+    record {
+      relay = (is.relay.0, omega (arith, relay, long));
+      upstream = omega (arith, upstream, long);
+      led = led_grows source (node_at source ss s.upstream) (node_at source ts s.upstream) s (node_grows source ss ts store grow s.upstream) is.led;
+    }
+
+open_grows : (source : Stored) (ss ts : List Stored) (o : Option Session) → IsStore source → Grow ss ts → IsOpen source ss o → IsOpen source ts o
+open_grows source ss ts None store grow is = is
+open_grows source ss ts (Some s) store grow is = (between_grows source ss ts s store grow is.0, is.1)
+
+-- some relays took more, and one session is another
+pub sessions_after : (source : Stored) (ss ts : List Stored) (os : List (Option Session)) (i : ℕ) (o : Option Session) → IsStore source → Grow ss ts
+    → AllByRecursion (IsOpen source ss) os → IsOpen source ts o → AllByRecursion (IsOpen source ts) (slice_set os i o)
+sessions_after source ss ts os i o store grow each is =
+    all_set (IsOpen source ts) os i o (all_weaker (IsOpen source ss) (IsOpen source ts) os (λ x r. open_grows source ss ts x store grow r) each) is
+
+pub sessions_cut : (source : Stored) (ss : List Stored) (os : List (Option Session)) (i : ℕ) → AllByRecursion (IsOpen source ss) os → AllByRecursion (IsOpen source ss) (slice_set os i None)
+sessions_cut source ss os i each = all_set (IsOpen source ss) os i None each tt
+
+pub open_at : (source : Stored) (ss : List Stored) (os : List (Option Session)) (n : ℕ) (s : Session) → AllByRecursion (IsOpen source ss) os → IsOpenAt os n s → IsOpen source ss (Some s)
+open_at source ss os zero s each at = absurd at
+open_at source ss os (suc n) s each at = by os n each at
+  where
+    by : (os : List (Option Session)) (n : ℕ) → AllByRecursion (IsOpen source ss) os → slice_get os n ≡ Some (Some s) → IsOpen source ss (Some s)
+    by [] n each e = absurd (let f : None ≡ Some (Some s) = e in cc)
+    by (o ∷ os) zero each e = subst (IsOpen source ss) (let f : o ≡ Some s = cc e in f) each.0
+    by (o ∷ os) (suc n) each e = by os n each.1 e
+
+get_is : (os : List (Option Session)) (i : ℕ) (d o : Option Session) → i < length os → get_or os i d ≡ o → slice_get os i ≡ Some o
+get_is [] i d o lt e = absurd (omega (arith, lt))
+get_is (x ∷ os) zero d o lt e = ap Some e
+get_is (x ∷ os) (suc i) d o lt e = get_is os i d o (omega (arith, lt)) e
+
+pub open_is : (os : List (Option Session)) (n : ℕ) (d : Option Session) (s : Session) → 0 < n → n ≤ length os → get_or os (n - 1) d ≡ Some s → IsOpenAt os n s
+open_is os zero d s lt le e = absurd (omega (arith, lt))
+open_is os (suc i) d s lt le e = get_is os i d (Some s) (omega (arith, le)) (ap (λ k. get_or os k d) (before i) ∙ e)
+  where
+    before : (i : ℕ) → i ≡ suc i - 1
+    before i = omega arith
+
+pub none_is : (os : List (Option Session)) (n : ℕ) (d : Option Session) → 0 < n → n ≤ length os → get_or os (n - 1) d ≡ None → NoneIsOpenAt os n
+none_is os zero d lt le e s at = at
+none_is os (suc i) d lt le e s at = absurd (let f = sym (get_is os i d None (omega (arith, le)) (ap (λ k. get_or os k d) (before i) ∙ e)) ∙ at in cc)
+  where
+    before : (i : ℕ) → i ≡ suc i - 1
+    before i = omega arith
+
+pub open_within : (os : List (Option Session)) (n : ℕ) (s : Session) → IsOpenAt os n s → n - 1 < length os
+open_within os zero s at = absurd at
+open_within os (suc i) s at = let lt = within os i at in omega (arith, lt)
+  where
+    within : (os : List (Option Session)) (i : ℕ) → slice_get os i ≡ Some (Some s) → i < length os
+    within [] i e = absurd (let f : None ≡ Some (Some s) = e in cc)
+    within (o ∷ os) zero e = omega arith
+    within (o ∷ os) (suc i) e = let lt = within os i e in omega (arith, lt)
+
+-- ---- worlds after a delivery
+
+-- a vector that was lent as a slice of the same length
+pub lent : {X : Type 0} (new old : List X) (n : ℕ) (rest : List X) → n ≡ length old → length new ≡ length old → take n (new ++ rest) ≡ new
+lent new old n rest is same = take_at new rest n (same ∙ sym is)
+
+pub between_in : (source : Stored) (ss : List Stored) (os : List (Option Session)) (n : ℕ) (s : Session) → IsTier source ss → AllByRecursion (IsOpen source ss) os → IsOpenAt os n s
+    → IsScene source ss s × IsHeardOut s
+between_in source ss os n s tier each at = let is = open_at source ss os n s each at in (record { tier = tier; between = is.0 }, is.1)
+
+pub world_stopped : (source : Stored) (fresh : ℕ) (ss ts us : List Stored) (os ps : List (Option Session)) (i : ℕ) → IsWorld (record { source = source; fresh = fresh; relays = ss; sessions = os })
+    → IsTier source ts → Grow ss ts → us ≡ ts → ps ≡ slice_set os i None → IsWorld (record { source = source; fresh = fresh; relays = us; sessions = ps })
+world_stopped source fresh ss ts us os ps i w tier grow us_is ps_is =
+    subst (λ (x : List Stored). IsWorld (record { source = source; fresh = fresh; relays = x; sessions = ps })) (sym us_is)
+    (subst (λ (x : List (Option Session)). IsWorld (record { source = source; fresh = fresh; relays = ts; sessions = x })) (sym ps_is)
+    (record { tier = tier; sessions = sessions_after source ss ts os i None w.tier.store grow w.sessions tt }))
+
+pub world_brought : (source : Stored) (fresh : ℕ) (ss ts us : List Stored) (os ps : List (Option Session)) (i : ℕ) (s : Session) → IsWorld (record { source = source; fresh = fresh; relays = ss; sessions = os })
+    → IsTier source ts → Grow ss ts → IsScene source ts s → IsHeardOut s → us ≡ ts → ps ≡ slice_set os i None → IsWorld (record { source = source; fresh = fresh; relays = us; sessions = slice_set ps i (Some s) })
+world_brought source fresh ss ts us os ps i s w tier grow stands heard us_is ps_is =
+    subst (λ (x : List Stored). IsWorld (record { source = source; fresh = fresh; relays = x; sessions = slice_set ps i (Some s) })) (sym us_is)
+    (subst (λ (x : List (Option Session)). IsWorld (record { source = source; fresh = fresh; relays = ts; sessions = x })) (sym (ap (λ (x : List (Option Session)). slice_set x i (Some s)) ps_is ∙ set-set os i None (Some s)))
+    (record { tier = tier; sessions = sessions_after source ss ts os i (Some s) w.tier.store grow w.sessions (stands.between, heard) }))
+
+pub world_opened : (source : Stored) (fresh : ℕ) (ss : List Stored) (os ps : List (Option Session)) (s : Session) → IsWorld (record { source = source; fresh = fresh; relays = ss; sessions = os })
+    → IsBetween source ss s → IsHeardOut s → ps ≡ os ++ Some s ∷ [] → IsWorld (record { source = source; fresh = fresh; relays = ss; sessions = ps })
+world_opened source fresh ss os ps s w between heard ps_is =
+    subst (λ (x : List (Option Session)). IsWorld (record { source = source; fresh = fresh; relays = ss; sessions = x })) (sym ps_is)
+    (record { tier = w.tier; sessions = all_push (IsOpen source ss) os (Some s) w.sessions (between, heard) })
+
+-- a session that was opened between a relay and another node
+pub opened_between : (source node : Stored) (ss : List Stored) (relay upstream asked : ℕ) (s : Session) → IsTier source ss → node ≡ node_at source ss upstream → (0 < relay) × (relay ≤ length ss)
+    → upstream ≤ length ss → Opens (folded_in node) relay upstream asked s → MayBeShown s.reader (folded_in node) → read_description s.up.schema.json ≡ Ok s.up.schema.description → IsBetween source ss s
+opened_between source node ss relay upstream asked s tier node_is is_relay is_node opens shown says =
+    let led = led_opened source node tier.is_source (subst (IsNode source) (sym node_is) (node_of source ss tier upstream)) relay upstream asked s opens shown says in
+    record {
+      relay = (omega (arith, opens.ends.0, is_relay.0), omega (arith, opens.ends.0, is_relay.1));
+      upstream = omega (arith, opens.ends.1, is_node);
+      led = subst (λ n. IsLed source (node_at source ss n) s) (sym opens.ends.1) (subst (λ (n : Stored). IsLed source n s) node_is led);
+    }
+
+pub opened_quiet : (f : FoldedValue) (relay upstream asked : ℕ) (s : Session) → Opens f relay upstream asked s → IsHeardOut s
+opened_quiet f relay upstream asked s opens = ap (λ (l : Line). l.framing.waiting) opens.reply.2 ∙ opens.idle.0.0
+
+-- a relay's store is the node of its number
+pub relay_at : (source : Stored) (ss : List Stored) (r : ℕ) (d : Stored) → 0 < r → r ≤ length ss → get_or ss (r - 1) d ≡ node_at source ss r
+relay_at source ss zero d lt le = absurd (omega (arith, lt))
+relay_at source ss (suc i) d lt le = ap (λ k. get_or ss k d) (before i) ∙ any_default ss i d source (omega (arith, le))
+  where
+    before : (i : ℕ) → suc i - 1 ≡ i
+    before i = omega arith

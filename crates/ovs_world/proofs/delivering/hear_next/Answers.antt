@@ -1,0 +1,117 @@
+use Rattle.std.proofs.Common.{◌≡◌, ◌≤◌, ◌<◌, ◌-◌, ℕ, List, Option, Some, IfSome, length, get_or, slice_set, sym, ◌∙◌, ap, subst}
+use Rattle.ovs_links.specs.Sets.{AllOf, Among}
+use Rattle.ovs_links.specs.Store.{Stored}
+use Rattle.ovs_links.specs.declared.link.Link.{Link}
+use Rattle.ovs_world.specs.Leading.{IsLed}
+use Rattle.ovs_world.specs.Nodes.{IsNode, node_at, folded_in}
+use Rattle.ovs_world.specs.Sessions.{HearsNext}
+use Rattle.ovs_world.specs.declared.session.Session.{Session}
+use Rattle.ovs_world.proofs.Delivered.{hears_ends, at_is_node, after_hearing, did_hear}
+use Rattle.ovs_world.proofs.Scenes.{node_of, grow_itself, grow_set, tier_set}
+use Rattle.ovs_world.proofs.delivering.hear_next.Goals as goal
+
+pub hear_next-requires : goal.hear_next-requires
+hear_next-requires c =
+    let stands = c.requires.scene in
+    record { led = (c.args.source.now, stands.tier.is_source, subst (λ (n : Stored). IsLed c.args.source.now n c.args.session.now) (sym c.node-followed.ensures.value) stands.between.led) }
+
+pub returns-in_err-links-clause-grow : goal.returns-in_err-links-clause-grow
+returns-in_err-links-clause-grow c = grow_itself c.args.source.now c.args.relays.now c.requires.scene.tier
+
+pub returns-in_default-clause-grow : goal.returns-in_default-clause-grow
+returns-in_default-clause-grow c = grow_itself c.args.source.now c.args.relays.now c.requires.scene.tier
+
+pub hold-requires-clause-node : goal.hold-requires-clause-node
+hold-requires-clause-node c =
+    let source = c.args.source.now in
+    let stands = c.requires.scene in
+    let node_is = c.node-followed.ensures.value in
+    let s = c.args.session.now in
+    let t = c.hear_next.new.self in
+    let is_node = subst (IsNode source) (sym node_is) (node_of source c.args.relays.now stands.tier s.upstream) in
+    let led = subst (λ (n : Stored). IsLed source n s) (sym node_is) stands.between.led in
+    let next = subst (λ x. IfSome x (λ links. HearsNext (folded_in c.node-followed.result.now) s links.items t)) c.in-Some.is c.in_ok-links.ensures.heard in
+    let leads = subst (λ x. IfSome x (λ links. AllOf (Among source.folded) links.items × IsLed source c.node-followed.result.now t)) c.in-Some.is
+    (c.in_ok-links.ensures.led source stands.tier.is_source is_node led) in
+    let same = (hears_ends (folded_in c.node-followed.result.now) s t c.in-Some.links.items next).0 in
+    let relay = at_is_node source c.args.relays.now s t stands same c.index-relays-session.result in
+    (source, stands.tier.is_source, relay, leads.0)
+
+pub returns-in_err-told-clause-tier : goal.returns-in_err-told-clause-tier
+returns-in_err-told-clause-tier c =
+    let source = c.args.source.now in
+    let stands = c.requires.scene in
+    let node_is = c.node-followed.ensures.value in
+    let s = c.args.session.now in
+    let t = c.hear_next.new.self in
+    let is_node = subst (IsNode source) (sym node_is) (node_of source c.args.relays.now stands.tier s.upstream) in
+    let led = subst (λ (n : Stored). IsLed source n s) (sym node_is) stands.between.led in
+    let next = subst (λ x. IfSome x (λ links. HearsNext (folded_in c.node-followed.result.now) s links.items t)) c.in-Some.is c.in_ok-links.ensures.heard in
+    let leads = subst (λ x. IfSome x (λ links. AllOf (Among source.folded) links.items × IsLed source c.node-followed.result.now t)) c.in-Some.is
+    (c.in_ok-links.ensures.led source stands.tier.is_source is_node led) in
+    let same = (hears_ends (folded_in c.node-followed.result.now) s t c.in-Some.links.items next).0 in
+    let relay = at_is_node source c.args.relays.now s t stands same c.index-relays-session.result in
+    let store = c.hold.ensures.node source stands.tier.is_source relay leads.0 in
+    let more = c.hold.ensures.extends in
+    tier_set source c.args.relays.now (t.relay - 1) c.hold.new.store stands.tier store
+
+pub returns-in_err-told-clause-grow : goal.returns-in_err-told-clause-grow
+returns-in_err-told-clause-grow c =
+    grow_set c.args.source.now c.args.relays.now (c.hear_next.new.self.relay - 1) c.index-relays-session.result c.hold.new.store c.requires.scene.tier c.hold.ensures.extends
+
+pub returns-clause-tier : goal.returns-clause-tier
+returns-clause-tier c =
+    let source = c.args.source.now in
+    let stands = c.requires.scene in
+    let node_is = c.node-followed.ensures.value in
+    let s = c.args.session.now in
+    let t = c.hear_next.new.self in
+    let is_node = subst (IsNode source) (sym node_is) (node_of source c.args.relays.now stands.tier s.upstream) in
+    let led = subst (λ (n : Stored). IsLed source n s) (sym node_is) stands.between.led in
+    let next = subst (λ x. IfSome x (λ links. HearsNext (folded_in c.node-followed.result.now) s links.items t)) c.in-Some.is c.in_ok-links.ensures.heard in
+    let leads = subst (λ x. IfSome x (λ links. AllOf (Among source.folded) links.items × IsLed source c.node-followed.result.now t)) c.in-Some.is
+    (c.in_ok-links.ensures.led source stands.tier.is_source is_node led) in
+    let same = (hears_ends (folded_in c.node-followed.result.now) s t c.in-Some.links.items next).0 in
+    let relay = at_is_node source c.args.relays.now s t stands same c.index-relays-session.result in
+    let store = c.hold.ensures.node source stands.tier.is_source relay leads.0 in
+    let more = c.hold.ensures.extends in
+    tier_set source c.args.relays.now (t.relay - 1) c.hold.new.store stands.tier store
+
+pub returns-clause-grow : goal.returns-clause-grow
+returns-clause-grow c =
+    grow_set c.args.source.now c.args.relays.now (c.hear_next.new.self.relay - 1) c.index-relays-session.result c.hold.new.store c.requires.scene.tier c.hold.ensures.extends
+
+pub returns-clause-scene : goal.returns-clause-scene
+returns-clause-scene c =
+    let source = c.args.source.now in
+    let stands = c.requires.scene in
+    let node_is = c.node-followed.ensures.value in
+    let s = c.args.session.now in
+    let t = c.hear_next.new.self in
+    let is_node = subst (IsNode source) (sym node_is) (node_of source c.args.relays.now stands.tier s.upstream) in
+    let led = subst (λ (n : Stored). IsLed source n s) (sym node_is) stands.between.led in
+    let next = subst (λ x. IfSome x (λ links. HearsNext (folded_in c.node-followed.result.now) s links.items t)) c.in-Some.is c.in_ok-links.ensures.heard in
+    let leads = subst (λ x. IfSome x (λ links. AllOf (Among source.folded) links.items × IsLed source c.node-followed.result.now t)) c.in-Some.is
+    (c.in_ok-links.ensures.led source stands.tier.is_source is_node led) in
+    let same = (hears_ends (folded_in c.node-followed.result.now) s t c.in-Some.links.items next).0 in
+    let relay = at_is_node source c.args.relays.now s t stands same c.index-relays-session.result in
+    let store = c.hold.ensures.node source stands.tier.is_source relay leads.0 in
+    let more = c.hold.ensures.extends in
+    after_hearing source c.node-followed.result.now c.args.relays.now s t c.in-Some.links.items c.index-relays-session.result c.hold.new.store stands node_is next leads.1 store more
+
+pub returns-clause-heard : goal.returns-clause-heard
+returns-clause-heard c done =
+    let source = c.args.source.now in
+    let stands = c.requires.scene in
+    let node_is = c.node-followed.ensures.value in
+    let s = c.args.session.now in
+    let t = c.hear_next.new.self in
+    let is_node = subst (IsNode source) (sym node_is) (node_of source c.args.relays.now stands.tier s.upstream) in
+    let led = subst (λ (n : Stored). IsLed source n s) (sym node_is) stands.between.led in
+    let next = subst (λ x. IfSome x (λ links. HearsNext (folded_in c.node-followed.result.now) s links.items t)) c.in-Some.is c.in_ok-links.ensures.heard in
+    let leads = subst (λ x. IfSome x (λ links. AllOf (Among source.folded) links.items × IsLed source c.node-followed.result.now t)) c.in-Some.is
+    (c.in_ok-links.ensures.led source stands.tier.is_source is_node led) in
+    let same = (hears_ends (folded_in c.node-followed.result.now) s t c.in-Some.links.items next).0 in
+    let relay = at_is_node source c.args.relays.now s t stands same c.index-relays-session.result in
+    did_hear source c.node-followed.result.now c.args.relays.now s t c.in-Some.links.items c.index-relays-session.result c.hold.new.store c.args.counts.now c.in_ok-told.told c.plus.result stands node_is next
+    c.in_ok-told.ensures.held.0 c.in_ok-told.ensures.held.1 c.plus.ensures.value

@@ -1,0 +1,96 @@
+-- A delivery to a session, as the moves that it is made of.
+use Rattle.std.specs.Prelude.{◌≡◌, ◌≤◌, ◌<◌, ◌+◌, ◌-◌, ◌⊎◌, ℕ, zero, suc, List, [], ◌∷◌, length}
+use Rattle.std.specs.List.{AllByRecursion}
+use Rattle.ovs_links.specs.Steps.{FoldedValue}
+use Rattle.ovs_links.specs.Store.{Stored}
+use Rattle.ovs_links.specs.declared.link.Link.{Link}
+use Rattle.ovs_world.specs.Carrying.{Line, Moves}
+use Rattle.ovs_world.specs.Leading.{IsLed}
+use Rattle.ovs_world.specs.Nodes.{IsTier, node_at, folded_in, held, plus, counts_of, no_counts}
+use Rattle.ovs_world.specs.Sessions.{Pumps, HearsNext, with_line}
+use Rattle.ovs_world.specs.declared.holding.Counts.{Counts}
+use Rattle.ovs_world.specs.declared.session.Session.{Session}
+
+-- the relays, a session, and what its delivery has counted so far
+pub record Scene : Type 0 where
+  pub relays : List Stored
+  pub session : Session
+  pub counts : Counts
+
+abbrev pub scene : List Stored → Session → Counts → Scene
+scene relays session counts = record { relays = relays; session = session; counts = counts }
+
+-- what the node that the session follows has folded
+abbrev pub followed : Stored → Scene → FoldedValue
+followed source a = folded_in (node_at source a.relays a.session.upstream)
+
+-- the i-th relay took links, and settled
+abbrev pub holding : List Stored → ℕ → List Link → List Stored
+holding [] i ls = []
+holding (s ∷ ss) zero ls = held s ls ∷ ss
+holding (s ∷ ss) (suc i) ls = s ∷ holding ss i ls
+
+-- ---- moves
+
+pub data Move : Type 0 where
+  -- nothing is in flight, and the node tells what it has folded and hasn't told
+  Tell : Move
+  -- so many of the bytes in flight reach the relay
+  Feed : ℕ → Move
+  -- the relay hears the first message that is whole, makes these links of it, takes them and settles
+  Hear : List Link → Move
+
+abbrev pub Does : Stored → Move → Scene → Scene → Type 0
+Does source Tell a b =
+    (a.session.downward.flight ≡ []) × Pumps (followed source a) a.session b.session × (b.relays ≡ a.relays) × (b.counts ≡ a.counts)
+Does source (Feed n) a b =
+    (line : Line) × Moves a.session.downward n line × (b ≡ scene a.relays (with_line a.session line) a.counts)
+Does source (Hear links) a b =
+    HearsNext (followed source a) a.session links b.session × (b.relays ≡ holding a.relays (a.session.relay - 1) links)
+    × (b.counts ≡ plus a.counts (counts_of (node_at source a.relays a.session.relay) links))
+
+-- one move after another
+abbrev pub DoesAll : Stored → List Move → Scene → Scene → Type 0
+DoesAll source [] a b = b ≡ a
+DoesAll source (v ∷ vs) a c = (b : Scene) × Does source v a b × DoesAll source vs b c
+
+-- how many bytes were fed
+abbrev pub fed_by : List Move → ℕ
+fed_by [] = 0
+fed_by (Tell ∷ vs) = fed_by vs
+fed_by (Feed n ∷ vs) = n + fed_by vs
+fed_by (Hear links ∷ vs) = fed_by vs
+
+-- moves that feed so many bytes
+abbrev pub Leads : Stored → ℕ → Scene → Scene → Type 0
+Leads source n a b = (moves : List Move) × DoesAll source moves a b × (fed_by moves ≡ n)
+
+-- ---- a delivery
+
+-- no message waits to be heard
+abbrev pub IsHeardOut : Session → Type 0
+IsHeardOut s = s.downward.framing.waiting ≡ []
+
+-- nothing is in flight, and nothing is left to be told
+abbrev pub IsToldOut : FoldedValue → Session → Type 0
+IsToldOut f s = (s.downward.flight ≡ []) × AllByRecursion (λ m. m.position ≡ length f.steps) s.reader.monitors
+
+-- n bytes reach the relay, or, if there are fewer, all that the node has to tell; and the relay has heard all that is whole
+pub record Delivers (source : Stored) (n : ℕ) (a b : Scene) : Type 0 where
+  pub fed : ℕ
+  pub within : fed ≤ n
+  pub moves : Leads source fed a b
+  pub heard : IsHeardOut b.session
+  pub ends : (fed ≡ n) ⊎ IsToldOut (followed source b) b.session
+
+-- ---- what is so of a session between two nodes
+
+-- a session between a relay and a node that leads it along the source's chain
+pub record IsBetween (source : Stored) (relays : List Stored) (s : Session) : Type 0 where
+  pub relay : (0 < s.relay) × (s.relay ≤ length relays)
+  pub upstream : s.upstream ≤ length relays
+  pub led : IsLed source (node_at source relays s.upstream) s
+
+pub record IsScene (source : Stored) (relays : List Stored) (s : Session) : Type 0 where
+  pub tier : IsTier source relays
+  pub between : IsBetween source relays s

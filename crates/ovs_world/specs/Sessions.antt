@@ -1,0 +1,78 @@
+-- A session between a relay and the node that it follows: what its calls do.
+use Rattle.std.specs.Prelude.{◌≡◌, ◌<◌, ◌⊎◌, ℕ, List, [], length}
+use Rattle.ovs_links.specs.Steps.{FoldedValue}
+use Rattle.ovs_links.specs.declared.link.Link.{Link}
+use Rattle.ovs_reader.specs.Telling.{told, after_pump}
+use Rattle.ovs_reader.specs.Turns.{turn, after_turn}
+use Rattle.ovs_reader.specs.Session.{new_session}
+use Rattle.ovs_upstream.specs.Hearing.{heard, hears, links_in, at_stage, opening}
+use Rattle.ovs_upstream.specs.Requests.{schema_request}
+use Rattle.ovs_upstream.specs.declared.up_event.UpEvent.{UpEvent}
+use Rattle.ovs_upstream.specs.declared.up_event.UpEvent.TheVariants.{Links, Send, ReplyFor, Locked, Stolen, Nothing}
+use Rattle.ovs_upstream.specs.declared.up_session.Stage.{Stage}
+use Rattle.ovs_wire.specs.declared.message.Message.{Message}
+use Rattle.ovs_world.specs.Asking.{schema_reply}
+use Rattle.ovs_world.specs.Carrying.{Line, IsIdle, Sends, SendsAll, SendsAny, Receives}
+use Rattle.ovs_world.specs.declared.session.Session.{Session}
+
+-- a request reaches the node at once, whole, and what the node replies from all that it has folded is in flight
+pub record Asks (f : FoldedValue) (old : Session) (request : Message) (new : Session) : Type 0 where
+  pub ends : (new.relay ≡ old.relay) × (new.upstream ≡ old.upstream)
+  pub up : new.up ≡ old.up
+  pub reader : new.reader ≡ after_turn old.reader f request
+  pub arrived : IsIdle new.upward
+  pub reply : SendsAny old.downward (turn old.reader f request).out new.downward
+
+-- a session opens: the request for the schema was answered
+pub record Opens (f : FoldedValue) (relay upstream asked : ℕ) (new : Session) : Type 0 where
+  pub ends : (new.relay ≡ relay) × (new.upstream ≡ upstream)
+  pub up : new.up ≡ opening f.database.schema asked
+  pub reader : new.reader ≡ after_turn new_session f (schema_request f.database.schema)
+  pub upward : IsIdle new.upward
+  pub before : Line
+  pub idle : IsIdle before
+  pub reply : Sends before (schema_reply f.database.schema) new.downward
+
+-- the node tells what it has folded and hasn't told
+pub record Pumps (f : FoldedValue) (old new : Session) : Type 0 where
+  pub ends : (new.relay ≡ old.relay) × (new.upstream ≡ old.upstream)
+  pub up : new.up ≡ old.up
+  pub reader : new.reader ≡ after_pump old.reader f
+  pub upward : new.upward ≡ old.upward
+  pub told : SendsAll old.downward (told old.reader.monitors f.steps) new.downward
+
+-- the same where nothing is in flight, else nothing
+abbrev pub PumpsIdle : FoldedValue → Session → Session → Type 0
+PumpsIdle f old new = (0 < length old.downward.flight × (new ≡ old)) ⊎ ((old.downward.flight ≡ []) × Pumps f old new)
+
+-- the relay's end at this stage, with this line behind it
+abbrev pub moved_on : Session → Stage → Line → Session
+moved_on s stage line =
+    record { relay = s.relay; upstream = s.upstream; up = at_stage s.up stage; reader = s.reader; upward = s.upward; downward = line }
+
+-- what the relay's end has to send goes up
+abbrev pub Goes : FoldedValue → Session → UpEvent → Session → Type 0
+Goes f s (Links ls) t = t ≡ s
+Goes f s (Send m) t = Asks f s m t
+Goes f s (ReplyFor n a) t = t ≡ s
+Goes f s (Locked name) t = t ≡ s
+Goes f s (Stolen name) t = t ≡ s
+Goes f s Nothing t = t ≡ s
+
+-- the relay hears a message, of which it makes these links
+pub record Hears (f : FoldedValue) (old : Session) (message : Message) (links : List Link) (new : Session) : Type 0 where
+  pub stage : Stage
+  pub event : UpEvent
+  pub is : hears old.up message ≡ heard stage event
+  pub goes : Goes f (moved_on old stage old.downward) event new
+  pub makes : links ≡ links_in event
+
+abbrev pub with_line : Session → Line → Session
+with_line s line = moved_on s s.up.stage line
+
+-- the relay hears the first message that waits, of which it makes these links
+pub record HearsNext (f : FoldedValue) (old : Session) (links : List Link) (new : Session) : Type 0 where
+  pub message : Message
+  pub line : Line
+  pub received : Receives old.downward message line
+  pub hears : Hears f (with_line old line) message links new

@@ -1,0 +1,217 @@
+//! A source and its relays, and what passes between them.
+
+ghost use Rattle.std.specs.Prelude.{◌≡◌, [], ◌++◌, ◌∷◌, ◌-◌, List, Option, Some, None, Ok, Err, IfOk, IfErr, IfSome, map, OnOk, OnErr, replicate, slice_set};
+ghost use Rattle.serde_json.specs.View.{view};
+ghost use Rattle.ovs_source.specs.declared.error.SourceError.{SourceError};
+ghost use Rattle.ovs_world.specs.Refusals.{refusal_of_source};
+ghost use Rattle.ovs_world.specs.Headline.{IsFaithful};
+ghost use Rattle.ovs_world.specs.Nodes.{node_at};
+ghost use Rattle.ovs_world.specs.Worlds.{empty_store, new_world, IsOpenAt, NoneIsOpenAt, AreTwo, Commits, CommitsTo, Connects, Brings, Cuts, IsUndone};
+
+use crate::delivering::deliver;
+use crate::error::WorldError;
+use crate::holding::{Counts, node};
+use crate::session::Session;
+use ovs_json::Json;
+use ovs_links::LinkStore;
+use ovs_locks::LockTable;
+use ovs_source::{FreshRows, Source};
+use ovs_types::{NoMemory, RowId, Schema, TxnId};
+use serde_json::Value;
+use std::alloc::Global;
+use std::marker::Model;
+
+/// The most relays of a world.
+pub const MAX_RELAYS: usize = 9;
+
+// Stores with no link.
+fn empty_stores(alloc: Global, schema: &Schema, count: usize) -> Result<Vec<LinkStore>, NoMemory>
+    ensures value { IfOk result (λ stores. stores.items ≡ replicate count (empty_store schema.now)) }
+{
+    let mut stores = Vec::new(alloc);
+    for _ in 0..count {
+        stores.push(LinkStore::new(alloc, schema)?)?;
+    }
+    Ok(stores)
+}
+
+// Takes out the session of this number, counted from 1, if it is open.
+fn take_session(sessions: &mut [Option<Session>], number: usize) -> Option<Session>
+    ensures taken { IfSome result (λ s. IsOpenAt sessions.old number s × (sessions.new ≡ slice_set sessions.old (number - 1) None)) }
+    ensures none { result ≡ None → NoneIsOpenAt sessions.old number × (sessions.new ≡ sessions.old) }
+{
+    if number == 0 || number > sessions.len() {
+        return None;
+    }
+    sessions[number - 1].take()
+}
+
+fn push_session(sessions: &mut Vec<Option<Session>>, session: Session) -> Result<(), NoMemory>
+    ensures pushed { OnOk result (sessions.new.items ≡ sessions.old.items ++ Some session ∷ []) }
+    ensures unchanged { OnErr result (sessions.new.items ≡ sessions.old.items) }
+{
+    sessions.push(Some(session))?;
+    Ok(())
+}
+
+/// A source, relays that follow it or one another, and what is on its way between them. Node 0 is the source, and relays are
+/// counted from 1, as sessions are. Whatever is called, the nodes are faithful to the source's history.
+#[derive(Drop)]
+pub struct World {
+    source: Source,
+    fresh: FreshRows,
+    relays: Vec<LinkStore>,
+    // In the order of their opening; `None` where one was cut.
+    sessions: Vec<Option<Session>>,
+}
+
+impl Model for World {
+    ghost use Rattle.std.specs.Prelude.{ℕ, List, Option, refl};
+    ghost use Rattle.std.specs.Coded.{code_by, coded×, coded_ℕ, coded_list, coded_option};
+    ghost use Rattle.ovs_links.specs.contracts.store.LinkStore as store_row;
+    ghost use Rattle.ovs_links.specs.Store.{Stored};
+    ghost use Rattle.ovs_world.specs.contracts.session.Session as session_row;
+    ghost use Rattle.ovs_world.specs.declared.session.Session.{Session};
+    ghost use Rattle.ovs_world.specs.Worlds.{WorldValue, IsWorld};
+
+    ghost Value = { WorldValue };
+
+    ghost coded = { code_by (Stored × (ℕ × (List Stored × List (Option Session))))
+        (coded× store_row.the_row.coded (coded× coded_ℕ (coded× (coded_list store_row.the_row.coded) (coded_list (coded_option session_row.the_row.coded)))))
+        (λ w. (w.source, (w.fresh, (w.relays, w.sessions))))
+        (λ p. record { source = p.0; fresh = p.1.0; relays = p.1.1.0; sessions = p.1.1.1 }) (λ _. refl) };
+
+    ghost view = { λ w. record { source = w.source; fresh = w.fresh; relays = w.relays.items; sessions = w.sessions.items } };
+
+    ghost invariant = { λ w. IsWorld (record { source = w.source; fresh = w.fresh; relays = w.relays.items; sessions = w.sessions.items }) };
+}
+
+impl World {
+    /// A source and so many relays, none of which has a link, and no session.
+    ///
+    /// # Errors
+    /// `BadCount` unless there are one to nine relays, or `NoMemory`.
+    pub fn new(alloc: Global, schema: &Schema, relays: usize) -> Result<World, WorldError>
+        ensures value { IfOk result (λ w. w ≡ new_world schema.now relays) }
+    {
+        if relays == 0 || relays > MAX_RELAYS {
+            return Err(WorldError::BadCount);
+        }
+        Ok(World {
+            source: Source::new(alloc, schema)?,
+            fresh: FreshRows::new(RowId::from_value(1)),
+            relays: empty_stores(alloc, schema, relays)?,
+            sessions: Vec::new(alloc),
+        })
+    }
+
+    /// The source's store, whose chain is its history.
+    ///
+    /// The links of each node are links of this history. A node that is settled has the source's database after the longest
+    /// unbroken chain of the source's links that it holds, and settled nodes with the same links have the same database.
+    pub fn history(&self) -> &LinkStore
+        ensures value { result.now ≡ self.now.source }
+        ensures faithful { IsFaithful self.now.source self.now.relays }
+    {
+        let _ = &self.relays;
+        self.source.store()
+    }
+
+    /// The source carries out operations (RFC 7047 section 4.1.3), for a session that owns no lock. The commit that they make,
+    /// if they change the database, has this id. The results, one for each operation.
+    ///
+    /// # Errors
+    /// `IdTaken`, `RowIdsSpent`, `Full` or `NoMemory`, as of [`Source::transact`]. Nothing is changed then.
+    pub fn commit(
+        &mut self,
+        alloc: Global,
+        id: TxnId,
+        operations: &[Value],
+    ) -> Result<Json, WorldError>
+        ensures commits { IfOk result (λ results. CommitsTo self.old id (map view operations.now) results self.new) }
+        ensures refused { IfErr result (λ e. (fault : SourceError) × (e ≡ refusal_of_source fault) × Commits self.old id (map view operations.now) (Err fault) self.new) }
+    {
+        let locks = LockTable::new(alloc);
+        let outcome = self
+            .source
+            .transact(alloc, 0, operations, id, &mut self.fresh, &locks)?;
+        // Its store is one, as of every call that looks at its head.
+        let _ = self.source.store().head();
+        Ok(outcome.results)
+    }
+
+    /// Cuts a session: what is on its way is lost.
+    ///
+    /// # Errors
+    /// `NoSession` where none of this number is open; nothing is changed then.
+    pub fn cut(&mut self, session: usize) -> Result<(), WorldError>
+        ensures cuts { OnOk result (Cuts self.old session self.new) }
+        ensures refused { OnErr result (NoneIsOpenAt self.old.sessions session × (self.new ≡ self.old)) }
+    {
+        let Some(_open) = take_session(&mut self.sessions, session) else {
+            return Err(WorldError::NoSession);
+        };
+        Ok(())
+    }
+
+    /// Opens a session in which a relay asks another node for what comes after its own last id. The session's number.
+    ///
+    /// # Errors
+    /// Nothing is changed by any of them:
+    /// - `NoSuchNode`: there is no relay of this number, or no other node of that.
+    /// - `TooLarge`: the request is above the limits, since the schema's name is too long.
+    /// - `NoMemory`.
+    pub fn connect(
+        &mut self,
+        alloc: Global,
+        relay: usize,
+        upstream: usize,
+    ) -> Result<usize, WorldError>
+        ensures connects { IfOk result (λ number. Connects self.old relay upstream number self.new) }
+        ensures unchanged { OnErr result (self.new ≡ self.old) }
+        ensures nodes { ¬ (AreTwo self.old relay upstream) → result ≡ Err WorldError.NoSuchNode }
+    {
+        let count = self.relays.len();
+        if relay == 0 || relay > count || upstream > count || relay == upstream {
+            return Err(WorldError::NoSuchNode);
+        }
+        let asked = self.relays[relay - 1].head();
+        let followed = node(self.source.store(), &self.relays, upstream);
+        let session = Session::open(alloc, relay, upstream, asked, followed)?;
+        push_session(&mut self.sessions, session)?;
+        Ok(self.sessions.len())
+    }
+
+    /// Delivers up to so many bytes of what is on its way to a session's relay. Whenever nothing is in flight, the node that
+    /// it follows tells what it hasn't told yet. How many links the relay was told that it didn't hold, and how many it did.
+    ///
+    /// # Errors
+    /// `NoSession` where none of this number is open; nothing is changed then. By the others the session is cut, and what
+    /// the relay took before stays:
+    /// - `TooLarge`: these bytes make a message above the limits; those before it were heard.
+    /// - `Full`: the relay's store has no room for another link.
+    /// - `NoMemory`.
+    pub fn deliver(
+        &mut self,
+        alloc: Global,
+        session: usize,
+        bytes: usize,
+    ) -> Result<Counts, WorldError>
+        ensures brings { IfOk result (λ counts. Brings self.old session bytes counts self.new) }
+        ensures stopped { OnErr result (IsUndone self.old session self.new) }
+        ensures none { NoneIsOpenAt self.old.sessions session → result ≡ Err WorldError.NoSession }
+    {
+        let Some(mut open) = take_session(&mut self.sessions, session) else {
+            return Err(WorldError::NoSession);
+        };
+        let counts = deliver(
+            alloc,
+            self.source.store(),
+            &mut self.relays,
+            &mut open,
+            bytes,
+        )?;
+        self.sessions[session - 1] = Some(open);
+        Ok(counts)
+    }
+}
