@@ -1,11 +1,11 @@
 -- What a relay's requests are answered, and how it hears the answers.
-use Rattle.std.proofs.Common.{◌≡◌, ℕ, zero, suc, ◌+◌, ◌<◌, ◌≤◌, List, [], ◌∷◌, ◌++◌, Bool, true, false, cond, length, take, Option, Some, None, Ok, Err, refl, sym, ap, subst, ◌∙◌, inl, inr, arith}
-use Rattle.std.specs.Prelude.{◌==◌, ◌&&◌, ◌^◌, codes, nat_eq, option_and_then, option_map}
+use Rattle.std.proofs.Common.{◌≡◌, ℕ, suc, ◌+◌, ◌<◌, ◌≤◌, List, [], ◌∷◌, ◌++◌, Bool, true, false, cond, length, take, Option, Some, None, Ok, Err, refl, sym, ap, subst, ◌∙◌, inl, arith}
+use Rattle.std.specs.Prelude.{◌==◌, codes, option_and_then, option_map}
 use Rattle.std.specs.List.{position_from}
 use Rattle.std.specs.Option.{ok_or}
-use Rattle.std.specs.Cmp.Lexicographic.{bytes_decides, pointwise}
+use Rattle.std.specs.Cmp.Lexicographic.{bytes_decides}
 use Rattle.std.proofs.lemmas.Bool.{eqb-true}
-use Rattle.serde_json.specs.Data.{Data, null, string, boolean, array, no_items, item}
+use Rattle.serde_json.specs.Data.{Data, null, string}
 use Rattle.ovs_json.specs.Results.{◌>>=◌}
 use Rattle.ovs_json.proofs.SameLemmas.{same_itself}
 use Rattle.ovs_data.proofs.Ids.{id_reads_back}
@@ -13,7 +13,6 @@ use Rattle.ovs_types.specs.Id.{id_text, read_id}
 use Rattle.ovs_types.specs.Schema.{SchemaValue}
 use Rattle.ovs_types.specs.SchemaReading.{read_description}
 use Rattle.ovs_types.specs.contracts.schema.Description as description_row
-use Rattle.ovs_types.specs.declared.schema.Description.{Description}
 use Rattle.ovs_types.specs.declared.schema.Table.{Table}
 use Rattle.ovs_rows.specs.Row.{Rows, no_rows}
 use Rattle.ovs_rows.specs.After.{after}
@@ -22,18 +21,17 @@ use Rattle.ovs_links.specs.Steps.{FoldedValue, folded_of, steps_of}
 use Rattle.ovs_links.specs.StepChains.{position_in}
 use Rattle.ovs_links.specs.declared.link.Link.{Link}
 use Rattle.ovs_query.specs.MonitorReading.{read_monitor}
-use Rattle.ovs_query.specs.declared.monitor.Monitor.{Monitor}
 use Rattle.ovs_query.specs.declared.monitor.Notation.TheVariants.{Update3}
 use Rattle.ovs_reader.specs.Answers as answers
-use Rattle.ovs_reader.specs.Params.{Asking, is, named_database}
+use Rattle.ovs_reader.specs.Params.{Asking, is}
 use Rattle.ovs_reader.specs.Session.{SessionValue}
 use Rattle.ovs_reader.specs.Turns.{turn, after_turn, turn_by, turn_of, monitors_by, monitors_after}
 use Rattle.ovs_reader.specs.declared.refusal.RequestRefusal.TheVariants.{UnknownDatabase, BadParams}
 use Rattle.ovs_reader.specs.declared.subscription.Subscription.{Subscription}
-use Rattle.ovs_upstream.specs.Hearing.{heard, hears, opening, opened, says}
+use Rattle.ovs_upstream.specs.Hearing.{heard, hears, opening, says}
 use Rattle.ovs_upstream.specs.Lawful.{IsAt}
 use Rattle.ovs_upstream.specs.Requests.{CanBeAsked, schema_request, monitor_request, monitor_params, requests}
-use Rattle.ovs_upstream.specs.Talk.{Talk, Reached, talk_of, answer_said, object_in}
+use Rattle.ovs_upstream.specs.Talk.{Reached, talk_of, answer_said, object_in}
 use Rattle.ovs_upstream.specs.declared.error.UpError.TheVariants.{OtherSchema}
 use Rattle.ovs_upstream.specs.declared.up_event.UpEvent.TheVariants.{Send}
 use Rattle.ovs_upstream.specs.declared.up_session.Stage.TheVariants as stage

@@ -8,13 +8,13 @@ use Rattle.std.specs.Ordering.{nat_cmp}
 use Rattle.std.specs.declared.cmp.Ordering.TheVariants.{Less}
 use Rattle.std.proofs.lemmas.Bool.Decides.{nat_tests}
 use Rattle.std.proofs.lemmas.List.{length-map}
-use Rattle.serde_json.specs.Data.{Data, Items, string, array, no_items, item, Members, no_members, member}
+use Rattle.serde_json.specs.Data.{Data, string, array, Members, no_members, member}
 use Rattle.serde_json.specs.View.{items_of}
 use Rattle.ovs_json.specs.Items.{SpellsEach}
 use Rattle.ovs_json.specs.Members.{Lead, EachSpells}
 use Rattle.ovs_json.specs.Putting.{under_name}
 use Rattle.ovs_data.specs.declared.datum.Datum.{Datum}
-use Rattle.ovs_types.specs.Finding.{column_named, table_named}
+use Rattle.ovs_types.specs.Finding.{column_named}
 use Rattle.ovs_types.specs.Names.{is_name, IsAscendingBy, AreNames}
 use Rattle.ovs_types.specs.Schema.{SchemaValue}
 use Rattle.ovs_types.specs.declared.schema.NamedColumn.{NamedColumn}
@@ -24,9 +24,9 @@ use Rattle.ovs_rows.specs.declared.row.Row.{Row}
 use Rattle.ovs_rows.specs.Row.{AreDataOf}
 use Rattle.ovs_rows.specs.Writing.{with_member}
 use Rattle.ovs_rows.proofs.ObjectOrder.{IsFirst, lead_first}
-use Rattle.ovs_query.specs.ConditionReading.{field_named, all_but_id, numbered_from}
+use Rattle.ovs_query.specs.ConditionReading.{field_named, numbered_from}
 use Rattle.ovs_query.specs.MonitorReading.{read_monitor}
-use Rattle.ovs_query.specs.MonitorSpelling.{SpellsTable, SpellsRequest, last_for}
+use Rattle.ovs_query.specs.MonitorSpelling.{SpellsTable, SpellsRequest}
 use Rattle.ovs_query.specs.SelectSpelling.{SpellsShown}
 use Rattle.ovs_query.specs.Shown.{shown_columns, shown_datum}
 use Rattle.ovs_data.specs.declared.datum.Datum.TheVariants.{Set}
@@ -38,7 +38,6 @@ use Rattle.ovs_query.specs.declared.monitor.Notation.TheVariants.{Update3}
 use Rattle.ovs_query.specs.declared.monitor.Watched.{Watched}
 use Rattle.ovs_query.specs.declared.shown.Field.{Field}
 use Rattle.ovs_query.specs.declared.shown.Field.TheVariants.{Id, Version, Column as Numbered}
-use Rattle.ovs_query.specs.declared.shown.Shown.{Shown}
 use Rattle.ovs_query.proofs.MonitorLaws.{monitor_only}
 use Rattle.ovs_upstream.specs.Requests.{AreNamedColumns, CanBeAsked, columns_request, table_request, requests}
 use Rattle.ovs_world.specs.Asking.{whole_watched, whole_watches, whole_monitor}

@@ -1,7 +1,6 @@
 -- What the calls of a delivery do, move by move.
 use Rattle.std.specs.List.{AllByRecursion}
-use Rattle.std.proofs.Common.{◌≡◌, ◌≤◌, ◌<◌, ◌+◌, ◌-◌, ◌⊎◌, inl, inr, ℕ, zero, suc, Option, Some, None, List, [], ◌∷◌, ◌++◌, length, map, take, get_or, slice_set, refl, sym, ◌∙◌, ap, subst, arith}
-use Rattle.std.specs.Prelude.{min}
+use Rattle.std.proofs.Common.{◌≡◌, ◌<◌, ◌-◌, inl, inr, ℕ, zero, suc, Option, Some, None, List, [], ◌∷◌, length, map, get_or, slice_set, refl, sym, ◌∙◌, ap, subst, arith}
 use Rattle.std.proofs.lemmas.List.{length-set}
 use Rattle.ovs_links.specs.Steps.{FoldedValue}
 use Rattle.ovs_links.specs.Store.{Stored}
@@ -14,14 +13,14 @@ use Rattle.ovs_upstream.specs.declared.up_event.UpEvent.TheVariants.{Links, Send
 use Rattle.ovs_wire.specs.declared.message.Message.{Message}
 use Rattle.ovs_wire.specs.Framing.{Framing}
 use Rattle.ovs_world.specs.Carrying.{Line, Carries, Moves, SendsAll, SendsAny}
-use Rattle.ovs_world.specs.Deliveries.{Scene, scene, Move, Tell, Feed, Hear, Does, Leads, holding, followed, IsHeardOut, IsToldOut, IsBetween, IsScene}
+use Rattle.ovs_world.specs.Deliveries.{scene, Tell, Feed, Hear, Does, Leads, holding, followed, IsToldOut, IsScene}
 use Rattle.ovs_world.specs.Leading.{IsLed}
-use Rattle.ovs_world.specs.Nodes.{IsNode, IsTier, Extends, Grow, node_at, folded_in, held, plus, counts_of}
+use Rattle.ovs_world.specs.Nodes.{IsNode, Extends, node_at, folded_in, held, plus, counts_of}
 use Rattle.ovs_world.specs.Sessions.{Pumps, PumpsIdle, Goes, HearsNext, with_line}
 use Rattle.ovs_world.specs.declared.holding.Counts.{Counts}
 use Rattle.ovs_world.specs.declared.session.Session.{Session}
 use Rattle.ovs_world.proofs.Led.{led_pumped, led_fed}
-use Rattle.ovs_world.proofs.Moving.{leads_none, leads_one, leads_on}
+use Rattle.ovs_world.proofs.Moving.{leads_none, leads_one}
 use Rattle.ovs_world.proofs.Scenes.{node_of, grow_set, tier_set, holding_is, any_default, node_grows, led_grows}
 
 -- ---- what a session keeps

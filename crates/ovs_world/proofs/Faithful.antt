@@ -1,23 +1,23 @@
 -- What holds of the nodes of a tier, and of those that have no link.
 use Rattle.std.specs.List.{AllByRecursion}
-use Rattle.std.specs.FinMap.{FinMap, get, empty, get-empty, len-empty}
+use Rattle.std.specs.FinMap.{get, empty, get-empty, len-empty}
 use Rattle.std.specs.Ordering.{nat_cmp}
-use Rattle.std.proofs.Common.{◌≡◌, ◌≤◌, ◌+◌, ◌↔◌, ℕ, zero, suc, List, [], ◌∷◌, ◌++◌, Some, None, length, take, replicate, refl, sym, ◌∙◌, ap, subst, arith}
+use Rattle.std.proofs.Common.{◌≡◌, ◌+◌, ℕ, zero, suc, List, [], ◌∷◌, ◌++◌, None, length, replicate, refl, sym, ◌∙◌, ap, subst, arith}
 use Rattle.std.proofs.lemmas.List.{replicate_more}
 use Rattle.ovs_types.specs.Schema.{SchemaValue}
 use Rattle.ovs_rows.specs.Row.{no_rows}
 use Rattle.ovs_links.specs.Answers.{IsSourceChain}
 use Rattle.ovs_links.specs.Chains.{IsLongestChain, rows_after}
-use Rattle.ovs_links.specs.History.{IsHeldCount, links_of}
+use Rattle.ovs_links.specs.History.{IsHeldCount}
 use Rattle.ovs_links.specs.Sets.{Holds, Among}
-use Rattle.ovs_links.specs.Store.{Stored, IsStore, tables_of, rows_of}
+use Rattle.ovs_links.specs.Store.{Stored, IsStore, tables_of}
 use Rattle.ovs_links.specs.declared.link.Link.{Link}
 use Rattle.ovs_links.proofs.ChainLemmas.{longest_unique, holds_by_prev, longest_same_set}
 use Rattle.ovs_links.proofs.HistoryLemmas.{source_chain}
 use Rattle.ovs_source.specs.Commits.{IsSource, history_of}
 use Rattle.ovs_source.proofs.Histories.{no_commits}
 use Rattle.ovs_world.specs.Headline.{HasSourceDatabase, HaveSameDatabase, IsFaithful}
-use Rattle.ovs_world.specs.Nodes.{IsNode, IsSettled, IsTier, node_at}
+use Rattle.ovs_world.specs.Nodes.{IsNode, IsTier, node_at}
 use Rattle.ovs_world.specs.Worlds.{empty_store}
 use Rattle.ovs_world.proofs.Scenes.{node_of}
 

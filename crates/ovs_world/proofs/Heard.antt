@@ -1,25 +1,22 @@
 -- What is on its way to a relay is heard.
-use Rattle.std.proofs.Common.{◌≡◌, ◌≤◌, ◌⊎◌, inl, inr, ℕ, zero, suc, Bool, true, false, cond, List, [], ◌∷◌, ◌++◌, Option, Some, None, Ok, Err, length, refl, sym, ◌∙◌, ap, subst, arith}
+use Rattle.std.proofs.Common.{◌≡◌, ◌⊎◌, inl, inr, ℕ, zero, suc, Bool, true, false, cond, List, [], ◌∷◌, Some, None, Ok, refl, sym, ◌∙◌, ap, subst}
 use Rattle.std.specs.Prelude.{slice_get, nat_le, ◌==◌, ◌&&◌, ◌^◌}
 use Rattle.serde_json.specs.Data.{Data}
 use Rattle.ovs_json.specs.Parts.{is_empty_object}
 use Rattle.ovs_types.specs.Schema.{SchemaValue}
 use Rattle.ovs_types.specs.SchemaReading.{read_description}
 use Rattle.ovs_types.specs.declared.schema.Table.{Table}
-use Rattle.ovs_rows.specs.Row.{no_rows}
-use Rattle.ovs_links.specs.History.{links_of}
-use Rattle.ovs_links.specs.Sets.{AllOf, Among}
+use Rattle.ovs_links.specs.Sets.{Among}
 use Rattle.ovs_links.specs.Store.{Stored, tables_of}
 use Rattle.ovs_links.specs.declared.link.Link.{Link}
 use Rattle.ovs_reader.specs.declared.subscription.Subscription.{Subscription}
 use Rattle.ovs_source.specs.Commits.{IsSource, history_of}
 use Rattle.ovs_upstream.proofs.Runs.{IsLine, linked_at, at_next, at_start, next_is_other, same_test, other_test, large_test}
 use Rattle.ovs_upstream.proofs.Streams.{history_line}
-use Rattle.ovs_upstream.specs.Hearing.{Hearing, heard, hears, hears_at, links_in, linked, placed, reached, opening}
+use Rattle.ovs_upstream.specs.Hearing.{Hearing, hears, hears_at, linked, placed, reached}
 use Rattle.ovs_upstream.specs.Lawful.{IsAt, IsLinkAt, Answers}
 use Rattle.ovs_upstream.specs.Requests.{monitor_request}
 use Rattle.ovs_upstream.specs.Talk.{Talk, Schema, Reached, Update, Aside, Improper, talk_of}
-use Rattle.ovs_upstream.specs.declared.up_event.UpEvent.{UpEvent}
 use Rattle.ovs_upstream.specs.declared.up_event.UpEvent.TheVariants.{Links, Send, Nothing}
 use Rattle.ovs_upstream.specs.declared.up_session.Heard.{Heard}
 use Rattle.ovs_upstream.specs.declared.up_session.Stage.{Stage}

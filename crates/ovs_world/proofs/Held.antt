@@ -1,9 +1,7 @@
 -- A relay takes links of the source's chain, and settles.
-use Rattle.std.proofs.Common.{◌≡◌, ◌≤◌, ◌⊎◌, inl, inr, ⊎_elim, ℕ, zero, suc, List, [], ◌∷◌, ◌++◌, Result, Ok, Err, length, take, refl, sym, ◌∙◌, ap, subst, arith}
+use Rattle.std.proofs.Common.{◌≡◌, inl, inr, ⊎_elim, ℕ, zero, suc, List, [], ◌∷◌, ◌++◌, Err, length, take, refl, sym, ◌∙◌, ap, subst}
 use Rattle.ovs_rows.specs.Row.{no_rows}
-use Rattle.ovs_types.specs.Schema.{SchemaValue}
-use Rattle.ovs_links.specs.Answers.{IsSourceChain, AreOfOneSource, IsFork, TakesAs}
-use Rattle.ovs_links.specs.Chains.{IsPrefixOf}
+use Rattle.ovs_links.specs.Answers.{IsSourceChain, AreOfOneSource, TakesAs}
 use Rattle.ovs_links.specs.History.{links_of}
 use Rattle.ovs_links.specs.Runs.{HoldsBoth, IsRefusedAt}
 use Rattle.ovs_links.specs.Settling.{KeepsLinks, IsWholeChain, chain_of}
@@ -16,7 +14,7 @@ use Rattle.ovs_links.specs.declared.answer.TakeError.TheVariants.{Fork}
 use Rattle.ovs_links.specs.declared.link.Link.{Link}
 use Rattle.ovs_links.proofs.HistoryLemmas.{no_fork}
 use Rattle.ovs_source.specs.Commits.{IsSource, history_of}
-use Rattle.ovs_world.specs.Nodes.{IsNode, Extends}
+use Rattle.ovs_world.specs.Nodes.{IsNode}
 
 -- of a beginning of a list's first links
 front_of : (xs rest ls : List Link) (n : ℕ) → xs ++ rest ≡ take n ls → xs ≡ take (length xs) ls

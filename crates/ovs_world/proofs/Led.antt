@@ -1,7 +1,7 @@
 -- A session stays led along the source's chain, call by call.
-use Rattle.std.proofs.Common.{◌≡◌, ◌≤◌, ◌⊎◌, inl, inr, ⊎_elim, ℕ, zero, suc, ◌+◌, Bool, true, List, [], ◌∷◌, ◌++◌, Option, Some, None, Ok, Err, length, map, take, refl, sym, ◌∙◌, ap, subst, arith, append_assoc, append-nil}
+use Rattle.std.proofs.Common.{◌≡◌, ◌≤◌, ◌⊎◌, inl, inr, ℕ, zero, suc, ◌+◌, Bool, true, List, [], ◌∷◌, ◌++◌, Option, Some, Ok, length, map, take, refl, sym, ◌∙◌, ap, subst, arith, append_assoc, append-nil}
 use Rattle.std.specs.Prelude.{slice_get, false, flat_map}
-use Rattle.std.specs.List.{AllZip, enumerate_from}
+use Rattle.std.specs.List.{enumerate_from}
 use Rattle.serde_json.specs.Data.{Data}
 use Rattle.ovs_types.specs.Schema.{SchemaValue}
 use Rattle.ovs_types.specs.SchemaReading.{read_description}
@@ -10,13 +10,13 @@ use Rattle.ovs_rows.specs.Row.{no_rows}
 use Rattle.ovs_links.specs.Chains.{head_after}
 use Rattle.ovs_links.specs.History.{links_of}
 use Rattle.ovs_links.specs.Sets.{AllOf, Among}
-use Rattle.ovs_links.specs.Steps.{FoldedValue, folded_of, steps_of}
+use Rattle.ovs_links.specs.Steps.{FoldedValue, steps_of}
 use Rattle.ovs_links.specs.declared.step.Step.{Step}
 use Rattle.ovs_links.specs.Store.{Stored, tables_of}
 use Rattle.ovs_links.specs.declared.link.Link.{Link}
 use Rattle.ovs_links.proofs.StepLemmas.{length_steps}
 use Rattle.ovs_reader.specs.Session.{SessionValue, new_session, MayBeShown}
-use Rattle.ovs_reader.specs.Telling.{told, notices, after_pump, moved_to, AreToldReadably}
+use Rattle.ovs_reader.specs.Telling.{told, notices, moved_to, AreToldReadably}
 use Rattle.ovs_reader.specs.Turns.{turn, after_turn}
 use Rattle.ovs_reader.specs.declared.subscription.Subscription.{Subscription}
 use Rattle.ovs_source.specs.Commits.{IsSource, history_of}
@@ -31,9 +31,9 @@ use Rattle.ovs_upstream.specs.declared.up_session.Stage.{Stage}
 use Rattle.ovs_upstream.specs.declared.up_session.Stage.TheVariants.{Opening, Asking, At, Ended}
 use Rattle.ovs_upstream.specs.declared.up_session.UpSession.{UpSession}
 use Rattle.ovs_wire.specs.declared.message.Message.{Message}
-use Rattle.ovs_world.specs.Awaiting.{IsRelayMonitor, TellsPlace, TellsLink, TellLinks}
+use Rattle.ovs_world.specs.Awaiting.{IsRelayMonitor, TellsPlace, TellLinks}
 use Rattle.ovs_world.specs.Carrying.{Line, IsIdle, Carries, Sends, SendsAll, SendsAny}
-use Rattle.ovs_world.specs.Leading.{HasMonitor, AwaitsSchema, AwaitsAnswer, AwaitsLinks, Awaits, IsLed}
+use Rattle.ovs_world.specs.Leading.{HasMonitor, Awaits, IsLed}
 use Rattle.ovs_world.specs.Nodes.{IsNode, folded_in}
 use Rattle.ovs_world.specs.Sessions.{Opens, Asks, Pumps, Goes, Hears, moved_on, with_line}
 use Rattle.ovs_world.specs.declared.session.Session.{Session}

@@ -1,10 +1,9 @@
 -- The source's chain grows.
 use Rattle.std.specs.List.{AllByRecursion}
-use Rattle.std.proofs.Common.{◌≡◌, ◌≤◌, ◌<◌, ◌⊎◌, inl, inr, ℕ, zero, suc, Bool, true, false, Option, Some, None, Ok, Err, List, [], ◌∷◌, ◌++◌, length, take, get_or, refl, sym, ◌∙◌, ap, subst, arith, append-nil}
+use Rattle.std.proofs.Common.{◌≡◌, ◌≤◌, ◌<◌, ◌⊎◌, inl, inr, ℕ, zero, suc, Bool, true, false, Option, Some, None, Ok, Err, List, [], ◌∷◌, ◌++◌, length, take, get_or, refl, sym, ◌∙◌, ap, subst, arith}
 use Rattle.std.specs.Prelude.{slice_get}
 use Rattle.std.proofs.lemmas.List.{take-append-le}
 use Rattle.serde_json.specs.Data.{Data}
-use Rattle.ovs_types.specs.Schema.{SchemaValue}
 use Rattle.ovs_types.specs.declared.schema.Table.{Table}
 use Rattle.ovs_links.specs.Chains.{head_after}
 use Rattle.ovs_links.specs.Sets.{Among}
@@ -23,9 +22,8 @@ use Rattle.ovs_upstream.specs.declared.up_session.Stage.TheVariants.{Opening, As
 use Rattle.ovs_reader.specs.declared.subscription.Subscription.{Subscription}
 use Rattle.ovs_wire.specs.declared.message.Message.{Message}
 use Rattle.ovs_world.specs.Awaiting.{TellsPlace, TellsLink, TellLinks}
-use Rattle.ovs_world.specs.Deliveries.{IsBetween}
-use Rattle.ovs_world.specs.Leading.{HasMonitor, Awaits, IsLed}
-use Rattle.ovs_world.specs.Nodes.{IsNode, Extends, IsTier, node_at}
+use Rattle.ovs_world.specs.Leading.{Awaits, IsLed}
+use Rattle.ovs_world.specs.Nodes.{IsNode, IsTier, node_at}
 use Rattle.ovs_world.specs.Worlds.{IsOpen, IsWorld}
 use Rattle.ovs_world.specs.declared.session.Session.{Session}
 use Rattle.ovs_world.proofs.Scenes.{led_grows}

@@ -1,5 +1,5 @@
 -- Moves of a delivery, one after another.
-use Rattle.std.proofs.Common.{◌≡◌, ℕ, ◌+◌, List, [], ◌∷◌, ◌++◌, refl, sym, ◌∙◌, ap, subst, arith}
+use Rattle.std.proofs.Common.{◌≡◌, ℕ, ◌+◌, List, [], ◌∷◌, ◌++◌, refl, subst, arith}
 use Rattle.ovs_links.specs.Store.{Stored}
 use Rattle.ovs_world.specs.Deliveries.{Scene, Move, Tell, Feed, Hear, Does, DoesAll, fed_by, Leads}
 

@@ -1,7 +1,7 @@
 -- The sessions of a world.
 use Rattle.std.specs.List.{AllByRecursion}
 use Rattle.std.proofs.lemmas.List.{take_at}
-use Rattle.std.proofs.Common.{◌≡◌, ◌≤◌, ◌<◌, ◌-◌, ℕ, zero, suc, List, [], ◌∷◌, ◌++◌, Option, Some, None, Ok, length, take, get_or, slice_set, refl, sym, ◌∙◌, ap, subst, arith}
+use Rattle.std.proofs.Common.{◌≡◌, ◌≤◌, ◌<◌, ◌-◌, ℕ, zero, suc, List, [], ◌∷◌, ◌++◌, Option, Some, None, Ok, length, take, get_or, slice_set, sym, ◌∙◌, ap, subst, arith}
 use Rattle.std.specs.Prelude.{slice_get}
 use Rattle.std.proofs.lemmas.List.{set-set}
 use Rattle.ovs_links.specs.Store.{Stored, IsStore}
@@ -13,7 +13,7 @@ use Rattle.ovs_world.specs.Leading.{IsLed}
 use Rattle.ovs_world.specs.Sessions.{Opens}
 use Rattle.ovs_world.proofs.Led.{led_opened}
 use Rattle.ovs_world.specs.Deliveries.{IsBetween, IsScene, IsHeardOut}
-use Rattle.ovs_world.specs.Nodes.{IsNode, IsTier, Extends, Grow, node_at, folded_in}
+use Rattle.ovs_world.specs.Nodes.{IsNode, IsTier, Grow, node_at, folded_in}
 use Rattle.ovs_world.specs.Worlds.{IsWorld, IsOpen, IsOpenAt, NoneIsOpenAt}
 use Rattle.ovs_world.specs.declared.session.Session.{Session}
 use Rattle.ovs_world.proofs.Scenes.{node_of, length_grow, node_grows, led_grows, any_default}

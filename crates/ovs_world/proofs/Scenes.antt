@@ -1,6 +1,6 @@
 -- Sessions between nodes of which some take links.
-use Rattle.std.specs.List.{AllByRecursion, AllZip}
-use Rattle.std.proofs.Common.{◌≡◌, ◌≤◌, ◌<◌, ◌-◌, ◌⊎◌, inl, inr, ℕ, zero, suc, List, [], ◌∷◌, ◌++◌, length, take, get_or, slice_set, refl, sym, ◌∙◌, ap, subst, arith, append-nil, append_assoc}
+use Rattle.std.specs.List.{AllByRecursion}
+use Rattle.std.proofs.Common.{◌≡◌, ◌≤◌, ◌<◌, ℕ, zero, suc, List, [], ◌∷◌, ◌++◌, length, get_or, slice_set, refl, sym, ◌∙◌, ap, arith, append-nil, append_assoc}
 use Rattle.std.proofs.Math.Seq.{take-length}
 use Rattle.ovs_links.specs.Chains.{IsPrefixOf}
 use Rattle.ovs_links.specs.Store.{Stored, IsStore}

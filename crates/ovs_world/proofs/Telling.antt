@@ -6,19 +6,17 @@ use Rattle.std.proofs.lemmas.Bool.{cases_lt}
 use Rattle.std.proofs.lemmas.Bool.Decides.{nat_tests}
 use Rattle.serde_json.specs.Data.{Data, string}
 use Rattle.ovs_types.specs.declared.schema.Table.{Table}
-use Rattle.ovs_types.specs.Id.{id_text, read_id}
-use Rattle.ovs_rows.specs.After.{after, applied_of}
-use Rattle.ovs_rows.specs.ChangeReading.{read_change}
+use Rattle.ovs_types.specs.Id.{id_text}
+use Rattle.ovs_rows.specs.After.{after}
 use Rattle.ovs_rows.specs.DatabaseDifference.{database_difference}
 use Rattle.ovs_rows.specs.Row.{Rows, no_rows, AreRowsOf}
-use Rattle.ovs_rows.proofs.Laws.{difference_after, no_rows_of}
+use Rattle.ovs_rows.proofs.Laws.{difference_after}
 use Rattle.ovs_links.specs.History.{Commit, CommitsFrom, IsHistory, links_of}
 use Rattle.ovs_links.specs.Steps.{step_of, steps_of}
 use Rattle.ovs_links.specs.declared.link.Link.{Link}
 use Rattle.ovs_links.specs.declared.step.Step.{Step}
 use Rattle.ovs_query.specs.Updates.{updates}
 use Rattle.ovs_query.specs.UpdateWriting.{update2_json}
-use Rattle.ovs_query.specs.declared.monitor.Notation.TheVariants.{Update3}
 use Rattle.ovs_query.proofs.Beginnings.{applied_step}
 use Rattle.ovs_reader.specs.Telling.{IsReadable, IsToldReadably, AreToldReadably, notice_in, notice_of, notices, told}
 use Rattle.ovs_reader.specs.declared.subscription.Subscription.{Subscription}

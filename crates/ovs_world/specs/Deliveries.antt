@@ -6,7 +6,7 @@ use Rattle.ovs_links.specs.Store.{Stored}
 use Rattle.ovs_links.specs.declared.link.Link.{Link}
 use Rattle.ovs_world.specs.Carrying.{Line, Moves}
 use Rattle.ovs_world.specs.Leading.{IsLed}
-use Rattle.ovs_world.specs.Nodes.{IsTier, node_at, folded_in, held, plus, counts_of, no_counts}
+use Rattle.ovs_world.specs.Nodes.{IsTier, node_at, folded_in, held, plus, counts_of}
 use Rattle.ovs_world.specs.Sessions.{Pumps, HearsNext, with_line}
 use Rattle.ovs_world.specs.declared.holding.Counts.{Counts}
 use Rattle.ovs_world.specs.declared.session.Session.{Session}

@@ -1,5 +1,5 @@
 -- The nodes of a tier: a source, and relays with links of its chain.
-use Rattle.std.specs.Prelude.{◌≡◌, ◌≤◌, ◌+◌, ◌-◌, ◌^◌, ℕ, min, List, ◌∷◌, length, take, slice_index_or}
+use Rattle.std.specs.Prelude.{◌≡◌, ◌+◌, ◌-◌, ◌^◌, ℕ, min, List, ◌∷◌, length, take, slice_index_or}
 use Rattle.std.specs.List.{AllByRecursion, AllZip}
 use Rattle.std.specs.FinMap.{len}
 use Rattle.ovs_links.specs.Chains.{IsPrefixOf}

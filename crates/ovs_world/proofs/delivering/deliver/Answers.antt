@@ -1,4 +1,4 @@
-use Rattle.std.proofs.Common.{◌≡◌, ◌≤◌, ◌+◌, ◌-◌, ℕ, inl, inr, length, sym, ◌∙◌, ap, subst, arith}
+use Rattle.std.proofs.Common.{◌+◌, inl, inr, sym, ◌∙◌, ap, subst, arith}
 use Rattle.ovs_wire.specs.Framing.{Framing}
 use Rattle.ovs_world.specs.Deliveries.{scene, Leads}
 use Rattle.ovs_world.specs.Nodes.{no_counts}

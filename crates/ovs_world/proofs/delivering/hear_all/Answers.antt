@@ -1,4 +1,4 @@
-use Rattle.std.proofs.Common.{◌≡◌, Ok, refl, ap}
+use Rattle.std.proofs.Common.{Ok, refl, ap}
 use Rattle.ovs_world.specs.Deliveries.{scene, Hear}
 use Rattle.ovs_world.proofs.Delivered.{hears_fewer}
 use Rattle.ovs_world.proofs.Moving.{leads_none, leads_one, leads_on}

@@ -1,11 +1,9 @@
-use Rattle.std.proofs.Common.{◌≡◌, ◌≤◌, ◌<◌, ◌-◌, ℕ, List, Option, Some, IfSome, length, get_or, slice_set, sym, ◌∙◌, ap, subst}
+use Rattle.std.proofs.Common.{◌-◌, IfSome, sym, subst}
 use Rattle.ovs_links.specs.Sets.{AllOf, Among}
 use Rattle.ovs_links.specs.Store.{Stored}
-use Rattle.ovs_links.specs.declared.link.Link.{Link}
 use Rattle.ovs_world.specs.Leading.{IsLed}
-use Rattle.ovs_world.specs.Nodes.{IsNode, node_at, folded_in}
+use Rattle.ovs_world.specs.Nodes.{IsNode, folded_in}
 use Rattle.ovs_world.specs.Sessions.{HearsNext}
-use Rattle.ovs_world.specs.declared.session.Session.{Session}
 use Rattle.ovs_world.proofs.Delivered.{hears_ends, at_is_node, after_hearing, did_hear}
 use Rattle.ovs_world.proofs.Scenes.{node_of, grow_itself, grow_set, tier_set}
 use Rattle.ovs_world.proofs.delivering.hear_next.Goals as goal

@@ -1,5 +1,4 @@
-use Rattle.std.proofs.Common.{◌≡◌, List, Result, Err, IfErr, subst}
-use Rattle.ovs_links.specs.Runs.{IsRefusedAt}
+use Rattle.std.proofs.Common.{◌≡◌, Result, Err, IfErr, subst}
 use Rattle.ovs_links.specs.Sets.{Holds}
 use Rattle.ovs_links.specs.declared.answer.TakeError.{TakeError}
 use Rattle.ovs_world.proofs.Held.{node_stopped, node_taken, never_fork}

@@ -1,4 +1,4 @@
-use Rattle.std.proofs.Common.{◌≡◌, ◌-◌, ◌≤◌, ◌<◌, ℕ, Option, Some, None, IfSome, get_or, slice_set, sym, ◌∙◌, ap, subst, arith}
+use Rattle.std.proofs.Common.{◌≡◌, ◌-◌, Option, Some, None, IfSome, slice_set, sym, ◌∙◌, ap, arith}
 use Rattle.std.proofs.lemmas.List.{set-get_or}
 use Rattle.ovs_world.specs.declared.session.Session.{Session}
 use Rattle.ovs_world.proofs.Opened.{open_is, none_is}

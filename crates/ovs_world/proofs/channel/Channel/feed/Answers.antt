@@ -1,6 +1,6 @@
-use Rattle.std.proofs.Common.{◌≡◌, ◌++◌, ◌+◌, ◌-◌, ℕ, List, [], take, drop, drop-drop, drop_of_length-le, length-drop, refl, length, ◌≤◌, sym, ◌∙◌, ap, subst, arith}
+use Rattle.std.proofs.Common.{◌≡◌, ◌+◌, ◌-◌, ℕ, List, [], take, drop, drop-drop, drop_of_length-le, length-drop, sym, ◌∙◌, ap, subst, arith}
 use Rattle.std.proofs.lemmas.List.{take-append-drop}
-use Rattle.ovs_wire.specs.Framing.{Framing, Feeds}
+use Rattle.ovs_wire.specs.Framing.{Feeds}
 use Rattle.ovs_world.specs.Carrying.{Line, Carries}
 use Rattle.ovs_world.proofs.Carried.{carries_fed, carries_refused}
 use Rattle.ovs_world.proofs.channel.Channel.feed.Goals as goal

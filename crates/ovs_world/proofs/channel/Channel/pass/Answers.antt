@@ -1,10 +1,9 @@
-use Rattle.std.proofs.Common.{◌≡◌, ⊎_elim, IfSome, ℕ, List, [], ◌∷◌, ◌++◌, Result, Ok, Err, None, length, take, sym, ◌∙◌, ap, subst, refl, arith, min}
+use Rattle.std.proofs.Common.{◌≡◌, IfSome, ℕ, [], ◌∷◌, Result, Ok, Err, length, sym, ◌∙◌, ap, subst, refl, arith, min}
 use Rattle.std.specs.Result.{IsErrAnd}
 use Rattle.ovs_wire.specs.Frames.{Ending, Rest, Fault}
 use Rattle.ovs_wire.specs.Framing.{Answers}
 use Rattle.ovs_wire.specs.declared.error.FrameError.{FrameError}
 use Rattle.ovs_wire.specs.declared.error.FrameError.TheVariants.{NoMemory}
-use Rattle.ovs_wire.specs.declared.error.MessageError.{MessageError}
 use Rattle.ovs_wire.specs.declared.error.MessageError.TheVariants as reading
 use Rattle.ovs_wire.specs.declared.message.Message.{Message}
 use Rattle.ovs_world.specs.Carrying.{Receives}

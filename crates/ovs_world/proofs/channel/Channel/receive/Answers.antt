@@ -1,10 +1,9 @@
-use Rattle.std.proofs.Common.{◌≡◌, ◌++◌, ◌∷◌, [], ℕ, List, drop, sym, ◌∙◌, ap, subst, Err}
+use Rattle.std.proofs.Common.{◌≡◌, ℕ, List, drop, sym, subst, Err}
 use Rattle.std.specs.Result.{IsErrAnd}
 use Rattle.ovs_wire.specs.declared.error.MessageError.{MessageError}
-use Rattle.ovs_wire.specs.declared.message.Message.{Message}
 use Rattle.ovs_wire.specs.Message.{Says, Reads}
 use Rattle.ovs_world.specs.Carrying.{Line, Carries}
-use Rattle.ovs_world.proofs.Carried.{Took, carries_taken, took_this, says_no_other_error}
+use Rattle.ovs_world.proofs.Carried.{carries_taken, took_this, says_no_other_error}
 use Rattle.ovs_world.proofs.channel.Channel.receive.Goals as goal
 
 pub returns-in_err-read-clause-err : goal.returns-in_err-read-clause-err

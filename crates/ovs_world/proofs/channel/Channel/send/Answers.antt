@@ -1,8 +1,5 @@
 use Rattle.std.proofs.Common.{◌≡◌, ◌++◌, ◌∷◌, [], ℕ, List, drop, sym, ◌∙◌, ap, subst}
 use Rattle.std.proofs.lemmas.List.{drop-append-le}
-use Rattle.std.proofs.lemmas.Result.{on_ok_weaker}
-use Rattle.ovs_wire.specs.declared.message.Message.{Message}
-use Rattle.ovs_wire.specs.Message.{IsWritten}
 use Rattle.ovs_world.specs.Carrying.{Line, Carries}
 use Rattle.ovs_world.proofs.Carried.{carries_sent}
 use Rattle.ovs_world.proofs.channel.Channel.send.Goals as goal

@@ -1,4 +1,4 @@
-use Rattle.std.proofs.Common.{◌≡◌, drop}
+use Rattle.std.proofs.Common.{drop}
 use Rattle.ovs_world.specs.Carrying.{Line, SendsAll}
 use Rattle.ovs_world.proofs.channel.Channel.send_all.Given as goal
 

@@ -1,7 +1,6 @@
-use Rattle.std.proofs.Common.{◌≡◌, ◌∷◌, List, length, Option, Some, Ok, Err, IfSome, ap, subst}
+use Rattle.std.proofs.Common.{◌≡◌, ◌∷◌, List, length, Option, Some, Err, IfSome, ap, subst}
 use Rattle.ovs_wire.specs.declared.error.MessageError.TheVariants as reading
 use Rattle.ovs_wire.specs.declared.message.Message.{Message}
-use Rattle.ovs_upstream.specs.declared.up_session.Heard.{Heard}
 use Rattle.ovs_world.specs.Carrying.{Line, Carries, Receives}
 use Rattle.ovs_world.specs.Leading.{Awaits}
 use Rattle.ovs_world.proofs.Heard.{first_heard}

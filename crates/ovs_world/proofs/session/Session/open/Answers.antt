@@ -1,4 +1,4 @@
-use Rattle.std.proofs.Common.{◌≡◌, sym, subst}
+use Rattle.std.proofs.Common.{sym, subst}
 use Rattle.ovs_reader.specs.Session.{SessionValue, MayBeShown}
 use Rattle.ovs_reader.proofs.Showing.{first_shown}
 use Rattle.ovs_world.specs.Nodes.{folded_in}

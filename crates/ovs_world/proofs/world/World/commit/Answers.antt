@@ -1,4 +1,4 @@
-use Rattle.std.proofs.Common.{◌≡◌, ◌∷◌, List, Option, Ok, Err, map, refl, sym, subst}
+use Rattle.std.proofs.Common.{Ok, map, refl, subst}
 use Rattle.serde_json.specs.View.{view}
 use Rattle.ovs_locks.specs.LockTable.{Locks}
 use Rattle.ovs_links.specs.Store.{Stored, IsStore}

@@ -1,9 +1,8 @@
-use Rattle.std.proofs.Common.{◌≡◌, ◌≤◌, ◌<◌, ◌-◌, ◌∷◌, ◌++◌, ℕ, List, Option, Some, length, get_or, refl, sym, ◌∙◌, ap, subst, arith}
+use Rattle.std.proofs.Common.{◌≡◌, ℕ, List, ◌∙◌, ap, subst, arith}
 use Rattle.ovs_links.specs.Store.{Stored, head_of}
 use Rattle.ovs_world.specs.Nodes.{node_at, folded_in}
 use Rattle.ovs_world.specs.Sessions.{Opens}
 use Rattle.ovs_world.specs.Worlds.{WorldValue, AreTwo, with_sessions}
-use Rattle.ovs_world.specs.declared.session.Session.{Session}
 use Rattle.ovs_world.proofs.Opened.{world_opened, opened_between, opened_quiet, relay_at}
 use Rattle.ovs_world.proofs.world.World.connect.Goals as goal
 

@@ -1,7 +1,7 @@
-use Rattle.std.proofs.Common.{◌≡◌, ◌≤◌, ◌<◌, ◌-◌, ◌++◌, ℕ, inl, inr, List, Option, Some, None, Result, Ok, Err, OnErr, length, take, drop, slice_set, refl, sym, ◌∙◌, ap, subst, arith}
+use Rattle.std.proofs.Common.{◌≡◌, ◌-◌, ◌++◌, inr, List, Option, Some, None, Result, Ok, Err, OnErr, length, take, drop, slice_set, sym, ◌∙◌, ap, subst, arith}
 use Rattle.std.proofs.lemmas.List.{length-set, set-set}
 use Rattle.ovs_links.specs.Store.{Stored}
-use Rattle.ovs_world.specs.Deliveries.{scene, Delivers, IsScene, IsHeardOut}
+use Rattle.ovs_world.specs.Deliveries.{scene, Delivers, IsScene}
 use Rattle.ovs_world.specs.Nodes.{IsTier, Grow, no_counts}
 use Rattle.ovs_world.specs.Worlds.{WorldValue, IsOpenAt, with_relays}
 use Rattle.ovs_world.specs.declared.error.WorldError.{WorldError}

@@ -1,4 +1,4 @@
-use Rattle.std.proofs.Common.{◌≡◌, subst}
+use Rattle.std.proofs.Common.{subst}
 use Rattle.ovs_world.specs.Headline.{IsFaithful}
 use Rattle.ovs_world.specs.Worlds.{WorldValue}
 use Rattle.ovs_world.proofs.Faithful.{faithful}

@@ -1,4 +1,4 @@
-use Rattle.std.proofs.Common.{◌≡◌, List, Option, replicate, sym, subst}
+use Rattle.std.proofs.Common.{List, Option, sym, subst}
 use Rattle.std.specs.List.{AllByRecursion}
 use Rattle.ovs_links.specs.Store.{Stored}
 use Rattle.ovs_world.specs.Nodes.{IsTier}
