@@ -64,8 +64,9 @@ impl Script for Lengths {
     ghost use Rattle.std.specs.Prelude.{◌+◌, ◌++◌, ◌==◌, nat_lt, min, length, codes};
     ghost use Rattle.std.specs.Fmt.{decimal};
     ghost use Rattle.std.specs.Option.{option_map_or};
+    ghost use Rattle.ovs_script.specs.Functions.{rules_of};
 
-    ghost rules = { record {
+    ghost rules = { rules_of (record {
       answer = λ s n line. option_map_or (λ bytes. decimal n ++ (codes ": " ++ (decimal (length bytes) ++ codes "\n")))
           line (decimal n ++ codes ": too long\n");
       after = λ s n line. (min (s.0 + 1) 18446744073709551615, s.1);
@@ -73,7 +74,7 @@ impl Script for Lengths {
       is_over = λ s. s.0 == s.1;
       closing = λ s. decimal s.0 ++ codes " lines\n";
       is_content = λ s. nat_lt s.0 s.1;
-    } };
+    }) };
 
     fn take(
         &mut self,

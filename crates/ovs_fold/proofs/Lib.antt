@@ -1,2 +1,3 @@
 pub mod Orders
 pub mod Passing
+pub mod Written

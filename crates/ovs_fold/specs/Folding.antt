@@ -4,7 +4,8 @@ use Rattle.ovs_types.specs.Schema.{SchemaValue}
 use Rattle.ovs_links.specs.Store.{tables_of}
 use Rattle.ovs_script.specs.Lines.{kept}
 use Rattle.ovs_script.specs.Rules.{Rules}
-use Rattle.ovs_script.specs.Texts.{Texts, script_output, is_content_with}
+use Rattle.ovs_script.specs.Texts.{Texts}
+use Rattle.ovs_script.specs.Functions.{Functions, rules_of, script_output, is_content_with}
 use Rattle.ovs_fold.specs.declared.words.SchemaRefusal.{SchemaRefusal}
 use Rattle.ovs_fold.specs.declared.words.SchemaRefusal.TheVariants.{BadJson}
 use Rattle.ovs_fold.specs.declared.fold.Stage.{Stage}
@@ -80,8 +81,8 @@ is_content_at (Both stores) refused = not refused && is_merged_whole stores
 is_content_at Missing refused = false
 is_content_at Over refused = false
 
-abbrev pub fold_rules : Rules Fold
-fold_rules = record {
+abbrev pub fold_functions : Functions Fold
+fold_functions = record {
   answer = λ f n line. answer_at f.stage n line;
   after = λ f n line. after_at f.stage f.refused line;
   at_second = λ f. record { stage = second_at f.stage; refused = f.refused };
@@ -90,6 +91,9 @@ fold_rules = record {
   is_content = λ f. is_content_at f.stage f.refused;
 }
 
+abbrev pub fold_rules : Rules Fold
+fold_rules = rules_of fold_functions
+
 abbrev pub beginning : Fold
 beginning = record { stage = Schema; refused = false }
 
@@ -97,8 +101,8 @@ beginning = record { stage = Schema; refused = false }
 
 -- what `fold` writes for an input, and for a second text if there is one
 abbrev pub fold_output : Texts → List ℕ
-fold_output t = script_output fold_rules beginning t
+fold_output t = script_output fold_functions beginning t
 
 -- whether nothing of both was refused, nor the merge, and the chain isn't stuck
 abbrev pub is_clean : Texts → Bool
-is_clean t = is_content_with fold_rules beginning t
+is_clean t = is_content_with fold_functions beginning t

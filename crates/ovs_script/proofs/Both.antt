@@ -1,16 +1,15 @@
 -- A script over an input and perhaps a second text.
-use Rattle.std.proofs.Common.{◌≡◌, ℕ, Option, Some, None, List, [], ◌++◌, refl, sym, ap, subst, ◌∙◌, append-nil, inl, inr, IfSome}
+use Rattle.std.proofs.Common.{◌≡◌, ℕ, Option, Some, None, List, [], ◌++◌, refl, sym, ap, subst, ◌∙◌, append-nil, inl, inr, IfSome, Bool}
 use Rattle.std.specs.Prelude.{option_and_then}
 use Rattle.ovs_script.specs.declared.fault.Fault.{Fault}
 use Rattle.ovs_script.specs.declared.fault.Fault.TheVariants.{ReadFault, WriteFault, TurnsSpent, NoMemory}
 use Rattle.ovs_script.specs.Lines.{lines_of}
 use Rattle.ovs_script.specs.Sending.{AppendsAllBut}
-use Rattle.ovs_script.specs.Rules.{Rules, answers_to, state_after}
-use Rattle.ovs_script.specs.Texts.{Texts, AreAnswersToFirst, AreFirstAnswers, HearsRead, HearsAllRead, texts_of, both_known, input_known, second_state, all_answers, last_state}
+use Rattle.ovs_script.specs.Rules.{Rules, SaysTo, AreLastWordsSoFar}
+use Rattle.ovs_script.specs.Texts.{Texts, AreAnswersToFirst, AreFirstAnswers, HearsRead, HearsAllRead, SaysBehind, SaysBeside, SaysToAll, IsOutput, IsOutputSoFar, texts_of, both_known, input_known}
 use Rattle.ovs_script.specs.Said.{TellsSaid}
 use Rattle.ovs_script.proofs.Sent.{sent_then}
-use Rattle.ovs_script.proofs.Output.{begun_before}
-use Rattle.ovs_script.proofs.Way.{Begun}
+use Rattle.ovs_script.proofs.Way.{Answered, Begun, all_but_none}
 
 -- ---- claims of texts that may be unknown
 
@@ -37,8 +36,46 @@ pub of_texts : (texts : Option Texts) (P Q : Texts → Type 0) → ((t : Texts) 
 of_texts None P Q f holds = tt
 of_texts (Some t) P Q f holds = f t holds
 
+-- what is said to all lines is said to some first lines
+all_to_first : {S : Type 0} (rules : Rules S) (s : S) (text said : List ℕ) (last : S) → SaysTo rules s text said last → AreAnswersToFirst rules s text said
+all_to_first rules s text said last says = (lines_of text, ([], sym (append-nil (lines_of text))), last, says)
+
+pub all_are_first : {S : Type 0} (rules : Rules S) (s : S) (t : Texts) (said : List ℕ) (last : S) → SaysToAll rules s t said last → AreFirstAnswers rules s t said
+all_are_first {S} rules s t said last says = each t.input t.second says
+  where
+    each : (input : List ℕ) (second : Option (List ℕ)) → SaysBeside rules s input second said last → AreFirstAnswers rules s (record { input = input; second = second }) said
+    each input None says = inl (all_to_first rules s input said last says)
+    each input (Some text) says = inr (record {
+      first = says.first;
+      behind = says.behind;
+      found = says.found;
+      more = says.more;
+      to_input = says.to_input;
+      turned = says.turned;
+      to_second = all_to_first rules says.found text says.more last says.to_second;
+      all = says.all;
+    })
+
+-- ---- the last words
+
+-- they are behind what is said to all lines
+pub closed : {S : Type 0} (rules : Rules S) (s : S) (t : Texts) (said : List ℕ) (last : S) (words : List ℕ) (is_content : Bool) → SaysToAll rules s t said last
+    → rules.Closes last words is_content → IsOutput rules s t (said ++ words) is_content
+closed rules s t said last words is_content says closes = (said, last, words, says, closes, refl)
+
+pub closed_so_far : {S : Type 0} (rules : Rules S) (s : S) (t : Texts) (said : List ℕ) (last : S) (words : List ℕ) → SaysToAll rules s t said last
+    → AreLastWordsSoFar rules last words → IsOutputSoFar rules s t (said ++ words)
+closed_so_far rules s t said last words says (inl none) =
+    let same : said ++ words ≡ said = ap (λ l. said ++ l) none ∙ append-nil said in
+    inl (subst (AreFirstAnswers rules s t) (sym same) (all_are_first rules s t said last says))
+closed_so_far rules s t said last words says (inr (is_content, closes)) = inr (is_content, closed rules s t said last words is_content says closes)
+
 module _ {S : Type 0} (rules : Rules S) (s : S) (start before now : Option (List ℕ)) (waited waiting : List ℕ) where
   -- ---- the input alone
+
+  pub begun_alone : Begun rules s start before now waited waiting
+      → IfSome (input_known start) (λ t. (said : List ℕ) × AreFirstAnswers rules s t said × (others : List ℕ) × AppendsAllBut before now (waited ++ said) (waiting ++ others))
+  begun_alone so_far = of_input start _ _ (λ input told. (told.0, inl told.1, told.2, told.3)) so_far
 
   pub said_alone : (s' : S) (left : Option (List ℕ)) (fault : Fault)
       → IfSome start (λ text. TellsSaid fault (HearsRead rules s s' text left) (AreAnswersToFirst rules s text) before now waited waiting)
@@ -52,15 +89,8 @@ module _ {S : Type 0} (rules : Rules S) (s : S) (start before now : Option (List
 
   module _ (second : Option (List ℕ)) where
     pub begun_first : Begun rules s start before now waited waiting
-        → IfSome (both_known start second) (λ t. (others : List ℕ) × AppendsAllBut before now (waited ++ all_answers rules s t) (waiting ++ others))
-    begun_first so_far = of_known start second _ (λ text is.
-        begun_before before now waited waiting start (λ input. answers_to rules s input) (λ input. answers_to rules (second_state rules s input) text) so_far)
-      where
-        of_known : (start second : Option (List ℕ)) (P : Texts → Type 0) → ((text : List ℕ) → second ≡ Some text → IfSome start (λ input. P (record { input = input; second = Some text })))
-            → IfSome (both_known start second) P
-        of_known None second P each = tt
-        of_known (Some input) None P each = tt
-        of_known (Some input) (Some text) P each = each text refl
+        → IfSome (both_known start second) (λ t. (said : List ℕ) × AreFirstAnswers rules s t said × (others : List ℕ) × AppendsAllBut before now (waited ++ said) (waiting ++ others))
+    begun_first so_far = of_first start second _ _ (λ input text is told. (told.0, inl told.1, told.2, told.3)) so_far
 
     pub said_first : (s' : S) (left : Option (List ℕ)) (fault : Fault)
         → IfSome start (λ text. TellsSaid fault (HearsRead rules s s' text left) (AreAnswersToFirst rules s text) before now waited waiting)
@@ -71,79 +101,58 @@ module _ {S : Type 0} (rules : Rules S) (s : S) (start before now : Option (List
     said_first s' left TurnsSpent said = of_first start second _ _ (λ input text is told. tt) said
 
     -- the input is answered, and memory runs out before the second text
-    pub begun_between : IfSome start (λ input. AppendsAllBut before now (waited ++ answers_to rules s input) waiting)
-        → IfSome (both_known start second) (λ t. (others : List ℕ) × AppendsAllBut before now (waited ++ all_answers rules s t) (waiting ++ others))
-    begun_between answered = begun_first (map_known start _ _ (λ input sent. ([], (sent.0, sent.1, sent.2 ∙ ap (λ l. sent.0 ++ l) (sym (append-nil waiting))))) answered)
-      where
-        map_known : (start : Option (List ℕ)) (A B : List ℕ → Type 0) → ((input : List ℕ) → A input → B input) → IfSome start A → IfSome start B
-        map_known None A B f holds = tt
-        map_known (Some input) A B f holds = f input holds
-
-    pub said_between : (s' : S) (left left' : Option (List ℕ)) → IfSome start (λ input. AppendsAllBut before now (waited ++ answers_to rules s input) waiting)
-        → IfSome (both_known start second) (λ t. TellsSaid NoMemory (HearsAllRead rules s s' t left left') (AreFirstAnswers rules s t) before now waited waiting)
-    said_between s' left left' answered = of_first start second _ _ (λ input text is sent.
-        (answers_to rules s input, inl (lines_of input, ([], sym (append-nil (lines_of input))), refl), sent)) answered
+    pub begun_between : (mid : S) → Answered rules s start before now waited waiting mid
+        → IfSome (both_known start second) (λ t. (said : List ℕ) × AreFirstAnswers rules s t said × (others : List ℕ) × AppendsAllBut before now (waited ++ said) (waiting ++ others))
+    begun_between mid answered = of_first start second _ _ (λ input text is told.
+        (told.0, inl (all_to_first rules s input told.0 mid told.1), [], all_but_none before now (waited ++ told.0) waiting told.2)) answered
 
     -- ---- the second text
 
-    module _ (new : Option (List ℕ)) (none : List ℕ) (mid m : S) (is : m ≡ rules.at_second mid)
-        (answered : IfSome start (λ input. AppendsAllBut before now (waited ++ answers_to rules s input) waiting))
-        (state : IfSome start (λ input. mid ≡ state_after rules s input)) where
-      found : (input : List ℕ) → mid ≡ state_after rules s input → m ≡ second_state rules s input
-      found input same = is ∙ ap rules.at_second same
+    module _ (new : Option (List ℕ)) (none : List ℕ) (mid m : S) (turned : rules.BeginsSecond mid m) (answered : Answered rules s start before now waited waiting mid) where
+      behind : (input text first more : List ℕ) (IsMore : S → List ℕ → List ℕ → Type 0) → SaysTo rules s input first mid → IsMore m text more
+          → SaysBehind rules s input text IsMore (first ++ more)
+      behind input text first more IsMore to_input to_second =
+          record { first = first; behind = mid; found = m; more = more; to_input = to_input; turned = turned; to_second = to_second; all = refl }
 
-      -- the input is answered, and the second text is looked at in this state
-      record Between (input : List ℕ) : Type 0 where
-        sent : AppendsAllBut before now (waited ++ answers_to rules s input) waiting
-        at : m ≡ second_state rules s input
+      pub both_answered : (last : S) → Answered rules m second now new waiting none last
+          → IfSome (both_known start second) (λ t. (said : List ℕ) × SaysToAll rules s t said last × AppendsAllBut before new (waited ++ said) none)
+      both_answered last more = of_each start second _ _ _ (λ input text a b. (
+        a.0 ++ b.0,
+        behind input text a.0 b.0 (λ m text more. SaysTo rules m text more last) a.1 b.1,
+        sent_then before now new waited a.0 b.0 waiting none a.2 b.2,
+      )) answered more
 
-      between : IfSome start Between
-      between = both start answered state
-        where
-          both : (start : Option (List ℕ)) → IfSome start (λ input. AppendsAllBut before now (waited ++ answers_to rules s input) waiting)
-              → IfSome start (λ input. mid ≡ state_after rules s input) → IfSome start Between
-          both None a b = tt
-          both (Some input) a b = record { sent = a; at = found input b }
-
-      pub both_answered : IfSome second (λ text. AppendsAllBut now new (waiting ++ answers_to rules m text) none)
-          → IfSome (both_known start second) (λ t. AppendsAllBut before new (waited ++ all_answers rules s t) none)
-      both_answered more = of_each start second _ _ _ (λ input text b written.
-          sent_then before now new waited (answers_to rules s input) (answers_to rules (second_state rules s input) text) waiting none b.sent
-          (subst (λ (z : S). AppendsAllBut now new (waiting ++ answers_to rules z text) none) b.at written)) between more
-
-      pub both_state : (last : S) → IfSome second (λ text. last ≡ state_after rules m text) → IfSome (both_known start second) (λ t. last ≡ last_state rules s t)
-      both_state last more = of_each start second _ _ _ (λ input text b same. same ∙ ap (λ z. state_after rules z text) b.at) between more
-
-      pub both_begun : IfSome second (λ text. (others : List ℕ) × AppendsAllBut now new (waiting ++ answers_to rules m text) (none ++ others))
-          → IfSome (both_known start second) (λ t. (others : List ℕ) × AppendsAllBut before new (waited ++ all_answers rules s t) (none ++ others))
-      both_begun more = of_each start second _ _ _ (λ input text b part. (
-        part.0,
-        sent_then before now new waited (answers_to rules s input) (answers_to rules (second_state rules s input) text) waiting (none ++ part.0) b.sent
-            (subst (λ (z : S). AppendsAllBut now new (waiting ++ answers_to rules z text) (none ++ part.0)) b.at part.1),
-      )) between more
+      pub both_begun : Begun rules m second now new waiting none
+          → IfSome (both_known start second) (λ t. (said : List ℕ) × AreFirstAnswers rules s t said × (others : List ℕ) × AppendsAllBut before new (waited ++ said) (none ++ others))
+      both_begun more = of_each start second _ _ _ (λ input text a b. (
+        a.0 ++ b.0,
+        inr (behind input text a.0 b.0 (AreAnswersToFirst rules) a.1 b.1),
+        b.2,
+        sent_then before now new waited a.0 b.0 waiting (none ++ b.2) a.2 b.3,
+      )) answered more
 
       pub both_said : (last : S) (left second_left : Option (List ℕ)) (fault : Fault)
           → IfSome second (λ text. TellsSaid fault (HearsRead rules m last text second_left) (AreAnswersToFirst rules m text) now new waiting none)
           → IfSome (both_known start second) (λ t. TellsSaid fault (HearsAllRead rules s last t left second_left) (AreFirstAnswers rules s t) before new waited none)
-      both_said last left second_left ReadFault more = of_each start second _ _ _ (λ input text b told. (
-        answers_to rules s input ++ told.0,
-        inr (told.0, subst (λ (z : S). HearsRead rules z last text second_left told.0) b.at told.1, refl),
-        sent_then before now new waited (answers_to rules s input) told.0 waiting none b.sent told.2,
-      )) between more
-      both_said last left second_left NoMemory more = of_each start second _ _ _ (λ input text b told. (
-        answers_to rules s input ++ told.0,
-        inr (told.0, subst (λ (z : S). AreAnswersToFirst rules z text told.0) b.at told.1, refl),
-        sent_then before now new waited (answers_to rules s input) told.0 waiting none b.sent told.2,
-      )) between more
-      both_said last left second_left WriteFault more = of_each start second _ _ _ (λ input text b told. tt) between more
-      both_said last left second_left TurnsSpent more = of_each start second _ _ _ (λ input text b told. tt) between more
+      both_said last left second_left ReadFault more = of_each start second _ _ _ (λ input text a b. (
+        a.0 ++ b.0,
+        inr (behind input text a.0 b.0 (λ m text more. HearsRead rules m last text second_left more) a.1 b.1),
+        sent_then before now new waited a.0 b.0 waiting none a.2 b.2,
+      )) answered more
+      both_said last left second_left NoMemory more = of_each start second _ _ _ (λ input text a b. (
+        a.0 ++ b.0,
+        inr (behind input text a.0 b.0 (AreAnswersToFirst rules) a.1 b.1),
+        sent_then before now new waited a.0 b.0 waiting none a.2 b.2,
+      )) answered more
+      both_said last left second_left WriteFault more = of_each start second _ _ _ (λ input text a b. tt) answered more
+      both_said last left second_left TurnsSpent more = of_each start second _ _ _ (λ input text a b. tt) answered more
 
 -- ---- with a second reader or without
 
 module _ {S M : Type 0} (rules : Rules S) (s : S) (start before now : Option (List ℕ)) (waited waiting : List ℕ) (remaining : M → Option (List ℕ)) where
   pub begun_input : (second : Option M) → Begun rules s start before now waited waiting
-      → IfSome (texts_of start remaining second) (λ t. (others : List ℕ) × AppendsAllBut before now (waited ++ all_answers rules s t) (waiting ++ others))
-  begun_input None so_far = of_input start _ _ (λ input told. told) so_far
+      → IfSome (texts_of start remaining second) (λ t. (said : List ℕ) × AreFirstAnswers rules s t said × (others : List ℕ) × AppendsAllBut before now (waited ++ said) (waiting ++ others))
+  begun_input None so_far = begun_alone rules s start before now waited waiting so_far
   begun_input (Some m) so_far = begun_first rules s start before now waited waiting (remaining m) so_far
 
   pub said_input : (second : Option M) (s' : S) (left : Option (List ℕ)) (fault : Fault)
@@ -151,11 +160,3 @@ module _ {S M : Type 0} (rules : Rules S) (s : S) (start before now : Option (Li
       → IfSome (texts_of start remaining second) (λ t. TellsSaid fault (HearsAllRead rules s s' t left (option_and_then remaining second)) (AreFirstAnswers rules s t) before now waited waiting)
   said_input None s' left fault said = said_alone rules s start before now waited waiting s' left fault said
   said_input (Some m) s' left fault said = said_first rules s start before now waited waiting (remaining m) s' left fault said
-
--- all answers are those to some first lines
-pub all_are_first : {S : Type 0} (rules : Rules S) (s : S) (t : Texts) → AreFirstAnswers rules s t (all_answers rules s t)
-all_are_first rules s t = each t.input t.second
-  where
-    each : (input : List ℕ) (second : Option (List ℕ)) → AreFirstAnswers rules s (record { input = input; second = second }) (all_answers rules s (record { input = input; second = second }))
-    each input None = inl (lines_of input, ([], sym (append-nil (lines_of input))), refl)
-    each input (Some text) = inr (answers_to rules (second_state rules s input) text, (lines_of text, ([], sym (append-nil (lines_of text))), refl), refl)

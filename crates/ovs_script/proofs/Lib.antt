@@ -5,3 +5,4 @@ pub mod Output
 pub mod Way
 pub mod Both
 pub mod Spent
+pub mod OneRun

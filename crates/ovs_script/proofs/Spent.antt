@@ -12,12 +12,3 @@ spent_by_writer reads writes turns writes' turns' spent = (omega (arith, spent.0
 
 pub spent_then : (before now new : ℕ) → IsSpentByCalls before now → IsSpentByCalls now new → IsSpentByCalls before new
 spent_then before now new first second = (omega (arith, first.0, second.0), second.1 ∙ first.1)
-
--- the same beside another device's calls
-pub spent_by_first : (reads others writes turns reads' writes' turns' : ℕ) → IsSpentByCalls ((reads + writes) + turns) ((reads' + writes') + turns')
-    → IsSpentByCalls ((reads + others + writes) + turns) ((reads' + others + writes') + turns')
-spent_by_first reads others writes turns reads' writes' turns' spent = (omega (arith, spent.0), omega (arith, spent.0, spent.1))
-
-pub spent_by_second : (others reads writes turns reads' writes' turns' : ℕ) → IsSpentByCalls ((reads + writes) + turns) ((reads' + writes') + turns')
-    → IsSpentByCalls ((others + reads + writes) + turns) ((others + reads' + writes') + turns')
-spent_by_second others reads writes turns reads' writes' turns' spent = (omega (arith, spent.0), omega (arith, spent.0, spent.1))

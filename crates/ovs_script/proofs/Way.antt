@@ -7,7 +7,7 @@ use Rattle.ovs_script.specs.Sending.{AppendsAllBut, AppendsBeginning}
 use Rattle.ovs_script.specs.declared.fault.Fault.{Fault}
 use Rattle.ovs_script.specs.declared.fault.Fault.TheVariants.{ReadFault, WriteFault, TurnsSpent, NoMemory}
 use Rattle.ovs_script.specs.Lines.{lines_of, ended_lines, kept, IsUnbroken, IsCutAfter, TakesLine, TakesPart}
-use Rattle.ovs_script.specs.Rules.{Rules, answers_from, answers_to, state_from, state_after}
+use Rattle.ovs_script.specs.Rules.{Rules, SaysNothing, Says, SaysTo}
 use Rattle.ovs_script.specs.Texts.{AreAnswersToFirst, HaveAllEnded, HearsRead}
 use Rattle.ovs_script.specs.Said.{TellsSaid}
 use Rattle.ovs_script.proofs.Sent.{beginning_sent}
@@ -15,45 +15,48 @@ use Rattle.ovs_script.proofs.Breaks.{AreUnbroken, AreUnbroken-append, text_of, t
 
 -- ---- the lines of two parts
 
-over_answers : {S : Type 0} (rules : Rules S) (s : S) (n : ℕ) (lines : List (List ℕ)) → rules.is_over s ≡ true → answers_from rules s n lines ≡ []
-over_answers rules s n [] over = refl
-over_answers rules s n (line ∷ lines) over = rw over refl
+never_both : {S : Type 0} (rules : Rules S) (s : S) → rules.is_over s ≡ true → rules.is_over s ≡ false → ⊥
+never_both rules s over on = let both : true ≡ false = sym over ∙ on in cc
 
-pub over_state : {S : Type 0} (rules : Rules S) (s : S) (n : ℕ) (lines : List (List ℕ)) → rules.is_over s ≡ true → state_from rules s n lines ≡ s
-over_state rules s n [] over = refl
-over_state rules s n (line ∷ lines) over = rw over refl
+-- a script that is over says nothing
+pub over_says : {S : Type 0} (rules : Rules S) (s : S) (n : ℕ) (lines : List (List ℕ)) → rules.is_over s ≡ true → Says rules s n lines [] s
+over_says rules s n [] over = (refl, refl)
+over_says rules s n (line ∷ lines) over = inl (over, (refl, refl))
+
+pub over_said : {S : Type 0} (rules : Rules S) (s : S) (n : ℕ) (lines : List (List ℕ)) (said : List ℕ) (t : S) → rules.is_over s ≡ true
+    → Says rules s n lines said t → SaysNothing s said t
+over_said rules s n [] said t over says = says
+over_said rules s n (line ∷ lines) said t over (inl (is, nothing)) = nothing
+over_said rules s n (line ∷ lines) said t over (inr (on, answer, next, more, answers, says, is)) = absurd (never_both rules s over on)
 
 next_number : (n : ℕ) (line : List ℕ) (lines : List (List ℕ)) → (n + 1) + length lines ≡ n + length (line ∷ lines)
 next_number n line lines = omega arith
 
-pub answers_from-append : {S : Type 0} (rules : Rules S) (s : S) (n : ℕ) (lines later : List (List ℕ))
-    → answers_from rules s n (lines ++ later) ≡ answers_from rules s n lines ++ answers_from rules (state_from rules s n lines) (n + length lines) later
-answers_from-append rules s n [] later = let k : n ≡ n + 0 = omega arith in ap (λ m. answers_from rules s m later) k
-answers_from-append rules s n (line ∷ lines) later =
-    elim (rules.is_over s) as (λ v. rules.is_over s ≡ v → answers_from rules s n ((line ∷ lines) ++ later)
-    ≡ answers_from rules s n (line ∷ lines) ++ answers_from rules (state_from rules s n (line ∷ lines)) (n + length (line ∷ lines)) later) [
-      | true ↦ λ over. rw over (sym (over_answers rules s (n + length (line ∷ lines)) later over))
-      | false ↦ λ on.
-          let s' = rules.after s n (kept line) in
-          let said = rules.answer s n (kept line) in
-          let k = next_number n line lines in
-          rw on (ap (λ l. said ++ l) (answers_from-append rules s' (n + 1) lines later)
-          ∙ sym (append_assoc said (answers_from rules s' (n + 1) lines) _)
-          ∙ ap (λ m. (said ++ answers_from rules s' (n + 1) lines) ++ answers_from rules (state_from rules s' (n + 1) lines) m later) k)
-    ] refl
+pub Says-append : {S : Type 0} (rules : Rules S) (s : S) (n : ℕ) (lines later : List (List ℕ)) (said more : List ℕ) (t u : S)
+    → Says rules s n lines said t → Says rules t (n + length lines) later more u → Says rules s n (lines ++ later) (said ++ more) u
+Says-append {S} rules s n [] later said more t u (none, same) further =
+    let k : n + 0 ≡ n = omega arith in
+    let here : Says rules t n later more u = subst (λ m. Says rules t m later more u) k further in
+    subst (λ (l : List ℕ). Says rules s n later (l ++ more) u) (sym none) (subst (λ (z : S). Says rules z n later more u) same here)
+Says-append {S} rules s n (line ∷ lines) later said more t u (inl (over, (none, same))) further =
+    let still = ap rules.is_over same ∙ over in
+    let nothing = over_said rules t (n + length (line ∷ lines)) later more u still further in
+    inl (over, (ap (λ l. l ++ more) none ∙ nothing.0, nothing.1 ∙ same))
+Says-append rules s n (line ∷ lines) later said more t u (inr (on, answer, next, rest, answers, says, is)) further =
+    let k = sym (next_number n line lines) in
+    inr (
+      on,
+      answer,
+      next,
+      rest ++ more,
+      answers,
+      Says-append rules next (n + 1) lines later rest more t u says (subst (λ m. Says rules t m later more u) k further),
+      ap (λ l. l ++ more) is ∙ append_assoc answer rest more,
+    )
 
-pub state_from-append : {S : Type 0} (rules : Rules S) (s : S) (n : ℕ) (lines later : List (List ℕ))
-    → state_from rules s n (lines ++ later) ≡ state_from rules (state_from rules s n lines) (n + length lines) later
-state_from-append rules s n [] later = let k : n ≡ n + 0 = omega arith in ap (λ m. state_from rules s m later) k
-state_from-append rules s n (line ∷ lines) later =
-    elim (rules.is_over s) as (λ v. rules.is_over s ≡ v → state_from rules s n ((line ∷ lines) ++ later)
-    ≡ state_from rules (state_from rules s n (line ∷ lines)) (n + length (line ∷ lines)) later) [
-      | true ↦ λ over. rw over (sym (over_state rules s (n + length (line ∷ lines)) later over))
-      | false ↦ λ on.
-          let s' = rules.after s n (kept line) in
-          rw on (state_from-append rules s' (n + 1) lines later
-          ∙ ap (λ m. state_from rules (state_from rules s' (n + 1) lines) m later) (next_number n line lines))
-    ] refl
+one_says : {S : Type 0} (rules : Rules S) (s : S) (n : ℕ) (line said : List ℕ) (t : S) → rules.is_over s ≡ false → rules.Answers s n (kept line) said t
+    → Says rules s n (line ∷ []) said t
+one_says rules s n line said t on answers = inr (on, said, t, [], answers, (refl, refl), sym (append-nil said))
 
 -- a script that is over from the beginning never goes on
 pub still_on : {S : Type 0} (rules : Rules S) (first s : S) → IsTrue (rules.is_over first) → s ≡ first → rules.is_over s ≡ false → ⊥
@@ -69,8 +72,7 @@ IsCutBehind heard text rest = (AreUnbroken heard × (text ≡ text_of heard ++ r
 pub record IsOnWay {S : Type 0} (rules : Rules S) (first : S) (text : List ℕ) (told : List ℕ) (s : S) (n : ℕ) (rest : List ℕ) : Type 0 where
   pub heard : List (List ℕ)
   pub lines : lines_of text ≡ heard ++ lines_of rest
-  pub said : told ≡ answers_from rules first 0 heard
-  pub state : s ≡ state_from rules first 0 heard
+  pub says : Says rules first 0 heard told s
   pub number : n ≡ length heard
   pub cut : IsCutBehind heard text rest
 
@@ -93,7 +95,7 @@ way_out : {S : Type 0} (rules : Rules S) (s : S) (start : Option (List ℕ)) (wi
 way_out rules s None window empty = tt
 way_out rules s (Some text) window empty =
     subst (λ (w : List ℕ). IsOnWay rules s text [] s 0 (w ++ text)) (sym empty)
-    (record { heard = []; lines = refl; said = refl; state = refl; number = refl; cut = inl (tt, refl) })
+    (record { heard = []; lines = refl; says = (refl, refl); number = refl; cut = inl (tt, refl) })
 
 pub setting_out : {S : Type 0} (rules : Rules S) (s : S) (start before : Option (List ℕ)) (waited window : List ℕ) → window ≡ []
     → Progress rules s start before before waited waited s 0 (prepend_known window start)
@@ -102,34 +104,12 @@ setting_out rules s start before waited window empty =
 
 -- ---- a line is answered
 
-one_answer : {S : Type 0} (rules : Rules S) (s : S) (n : ℕ) (line : List ℕ) → rules.is_over s ≡ false
-    → answers_from rules s n (line ∷ []) ≡ rules.answer s n (kept line)
-one_answer rules s n line on = rw on (append-nil (rules.answer s n (kept line)))
-
-one_state : {S : Type 0} (rules : Rules S) (s : S) (n : ℕ) (line : List ℕ) → rules.is_over s ≡ false
-    → state_from rules s n (line ∷ []) ≡ rules.after s n (kept line)
-one_state rules s n line on = rw on refl
-
-from_zero : (n : ℕ) → 0 + n ≡ n
-from_zero n = omega arith
-
--- what is said to lines behind those that were heard, and the state after them
-later_said : {S : Type 0} (rules : Rules S) (first : S) (told : List ℕ) (s : S) (n : ℕ) (heard later : List (List ℕ))
-    → told ≡ answers_from rules first 0 heard → s ≡ state_from rules first 0 heard → n ≡ length heard
-    → answers_from rules first 0 (heard ++ later) ≡ told ++ answers_from rules s n later
-later_said rules first told s n heard later said state number =
-    answers_from-append rules first 0 heard later
-    ∙ ap (λ m. answers_from rules first 0 heard ++ answers_from rules (state_from rules first 0 heard) m later) (from_zero (length heard) ∙ sym number)
-    ∙ ap (λ z. answers_from rules first 0 heard ++ answers_from rules z n later) (sym state)
-    ∙ ap (λ l. l ++ answers_from rules s n later) (sym said)
-
-later_state : {S : Type 0} (rules : Rules S) (first : S) (s : S) (n : ℕ) (heard later : List (List ℕ))
-    → s ≡ state_from rules first 0 heard → n ≡ length heard
-    → state_from rules first 0 (heard ++ later) ≡ state_from rules s n later
-later_state rules first s n heard later state number =
-    state_from-append rules first 0 heard later
-    ∙ ap (λ m. state_from rules (state_from rules first 0 heard) m later) (from_zero (length heard) ∙ sym number)
-    ∙ ap (λ z. state_from rules z n later) (sym state)
+-- what is said to lines behind those that were heard is said behind the answers to these
+later_says : {S : Type 0} (rules : Rules S) (first : S) (told : List ℕ) (s : S) (n : ℕ) (heard later : List (List ℕ)) (more : List ℕ) (t : S)
+    → Says rules first 0 heard told s → n ≡ length heard → Says rules s n later more t → Says rules first 0 (heard ++ later) (told ++ more) t
+later_says rules first told s n heard later more t says number further =
+    let k : n ≡ 0 + length heard = omega (arith, number) in
+    Says-append rules first 0 heard later told more s t says (subst (λ m. Says rules s m later more t) k further)
 
 length_more : (heard : List (List ℕ)) (line : List ℕ) → length heard + 1 ≡ length (heard ++ line ∷ [])
 length_more heard line = grind (arith, common_steps)
@@ -147,38 +127,37 @@ cut_on heard text all rest whole lines took unbroken (inr (same, gone)) cut =
 cut_on heard text all rest whole lines took unbroken (inl cut) (inr (gone, is)) =
     absurd (let none : [] ≡ whole ∷ lines_of rest = sym (ap lines_of gone) ∙ took in cc)
 
-line_on_way : {S : Type 0} (rules : Rules S) (first : S) (text told : List ℕ) (s : S) (n : ℕ) (all rest : List ℕ) (line : Option (List ℕ))
-    → IsOnWay rules first text told s n all → TakesLine (Some all) (Some rest) (Some line) → rules.is_over s ≡ false
-    → IsOnWay rules first text (told ++ rules.answer s n line) (rules.after s n line) (n + 1) rest
-line_on_way rules first text told s n all rest line way took on =
+line_on_way : {S : Type 0} (rules : Rules S) (first : S) (text told : List ℕ) (s : S) (n : ℕ) (all rest : List ℕ) (line : Option (List ℕ)) (bytes : List ℕ) (s' : S)
+    → IsOnWay rules first text told s n all → TakesLine (Some all) (Some rest) (Some line) → rules.is_over s ≡ false → rules.Answers s n line bytes s'
+    → IsOnWay rules first text (told ++ bytes) s' (n + 1) rest
+line_on_way rules first text told s n all rest line bytes s' way took on answers =
     let whole = took.0 in
     let same : line ≡ kept whole = took.2 in
     record {
       heard = way.heard ++ whole ∷ [];
       lines = way.lines ∙ ap (λ l. way.heard ++ l) took.1 ∙ sym (append_assoc way.heard (whole ∷ []) (lines_of rest));
-      said = ap (λ k. told ++ rules.answer s n k) same ∙ ap (λ l. told ++ l) (sym (one_answer rules s n whole on))
-          ∙ sym (later_said rules first told s n way.heard (whole ∷ []) way.said way.state way.number);
-      state = ap (λ k. rules.after s n k) same ∙ sym (one_state rules s n whole on)
-          ∙ sym (later_state rules first s n way.heard (whole ∷ []) way.state way.number);
+      says = later_says rules first told s n way.heard (whole ∷ []) bytes s' way.says way.number
+          (one_says rules s n whole bytes s' on (subst (λ (k : Option (List ℕ)). rules.Answers s n k bytes s') same answers));
       number = ap (λ m. m + 1) way.number ∙ length_more way.heard whole;
       cut = cut_on way.heard text all rest whole way.lines took.1 took.3 took.4 way.cut;
     }
 
-line_may_be : {S : Type 0} (rules : Rules S) (first : S) (start : Option (List ℕ)) (told : List ℕ) (s : S) (n : ℕ) (left new line : Option (List ℕ))
-    → MayBeOnWay rules first start told s n left → TakesLine left new (Some line) → rules.is_over s ≡ false
-    → MayBeOnWay rules first start (told ++ rules.answer s n line) (rules.after s n line) (n + 1) new
-line_may_be rules first None told s n left new line way took on = tt
-line_may_be rules first (Some text) told s n None new line way took on = absurd way
-line_may_be rules first (Some text) told s n (Some all) None line way took on = absurd took
-line_may_be rules first (Some text) told s n (Some all) (Some rest) line way took on = line_on_way rules first text told s n all rest line way took on
+line_may_be : {S : Type 0} (rules : Rules S) (first : S) (start : Option (List ℕ)) (told : List ℕ) (s : S) (n : ℕ) (left new line : Option (List ℕ)) (bytes : List ℕ) (s' : S)
+    → MayBeOnWay rules first start told s n left → TakesLine left new (Some line) → rules.is_over s ≡ false → rules.Answers s n line bytes s'
+    → MayBeOnWay rules first start (told ++ bytes) s' (n + 1) new
+line_may_be rules first None told s n left new line bytes s' way took on answers = tt
+line_may_be rules first (Some text) told s n None new line bytes s' way took on answers = absurd way
+line_may_be rules first (Some text) told s n (Some all) None line bytes s' way took on answers = absurd took
+line_may_be rules first (Some text) told s n (Some all) (Some rest) line bytes s' way took on answers =
+    line_on_way rules first text told s n all rest line bytes s' way took on answers
 
 pub answered : {S : Type 0} (rules : Rules S) (first : S) (start before now : Option (List ℕ)) (waited waiting : List ℕ) (s : S) (n : ℕ) (left new : Option (List ℕ))
-    (line passed : Option (List ℕ)) (s' : S) (bytes grown : List ℕ) → Progress rules first start before now waited waiting s n left
-    → TakesLine left new (Some line) → rules.is_over s ≡ false → passed ≡ line → bytes ≡ rules.answer s n passed → s' ≡ rules.after s n passed
+    (line passed : Option (List ℕ)) (s' : S) (text bytes grown : List ℕ) → Progress rules first start before now waited waiting s n left
+    → TakesLine left new (Some line) → rules.is_over s ≡ false → passed ≡ line → rules.Answers s n passed text s' → bytes ≡ text
     → grown ≡ waiting ++ bytes → Progress rules first start before now waited grown s' (n + 1) new
-answered rules first start before now waited waiting s n left new line passed s' bytes grown so_far took on same text after grew =
-    let said : bytes ≡ rules.answer s n line = text ∙ ap (rules.answer s n) same in
-    let way = line_may_be rules first start so_far.told s n left new line so_far.way took on in
+answered rules first start before now waited waiting s n left new line passed s' text bytes grown so_far took on same answers is grew =
+    let to_line = subst (λ (k : Option (List ℕ)). rules.Answers s n k text s') same answers in
+    let said = subst (λ (l : List ℕ). rules.Answers s n line l s') (sym is) to_line in
     record {
       told = so_far.told ++ bytes;
       sent = (
@@ -187,8 +166,7 @@ answered rules first start before now waited waiting s n left new line passed s'
         sym (append_assoc waited so_far.told bytes) ∙ ap (λ l. l ++ bytes) so_far.sent.2 ∙ append_assoc so_far.sent.0 waiting bytes
             ∙ ap (λ l. so_far.sent.0 ++ l) (sym grew),
       );
-      way = subst (λ l. MayBeOnWay rules first start (so_far.told ++ l) s' (n + 1) new) (sym said)
-          (subst (λ z. MayBeOnWay rules first start (so_far.told ++ rules.answer s n line) z (n + 1) new) (sym (after ∙ ap (rules.after s n) same)) way);
+      way = line_may_be rules first start so_far.told s n left new line bytes s' so_far.way took on said;
     }
 
 -- ---- what waits is sent
@@ -208,71 +186,58 @@ wrote rules first start before now new waited waiting none s n left so_far sent 
 
 -- ---- the end
 
--- all lines are answered
-abbrev pub AllTold : {S : Type 0} → Rules S → S → Option (List ℕ) → List ℕ → S → Type 0
-AllTold rules first start told s = IfSome start (λ text. (answers_to rules first text ≡ told) × (s ≡ state_after rules first text))
+-- all lines are answered, and what was said is written but for what waits now
+abbrev pub Answered : {S : Type 0} → Rules S → S → Option (List ℕ) → Option (List ℕ) → Option (List ℕ) → List ℕ → List ℕ → S → Type 0
+Answered rules first start before now waited waiting s =
+    IfSome start (λ text. (said : List ℕ) × SaysTo rules first text said s × AppendsAllBut before now (waited ++ said) waiting)
 
-said_by : {S : Type 0} (rules : Rules S) (first : S) (text told : List ℕ) (s : S) (n : ℕ) (rest : List ℕ) → IsOnWay rules first text told s n rest
-    → answers_to rules first text ≡ told ++ answers_from rules s n (lines_of rest)
-said_by rules first text told s n rest way =
-    ap (answers_from rules first 0) way.lines ∙ later_said rules first told s n way.heard (lines_of rest) way.said way.state way.number
+-- nothing is said to the lines that are left
+silent_by : {S : Type 0} (rules : Rules S) (first : S) (text told : List ℕ) (s : S) (n : ℕ) (rest : List ℕ) → IsOnWay rules first text told s n rest
+    → Says rules s n (lines_of rest) [] s → SaysTo rules first text told s
+silent_by rules first text told s n rest way silent =
+    let all = later_says rules first told s n way.heard (lines_of rest) [] s way.says way.number silent in
+    subst (λ (ls : List (List ℕ)). Says rules first 0 ls told s) (sym way.lines)
+    (subst (λ (l : List ℕ). Says rules first 0 (way.heard ++ lines_of rest) l s) (append-nil told) all)
 
-state_by : {S : Type 0} (rules : Rules S) (first : S) (text told : List ℕ) (s : S) (n : ℕ) (rest : List ℕ) → IsOnWay rules first text told s n rest
-    → state_after rules first text ≡ state_from rules s n (lines_of rest)
-state_by rules first text told s n rest way =
-    ap (state_from rules first 0) way.lines ∙ later_state rules first s n way.heard (lines_of rest) way.state way.number
+over_way : {S : Type 0} (rules : Rules S) (first : S) (start before now : Option (List ℕ)) (waited told waiting : List ℕ) (s : S) (n : ℕ) (left : Option (List ℕ))
+    → MayBeOnWay rules first start told s n left → AppendsAllBut before now (waited ++ told) waiting → rules.is_over s ≡ true
+    → Answered rules first start before now waited waiting s
+over_way rules first None before now waited told waiting s n left way sent over = tt
+over_way rules first (Some text) before now waited told waiting s n None way sent over = absurd way
+over_way rules first (Some text) before now waited told waiting s n (Some rest) way sent over =
+    (told, silent_by rules first text told s n rest way (over_says rules s n (lines_of rest) over), sent)
 
-pub told_where_over : {S : Type 0} (rules : Rules S) (first : S) (start : Option (List ℕ)) (told : List ℕ) (s : S) (n : ℕ) (left : Option (List ℕ))
-    → MayBeOnWay rules first start told s n left → rules.is_over s ≡ true → AllTold rules first start told s
-told_where_over rules first None told s n left way over = tt
-told_where_over rules first (Some text) told s n None way over = absurd way
-told_where_over rules first (Some text) told s n (Some rest) way over = (
-  said_by rules first text told s n rest way ∙ ap (λ l. told ++ l) (over_answers rules s n (lines_of rest) over) ∙ append-nil told,
-  sym (state_by rules first text told s n rest way ∙ over_state rules s n (lines_of rest) over),
-)
+pub all_where_over : {S : Type 0} (rules : Rules S) (first : S) (start before now : Option (List ℕ)) (waited waiting : List ℕ) (s : S) (n : ℕ) (left : Option (List ℕ))
+    → Progress rules first start before now waited waiting s n left → rules.is_over s ≡ true → Answered rules first start before now waited waiting s
+all_where_over rules first start before now waited waiting s n left so_far over =
+    over_way rules first start before now waited so_far.told waiting s n left so_far.way so_far.sent over
 
-pub told_at_end : {S : Type 0} (rules : Rules S) (first : S) (start : Option (List ℕ)) (told : List ℕ) (s : S) (n : ℕ) (left new : Option (List ℕ))
-    → MayBeOnWay rules first start told s n left → TakesLine left new None → AllTold rules first start told s
-told_at_end rules first None told s n left new way took = tt
-told_at_end rules first (Some text) told s n None new way took = absurd way
-told_at_end rules first (Some text) told s n (Some rest) None way took = absurd took
-told_at_end rules first (Some text) told s n (Some rest) (Some more) way took = (
-  said_by rules first text told s n rest way ∙ ap (λ l. told ++ answers_from rules s n (lines_of l)) took.0 ∙ append-nil told,
-  sym (state_by rules first text told s n rest way ∙ ap (λ l. state_from rules s n (lines_of l)) took.0),
-)
-
-pub all_sent : {S : Type 0} (rules : Rules S) (first : S) (start before now : Option (List ℕ)) (waited told waiting : List ℕ) (s : S)
-    → AllTold rules first start told s → AppendsAllBut before now (waited ++ told) waiting
-    → IfSome start (λ text. AppendsAllBut before now (waited ++ answers_to rules first text) waiting)
-all_sent rules first None before now waited told waiting s all sent = tt
-all_sent rules first (Some text) before now waited told waiting s all sent = (sent.0, sent.1, ap (λ l. waited ++ l) all.0 ∙ sent.2)
-
-pub last_state : {S : Type 0} (rules : Rules S) (first : S) (start : Option (List ℕ)) (told : List ℕ) (s : S)
-    → AllTold rules first start told s → IfSome start (λ text. s ≡ state_after rules first text)
-last_state rules first None told s all = tt
-last_state rules first (Some text) told s all = all.1
+end_way : {S : Type 0} (rules : Rules S) (first : S) (start before now : Option (List ℕ)) (waited told waiting : List ℕ) (s : S) (n : ℕ) (left new : Option (List ℕ))
+    → MayBeOnWay rules first start told s n left → AppendsAllBut before now (waited ++ told) waiting → TakesLine left new None
+    → Answered rules first start before now waited waiting s
+end_way rules first None before now waited told waiting s n left new way sent took = tt
+end_way rules first (Some text) before now waited told waiting s n None new way sent took = absurd way
+end_way rules first (Some text) before now waited told waiting s n (Some rest) None way sent took = absurd took
+end_way rules first (Some text) before now waited told waiting s n (Some rest) (Some more) way sent took =
+    let silent : Says rules s n (lines_of rest) [] s = subst (λ (l : List ℕ). Says rules s n (lines_of l) [] s) (sym took.0) (refl, refl) in
+    (told, silent_by rules first text told s n rest way silent, sent)
 
 -- ---- a fault
 
--- what is written and what waits is a beginning of the answers
+-- what is written and what waits is a beginning of the answers to some first lines
 abbrev pub Begun : {S : Type 0} → Rules S → S → Option (List ℕ) → Option (List ℕ) → Option (List ℕ) → List ℕ → List ℕ → Type 0
 Begun rules first start before now waited waiting =
-    IfSome start (λ text. (others : List ℕ) × AppendsAllBut before now (waited ++ answers_to rules first text) (waiting ++ others))
+    IfSome start (λ text. (said : List ℕ) × AreAnswersToFirst rules first text said × (others : List ℕ) × AppendsAllBut before now (waited ++ said) (waiting ++ others))
+
+pub all_but_none : (before now : Option (List ℕ)) (text waiting : List ℕ) → AppendsAllBut before now text waiting → AppendsAllBut before now text (waiting ++ [])
+all_but_none before now text waiting sent = subst (AppendsAllBut before now text) (sym (append-nil waiting)) sent
 
 begun_way : {S : Type 0} (rules : Rules S) (first : S) (start before now : Option (List ℕ)) (waited told waiting : List ℕ) (s : S) (n : ℕ) (left : Option (List ℕ))
     → MayBeOnWay rules first start told s n left → AppendsAllBut before now (waited ++ told) waiting → Begun rules first start before now waited waiting
 begun_way rules first None before now waited told waiting s n left way sent = tt
 begun_way rules first (Some text) before now waited told waiting s n None way sent = absurd way
 begun_way rules first (Some text) before now waited told waiting s n (Some rest) way sent =
-    let others = answers_from rules s n (lines_of rest) in (
-      others,
-      (
-        sent.0,
-        sent.1,
-        ap (λ l. waited ++ l) (said_by rules first text told s n rest way) ∙ sym (append_assoc waited told others)
-            ∙ ap (λ l. l ++ others) sent.2 ∙ append_assoc sent.0 waiting others,
-      ),
-    )
+    (told, (way.heard, (lines_of rest, way.lines), s, way.says), [], all_but_none before now (waited ++ told) waiting sent)
 
 pub begun : {S : Type 0} (rules : Rules S) (first : S) (start before now : Option (List ℕ)) (waited waiting : List ℕ) (s : S) (n : ℕ) (left : Option (List ℕ))
     → Progress rules first start before now waited waiting s n left → Begun rules first start before now waited waiting
@@ -288,9 +253,9 @@ begun_kept rules first start before now waited waiting same is so_far = subst (B
 lost_by : {S : Type 0} (rules : Rules S) (first : S) (start before now new : Option (List ℕ)) (waited waiting none : List ℕ)
     → Begun rules first start before now waited waiting → AppendsBeginning now new waiting → none ≡ [] → Begun rules first start before new waited none
 lost_by rules first None before now new waited waiting none so_far sent empty = tt
-lost_by rules first (Some text) before now new waited waiting none so_far sent empty =
-    let part = beginning_sent before now new (waited ++ answers_to rules first text) waiting so_far.0 so_far.1 sent in
-    (part.0, subst (λ (l : List ℕ). AppendsAllBut before new (waited ++ answers_to rules first text) (l ++ part.0)) (sym empty) part.1)
+lost_by rules first (Some text) before now new waited waiting none (said, are_first, others, old) sent empty =
+    let part = beginning_sent before now new (waited ++ said) waiting others old sent in
+    (said, are_first, part.0, subst (λ (l : List ℕ). AppendsAllBut before new (waited ++ said) (l ++ part.0)) (sym empty) part.1)
 
 pub begun_lost : {S : Type 0} (rules : Rules S) (first : S) (start before now new : Option (List ℕ)) (waited waiting none : List ℕ) (s : S) (n : ℕ) (left : Option (List ℕ))
     → Progress rules first start before now waited waiting s n left → AppendsBeginning now new waiting → none ≡ []
@@ -330,8 +295,7 @@ read_way rules first (Some text) before now waited told waiting s n (Some rest) 
     lines = way.heard;
     are_first = (lines_of rest, way.lines);
     have_ended = ended_heard text way.heard rest new way.cut took;
-    state = way.state;
-    answers = way.said;
+    answers = way.says;
   },
   sent,
 )
@@ -342,7 +306,7 @@ memory_way : {S : Type 0} (rules : Rules S) (first : S) (start before now : Opti
 memory_way rules first None before now waited told waiting s n left way sent = tt
 memory_way rules first (Some text) before now waited told waiting s n None way sent = absurd way
 memory_way rules first (Some text) before now waited told waiting s n (Some rest) way sent =
-    (told, (way.heard, (lines_of rest, way.lines), way.said), sent)
+    (told, (way.heard, (lines_of rest, way.lines), s, way.says), sent)
 
 nothing_told : (start : Option (List ℕ)) → IfSome start (λ text. Unit {0})
 nothing_told None = tt
@@ -358,22 +322,3 @@ stopped rules first start before now waited waiting s n left new NoMemory so_far
     memory_way rules first start before now waited so_far.told waiting s n left so_far.way so_far.sent
 stopped rules first start before now waited waiting s n left new WriteFault so_far took = nothing_told start
 stopped rules first start before now waited waiting s n left new TurnsSpent so_far took = nothing_told start
-
--- by want of memory, whatever the state and the reader are then
-pub stopped_by_memory : {S : Type 0} (rules : Rules S) (first : S) (start before now : Option (List ℕ)) (waited waiting same : List ℕ) (s s' : S) (n : ℕ) (left new : Option (List ℕ))
-    → Progress rules first start before now waited waiting s n left → same ≡ waiting
-    → IfSome start (λ text. TellsSaid NoMemory (HearsRead rules first s' text new) (AreAnswersToFirst rules first text) before now waited same)
-stopped_by_memory rules first start before now waited waiting same s s' n left new so_far is =
-    memory_way rules first start before now waited so_far.told same s n left so_far.way
-    (subst (AppendsAllBut before now (waited ++ so_far.told)) (sym is) so_far.sent)
-
--- by a fault of the writer, or for want of calls
-pub stopped_by_writer : {S : Type 0} (rules : Rules S) (first s : S) (start before now : Option (List ℕ)) (waited waiting : List ℕ) (new : Option (List ℕ)) (fault : Fault)
-    → (fault ≡ WriteFault) ⊎ (fault ≡ TurnsSpent)
-    → IfSome start (λ text. TellsSaid fault (HearsRead rules first s text new) (AreAnswersToFirst rules first text) before now waited waiting)
-stopped_by_writer rules first s start before now waited waiting new WriteFault which = nothing_told start
-stopped_by_writer rules first s start before now waited waiting new TurnsSpent which = nothing_told start
-stopped_by_writer rules first s start before now waited waiting new ReadFault (inl is) = absurd (let w : ReadFault ≡ WriteFault = is in cc)
-stopped_by_writer rules first s start before now waited waiting new ReadFault (inr is) = absurd (let w : ReadFault ≡ TurnsSpent = is in cc)
-stopped_by_writer rules first s start before now waited waiting new NoMemory (inl is) = absurd (let w : NoMemory ≡ WriteFault = is in cc)
-stopped_by_writer rules first s start before now waited waiting new NoMemory (inr is) = absurd (let w : NoMemory ≡ TurnsSpent = is in cc)

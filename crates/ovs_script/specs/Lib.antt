@@ -5,4 +5,5 @@ pub mod RunEnd
 pub mod Counts
 pub mod Rules
 pub mod Texts
+pub mod Functions
 pub mod Said

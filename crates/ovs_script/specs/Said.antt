@@ -1,11 +1,21 @@
--- What is written of what was said, where a run breaks off.
-use Rattle.std.specs.Prelude.{ℕ, List, ◌++◌, Option}
+-- What is written of what was said.
+use Rattle.std.specs.Prelude.{ℕ, List, ◌++◌, Bool, true, false, Option}
 use Rattle.std.specs.Io.KnownBytes.{Appends}
 use Rattle.ovs_script.specs.declared.fault.Fault.{Fault}
 use Rattle.ovs_script.specs.declared.fault.Fault.TheVariants.{ReadFault, NoMemory}
 use Rattle.ovs_script.specs.declared.run_end.RunEnd.{RunEnd}
 use Rattle.ovs_script.specs.declared.run_end.RunEnd.TheVariants as ends
 use Rattle.ovs_script.specs.Sending.{AppendsAllBut}
+
+-- ---- where a run comes to its end
+
+-- all of the output is written, and the end tells whether the script is content: this holds of the two
+abbrev pub WritesOutput : RunEnd → (List ℕ → Bool → Type 0) → Option (List ℕ) → Option (List ℕ) → Type 0
+WritesOutput ends.Clean IsAll before now = (output : List ℕ) × IsAll output true × Appends before now output
+WritesOutput ends.Refused IsAll before now = (output : List ℕ) × IsAll output false × Appends before now output
+WritesOutput _ IsAll before now = Unit {0}
+
+-- ---- where it breaks off
 
 -- of what waited and what was said all is written but what waits now; what was said is this at a read fault, and that where memory ran out
 abbrev pub TellsSaid : Fault → (List ℕ → Type 0) → (List ℕ → Type 0) → Option (List ℕ) → Option (List ℕ) → List ℕ → List ℕ → Type 0

@@ -1,8 +1,8 @@
 -- The texts of a run, an input and perhaps a second text, and what a script says to them.
-use Rattle.std.specs.Prelude.{◌≡◌, ◌⊎◌, ℕ, List, ◌++◌, Bool, Option, Some, None, IsTrue, IfSome}
+use Rattle.std.specs.Prelude.{◌≡◌, ◌⊎◌, ℕ, List, ◌++◌, Bool, false, Option, Some, None, IsTrue, IfSome}
 use Rattle.std.specs.Io.KnownBytes.{Consumes}
 use Rattle.ovs_script.specs.Lines.{lines_of, ended_lines}
-use Rattle.ovs_script.specs.Rules.{Rules, answers_from, answers_to, state_from, state_after}
+use Rattle.ovs_script.specs.Rules.{Rules, Says, SaysTo}
 
 -- the texts of a run
 pub record Texts : Type 0 where
@@ -26,33 +26,29 @@ texts_of input remaining (Some m) = both_known input (remaining m)
 
 -- ---- what is said to all lines
 
--- what a second text finds: the state behind all lines of the input, turned to it
-abbrev pub second_state : {S : Type 0} → Rules S → S → List ℕ → S
-second_state rules s input = rules.at_second (state_after rules s input)
+-- something is said to all lines of the input; then the script begins the second text, and says behind it what is so of that
+pub record SaysBehind {S : Type 0} (rules : Rules S) (s : S) (input text : List ℕ) (IsMore : S → List ℕ → List ℕ → Type 0) (said : List ℕ) : Type 0 where
+  pub first : List ℕ
+  pub behind : S
+  pub found : S
+  pub more : List ℕ
+  pub to_input : SaysTo rules s input first behind
+  pub turned : rules.BeginsSecond behind found
+  pub to_second : IsMore found text more
+  pub all : said ≡ first ++ more
 
-abbrev pub answers_beside : {S : Type 0} → Rules S → S → List ℕ → Option (List ℕ) → List ℕ
-answers_beside rules s input None = answers_to rules s input
-answers_beside rules s input (Some text) = answers_to rules s input ++ answers_to rules (second_state rules s input) text
+abbrev pub SaysBeside : {S : Type 0} → Rules S → S → List ℕ → Option (List ℕ) → List ℕ → S → Type 0
+SaysBeside rules s input None said last = SaysTo rules s input said last
+SaysBeside rules s input (Some text) said last = SaysBehind rules s input text (λ m text more. SaysTo rules m text more last) said
 
-abbrev pub state_beside : {S : Type 0} → Rules S → S → List ℕ → Option (List ℕ) → S
-state_beside rules s input None = state_after rules s input
-state_beside rules s input (Some text) = state_after rules (second_state rules s input) text
+-- this is said to the lines of the input, and then to those of the second text, if there is one; and the state after all these lines
+abbrev pub SaysToAll : {S : Type 0} → Rules S → S → Texts → List ℕ → S → Type 0
+SaysToAll rules s t said last = SaysBeside rules s t.input t.second said last
 
--- what is said to the lines of the input, and then to those of the second text, if there is one
-abbrev pub all_answers : {S : Type 0} → Rules S → S → Texts → List ℕ
-all_answers rules s t = answers_beside rules s t.input t.second
-
--- the state after all these lines
-abbrev pub last_state : {S : Type 0} → Rules S → S → Texts → S
-last_state rules s t = state_beside rules s t.input t.second
-
--- all that is written: the answers, and then the last words
-abbrev pub script_output : {S : Type 0} → Rules S → S → Texts → List ℕ
-script_output rules s t = all_answers rules s t ++ rules.closing (last_state rules s t)
-
--- it is content with all it heard
-abbrev pub is_content_with : {S : Type 0} → Rules S → S → Texts → Bool
-is_content_with rules s t = rules.is_content (last_state rules s t)
+-- all that is written: what is said to all lines, and then the last words; and whether the script is content with all it heard
+abbrev pub IsOutput : {S : Type 0} → Rules S → S → Texts → List ℕ → Bool → Type 0
+IsOutput {S} rules s t output is_content = (said : List ℕ) × (last : S) × (words : List ℕ)
+    × SaysToAll rules s t said last × rules.Closes last words is_content × (output ≡ said ++ words)
 
 -- ---- what is said to some first lines
 
@@ -62,17 +58,21 @@ AreFirstLines first text = (others : List (List ℕ)) × (lines_of text ≡ firs
 
 -- what is said to some first lines of a text
 abbrev pub AreAnswersToFirst : {S : Type 0} → Rules S → S → List ℕ → List ℕ → Type 0
-AreAnswersToFirst rules s text said = (lines : List (List ℕ)) × AreFirstLines lines text × (said ≡ answers_from rules s 0 lines)
+AreAnswersToFirst {S} rules s text said = (lines : List (List ℕ)) × AreFirstLines lines text × (t : S) × Says rules s 0 lines said t
 
 -- what is said to all lines of the input, and then something that is so of the second text
-abbrev pub AreAnswersBehind : {S : Type 0} → Rules S → S → List ℕ → Option (List ℕ) → (List ℕ → List ℕ → Type 0) → List ℕ → Type 0
+abbrev pub AreAnswersBehind : {S : Type 0} → Rules S → S → List ℕ → Option (List ℕ) → (S → List ℕ → List ℕ → Type 0) → List ℕ → Type 0
 AreAnswersBehind rules s input None IsMore said = ⊥
-AreAnswersBehind rules s input (Some text) IsMore said = (more : List ℕ) × IsMore text more × (said ≡ answers_to rules s input ++ more)
+AreAnswersBehind rules s input (Some text) IsMore said = SaysBehind rules s input text IsMore said
 
 -- what is said to some first lines of the input, or to all of it and some first lines of the second text
 abbrev pub AreFirstAnswers : {S : Type 0} → Rules S → S → Texts → List ℕ → Type 0
 AreFirstAnswers rules s t said = AreAnswersToFirst rules s t.input said
-    ⊎ AreAnswersBehind rules s t.input t.second (AreAnswersToFirst rules (second_state rules s t.input)) said
+    ⊎ AreAnswersBehind rules s t.input t.second (AreAnswersToFirst rules) said
+
+-- what is said to some first lines of both texts, or all of the output
+abbrev pub IsOutputSoFar : {S : Type 0} → Rules S → S → Texts → List ℕ → Type 0
+IsOutputSoFar rules s t output = AreFirstAnswers rules s t output ⊎ ((is_content : Bool) × IsOutput rules s t output is_content)
 
 -- ---- what is said to the lines that left a reader
 
@@ -85,17 +85,21 @@ pub record HearsRead {S : Type 0} (rules : Rules S) (s s' : S) (text : List ℕ)
   pub lines : List (List ℕ)
   pub are_first : AreFirstLines lines text
   pub have_ended : HaveAllEnded text left lines
-  pub state : s' ≡ state_from rules s 0 lines
-  pub answers : said ≡ answers_from rules s 0 lines
+  pub answers : Says rules s 0 lines said s'
 
 -- the same of both texts: of the input, before anything of the second text was read, or of the second text behind all of the input
 abbrev pub HearsAllRead : {S : Type 0} → Rules S → S → S → Texts → Option (List ℕ) → Option (List ℕ) → List ℕ → Type 0
 HearsAllRead rules s s' t left second_left said = (HearsRead rules s s' t.input left said × (second_left ≡ t.second))
-    ⊎ AreAnswersBehind rules s t.input t.second (λ text. HearsRead rules (second_state rules s t.input) s' text second_left) said
+    ⊎ AreAnswersBehind rules s t.input t.second (λ m text more. HearsRead rules m s' text second_left more) said
 
 -- ---- what isn't read
 
--- where the script hears no line of a text, its reader isn't called
+-- behind all lines of the input the script may hear the lines of a second text
+abbrev pub MayHearSecond : {S : Type 0} → Rules S → S → List ℕ → Type 0
+MayHearSecond {S} rules s input = (said : List ℕ) × (behind : S) × (found : S)
+    × SaysTo rules s input said behind × rules.BeginsSecond behind found × (rules.is_over found ≡ false)
+
+-- a reader is called only where lines of its text may be heard
 pub record LeavesUnread {S R M : Type 0} (rules : Rules S) (s : S) (input : Option (List ℕ)) (reader reader' : R) (second second' : M) : Type 0 where
   pub first : IsTrue (rules.is_over s) → reader' ≡ reader
-  pub behind : IfSome input (λ text. IsTrue (rules.is_over (second_state rules s text)) → second' ≡ second)
+  pub behind : IfSome input (λ text. (second' ≡ second) ⊎ MayHearSecond rules s text)

@@ -3,6 +3,7 @@
 #![tactic(auto)]
 
 mod fault;
+mod laws;
 mod line;
 mod lines;
 mod pending;
@@ -13,6 +14,7 @@ mod sending;
 mod turns;
 mod window;
 
+pub use laws::functions_have_one_run;
 pub use run::run_script;
 pub use run_end::RunEnd;
 pub use script::{Closing, Script};

@@ -1,12 +1,12 @@
 //! A script run over any readers and any writer.
-ghost use Rattle.std.specs.Prelude.{◌≡◌, ◌≢◌, ℕ, ◌+◌, ◌≤◌, ◌++◌, List, Err, false, IfSome, IfOk, IfErr, OnOk, OnErr, IsTrue, option_and_then, if◌then◌else◌};
+ghost use Rattle.std.specs.Prelude.{◌≡◌, ◌≢◌, ℕ, ◌+◌, ◌≤◌, ◌++◌, List, Err, false, IfSome, IfOk, IfErr, OnOk, OnErr, IsTrue, option_and_then};
 ghost use Rattle.std.specs.Io.KnownBytes.{Appends, Keeps};
 ghost use Rattle.ovs_script.specs.Turns.{IsSpentByCalls};
 ghost use Rattle.ovs_script.specs.Counts.{failed_writes, CountsWrites, CountsText, CountsTexts, CountsRun};
 ghost use Rattle.ovs_script.specs.Sending.{AppendsAllBut, AppendsBeginning};
-ghost use Rattle.ovs_script.specs.Rules.{answers_to, state_after};
-ghost use Rattle.ovs_script.specs.Texts.{AreAnswersToFirst, AreFirstAnswers, HearsRead, HearsAllRead, texts_of, LeavesUnread, all_answers, last_state, script_output, is_content_with};
-ghost use Rattle.ovs_script.specs.Said.{TellsSaid, WritesSaid};
+ghost use Rattle.ovs_script.specs.Rules.{SaysTo, AreLastWordsSoFar};
+ghost use Rattle.ovs_script.specs.Texts.{texts_of, SaysToAll, IsOutput, AreAnswersToFirst, AreFirstAnswers, IsOutputSoFar, HearsRead, HearsAllRead, LeavesUnread};
+ghost use Rattle.ovs_script.specs.Said.{TellsSaid, WritesOutput, WritesSaid};
 ghost use Rattle.ovs_script.specs.RunEnd.{is_whole, writes_failed_by};
 
 use crate::fault::Fault;
@@ -30,16 +30,14 @@ fn run_lines<S: Script, R: Read, W: Write>(
     pending: &mut Pending,
     turns: &mut Turns,
 ) -> Result<(), Fault>
-    ensures answers { OnOk result (IfSome (R.remaining reader.old.device) (λ text.
-        AppendsAllBut (W.contents writer.old.device) (W.contents writer.new.device)
-        (pending.old ++ answers_to S.rules script.old text) pending.new)) }
-    ensures state { OnOk result (IfSome (R.remaining reader.old.device) (λ text.
-        script.new ≡ state_after S.rules script.old text)) }
+    ensures answers { OnOk result (IfSome (R.remaining reader.old.device) (λ text. (said : List ℕ)
+        × SaysTo S.rules script.old text said script.new
+        × AppendsAllBut (W.contents writer.old.device) (W.contents writer.new.device) (pending.old ++ said) pending.new)) }
 
-    // What is written, and behind it what waits, is a beginning of the answers.
-    ensures begun { OnErr result (IfSome (R.remaining reader.old.device) (λ text. (others : List ℕ)
-        × AppendsAllBut (W.contents writer.old.device) (W.contents writer.new.device)
-        (pending.old ++ answers_to S.rules script.old text) (pending.new ++ others))) }
+    // What is written, and behind it what waits, is a beginning of the answers to some first lines.
+    ensures begun { OnErr result (IfSome (R.remaining reader.old.device) (λ text. (said : List ℕ)
+        × AreAnswersToFirst S.rules script.old text said × (others : List ℕ)
+        × AppendsAllBut (W.contents writer.old.device) (W.contents writer.new.device) (pending.old ++ said) (pending.new ++ others))) }
     ensures said { IfErr result (λ fault. IfSome (R.remaining reader.old.device) (λ text.
         TellsSaid fault (HearsRead S.rules script.old script.new text (R.remaining reader.new.device))
         (AreAnswersToFirst S.rules script.old text)
@@ -78,16 +76,14 @@ fn run_texts<S: Script, R: Read, M: Read, W: Write>(
     pending: &mut Pending,
     turns: &mut Turns,
 ) -> Result<(), Fault>
-    ensures answers { OnOk result (IfSome (texts_of (R.remaining reader.old.device) (λ m. M.remaining m.device) second.old) (λ t.
-        AppendsAllBut (W.contents writer.old.device) (W.contents writer.new.device)
-        (pending.old ++ all_answers S.rules script.old t) pending.new)) }
-    ensures state { OnOk result (IfSome (texts_of (R.remaining reader.old.device) (λ m. M.remaining m.device) second.old) (λ t.
-        script.new ≡ last_state S.rules script.old t)) }
+    ensures answers { OnOk result (IfSome (texts_of (R.remaining reader.old.device) (λ m. M.remaining m.device) second.old) (λ t. (said : List ℕ)
+        × SaysToAll S.rules script.old t said script.new
+        × AppendsAllBut (W.contents writer.old.device) (W.contents writer.new.device) (pending.old ++ said) pending.new)) }
 
     // The same as for the lines of one.
-    ensures begun { OnErr result (IfSome (texts_of (R.remaining reader.old.device) (λ m. M.remaining m.device) second.old) (λ t.
-        (others : List ℕ) × AppendsAllBut (W.contents writer.old.device) (W.contents writer.new.device)
-        (pending.old ++ all_answers S.rules script.old t) (pending.new ++ others))) }
+    ensures begun { OnErr result (IfSome (texts_of (R.remaining reader.old.device) (λ m. M.remaining m.device) second.old) (λ t. (said : List ℕ)
+        × AreFirstAnswers S.rules script.old t said × (others : List ℕ)
+        × AppendsAllBut (W.contents writer.old.device) (W.contents writer.new.device) (pending.old ++ said) (pending.new ++ others))) }
     ensures said { IfErr result (λ fault. IfSome (texts_of (R.remaining reader.old.device) (λ m. M.remaining m.device) second.old) (λ t.
         TellsSaid fault (HearsAllRead S.rules script.old script.new t (R.remaining reader.new.device) (option_and_then (λ m. M.remaining m.device) second.new))
         (AreFirstAnswers S.rules script.old t)
@@ -114,13 +110,12 @@ fn finish<S: Script, W: Write>(
     pending: &mut Pending,
     turns: &mut Turns,
 ) -> Result<bool, Fault>
-    ensures whole { OnOk result (Appends (W.contents writer.old.device) (W.contents writer.new.device)
-        (pending.old ++ S.rules.closing script.old)) }
-    ensures content { IfOk result (λ is_content. is_content ≡ S.rules.is_content script.old) }
+    ensures whole { IfOk result (λ is_content. (words : List ℕ) × S.rules.Closes script.old words is_content
+        × Appends (W.contents writer.old.device) (W.contents writer.new.device) (pending.old ++ words)) }
 
-    ensures begun { OnErr result ((others : List ℕ)
-        × AppendsAllBut (W.contents writer.old.device) (W.contents writer.new.device)
-        (pending.old ++ S.rules.closing script.old) (pending.new ++ others)) }
+    // What is written, and behind it what waits, is a beginning of what waited and of the last words, if there are any yet.
+    ensures begun { OnErr result ((words : List ℕ) × AreLastWordsSoFar S.rules script.old words × (others : List ℕ)
+        × AppendsAllBut (W.contents writer.old.device) (W.contents writer.new.device) (pending.old ++ words) (pending.new ++ others)) }
     // Without memory nothing is written, and the same waits.
     ensures unwritten { result ≡ Err Fault.NoMemory
         → Keeps (W.contents writer.old.device) (W.contents writer.new.device) × (pending.new ≡ pending.old) }
@@ -144,15 +139,14 @@ fn run_to_end<S: Script, R: Read, M: Read, W: Write>(
     pending: &mut Pending,
     turns: &mut Turns,
 ) -> Result<bool, Fault>
-    ensures whole { OnOk result (IfSome (texts_of (R.remaining reader.old.device) (λ m. M.remaining m.device) second.old) (λ t.
-        Appends (W.contents writer.old.device) (W.contents writer.new.device) (pending.old ++ script_output S.rules script.old t))) }
-    ensures content { IfOk result (λ is_content. IfSome (texts_of (R.remaining reader.old.device) (λ m. M.remaining m.device) second.old) (λ t.
-        is_content ≡ is_content_with S.rules script.old t)) }
+    ensures whole { IfOk result (λ is_content. IfSome (texts_of (R.remaining reader.old.device) (λ m. M.remaining m.device) second.old) (λ t. (output : List ℕ)
+        × IsOutput S.rules script.old t output is_content
+        × Appends (W.contents writer.old.device) (W.contents writer.new.device) (pending.old ++ output))) }
 
     // The same as for the lines alone.
-    ensures begun { OnErr result (IfSome (texts_of (R.remaining reader.old.device) (λ m. M.remaining m.device) second.old) (λ t.
-        (others : List ℕ) × AppendsAllBut (W.contents writer.old.device) (W.contents writer.new.device)
-        (pending.old ++ script_output S.rules script.old t) (pending.new ++ others))) }
+    ensures begun { OnErr result (IfSome (texts_of (R.remaining reader.old.device) (λ m. M.remaining m.device) second.old) (λ t. (output : List ℕ)
+        × IsOutputSoFar S.rules script.old t output × (others : List ℕ)
+        × AppendsAllBut (W.contents writer.old.device) (W.contents writer.new.device) (pending.old ++ output) (pending.new ++ others))) }
     ensures said { IfErr result (λ fault. IfSome (texts_of (R.remaining reader.old.device) (λ m. M.remaining m.device) second.old) (λ t.
         TellsSaid fault (HearsAllRead S.rules script.old script.new t (R.remaining reader.new.device) (option_and_then (λ m. M.remaining m.device) second.new))
         (AreFirstAnswers S.rules script.old t)
@@ -198,9 +192,10 @@ fn give_up<W: Write>(
 /// them, and at last its last words.
 ///
 /// The texts are all that the readers have left. Reading a text stops at its end, or where the script hears no further
-/// line of it; the second is read behind the first. The run makes at most 1,000,000 read and write calls. Where it
-/// breaks off, a beginning of the output is written: at `ReadFault` the answers to all lines that left the readers
-/// whole, at `NoMemory` those to some first lines.
+/// line of it; the second is read behind the first. What is written is what a run of the script's rules over the texts
+/// says. The run makes at most 1,000,000 read and write calls. Where it breaks off, a beginning is written of what the
+/// rules say so far: at `ReadFault` the answers to all lines that left the readers whole, at `NoMemory` those to some
+/// first lines.
 pub fn run_script<S: Script, R: Read, M: Read, W: Write>(
     alloc: Global,
     script: &mut S,
@@ -208,15 +203,14 @@ pub fn run_script<S: Script, R: Read, M: Read, W: Write>(
     second: &mut Option<Counted<M>>,
     writer: &mut Counted<W>,
 ) -> RunEnd
-    // All of the output is written, and the end tells whether the script is content.
-    ensures whole { IsTrue (is_whole result) → IfSome (texts_of (R.remaining reader.old.device) (λ m. M.remaining m.device) second.old) (λ t.
-        Appends (W.contents writer.old.device) (W.contents writer.new.device) (script_output S.rules script.old t)) }
-    ensures content { IsTrue (is_whole result) → IfSome (texts_of (R.remaining reader.old.device) (λ m. M.remaining m.device) second.old) (λ t.
-        result ≡ (if is_content_with S.rules script.old t then RunEnd.Clean else RunEnd.Refused)) }
+    // At `Clean` and `Refused` all of the output is written, and the end tells whether the script is content.
+    ensures whole { IfSome (texts_of (R.remaining reader.old.device) (λ m. M.remaining m.device) second.old) (λ t.
+        WritesOutput result (IsOutput S.rules script.old t) (W.contents writer.old.device) (W.contents writer.new.device)) }
 
-    // At every end a beginning of the output is written.
-    ensures begun { IfSome (texts_of (R.remaining reader.old.device) (λ m. M.remaining m.device) second.old) (λ t.
-        AppendsBeginning (W.contents writer.old.device) (W.contents writer.new.device) (script_output S.rules script.old t)) }
+    // At every end a beginning is written of what is said to some first lines, or of all of the output.
+    ensures begun { IfSome (texts_of (R.remaining reader.old.device) (λ m. M.remaining m.device) second.old) (λ t. (output : List ℕ)
+        × IsOutputSoFar S.rules script.old t output
+        × AppendsBeginning (W.contents writer.old.device) (W.contents writer.new.device) output) }
     ensures said { IfSome (texts_of (R.remaining reader.old.device) (λ m. M.remaining m.device) second.old) (λ t.
         WritesSaid result (HearsAllRead S.rules script.old script.new t (R.remaining reader.new.device) (option_and_then (λ m. M.remaining m.device) second.new))
         (AreFirstAnswers S.rules script.old t) (W.contents writer.old.device) (W.contents writer.new.device)) }

@@ -15,11 +15,12 @@ pub struct Closing {
 
 /// What answers to the lines of a text, one after another, and has the last word.
 ///
-/// An implementation says by `rules` what it answers and how its state changes. `run_script` is proved for all rules.
+/// An implementation says by `rules` what it may answer and how its state may change then. `run_script` is proved for
+/// all rules.
 pub trait Script {
     ghost use Rattle.ovs_script.specs.Rules.{Rules};
 
-    // What is answered, as a function of the state.
+    // What is answered, and the states before and after.
     ghost rules: { Rules Self };
 
     /// Hears a line, with its number from 0 on, and answers it. The line comes without its LF; `None` is a line of
@@ -28,14 +29,13 @@ pub trait Script {
     /// After `NoMemory` the script is not asked again.
     fn take(&mut self, alloc: Global, number: u64, line: Option<&[u8]>) -> Result<String, NoMemory>
         requires small { number + 1 < 2 ^ 64 }
-        ensures text { IfOk result (λ text. string_bytes text ≡ rules.answer self.old number (option_map (λ bytes. bytes.now) line.entry)) }
-        ensures after { OnOk result (self.new ≡ rules.after self.old number (option_map (λ bytes. bytes.now) line.entry)) };
+        ensures answers { IfOk result (λ text. rules.Answers self.old number (option_map (λ bytes. bytes.now) line.entry) (string_bytes text) self.new) };
 
     /// Turns to the lines of a second text, behind those of the first. Their numbers count from 0 again.
     ///
     /// After `NoMemory` the script is not asked again.
     fn begin_second(&mut self, alloc: Global) -> Result<(), NoMemory>
-        ensures state { OnOk result (self.new ≡ rules.at_second self.old) };
+        ensures state { OnOk result (rules.BeginsSecond self.old self.new) };
 
     /// Whether the script hears no further line of this text.
     fn is_over(&self) -> bool
@@ -43,6 +43,5 @@ pub trait Script {
 
     /// Says the last words. After this the script is not asked again.
     fn close(&mut self, alloc: Global) -> Result<Closing, NoMemory>
-        ensures text { IfOk result (λ closing. string_bytes closing.text ≡ rules.closing self.old) }
-        ensures content { IfOk result (λ closing. closing.is_content ≡ rules.is_content self.old) };
+        ensures closes { IfOk result (λ closing. rules.Closes self.old (string_bytes closing.text) closing.is_content) };
 }

@@ -1,37 +1,38 @@
-use Rattle.std.proofs.Common.{◌≡◌, subst}
-use Rattle.std.specs.Prelude.{IfSome, IsTrue, if◌then◌else◌, option_and_then}
-use Rattle.std.specs.Io.KnownBytes.{Appends}
+use Rattle.std.proofs.Common.{subst, List, ℕ}
+use Rattle.std.specs.Prelude.{IfSome, option_and_then}
 use Rattle.ovs_wire.specs.Counted.{Counting}
 use Rattle.ovs_script.specs.Sending.{AppendsBeginning}
-use Rattle.ovs_script.specs.RunEnd.{is_whole}
-use Rattle.ovs_script.specs.declared.run_end.RunEnd.TheVariants.{Clean, Refused}
-use Rattle.ovs_script.specs.Texts.{Texts, texts_of, script_output, is_content_with, AreFirstAnswers, HearsAllRead}
-use Rattle.ovs_script.specs.Said.{WritesSaid}
+use Rattle.ovs_script.specs.Texts.{Texts, texts_of, IsOutput, IsOutputSoFar, AreFirstAnswers, HearsAllRead}
+use Rattle.ovs_script.specs.Said.{WritesOutput, WritesSaid}
 use Rattle.ovs_fold.specs.declared.fold.Fold.{Fold}
 use Rattle.ovs_fold.specs.Folding.{fold_rules}
 use Rattle.ovs_fold.proofs.Passing.{not_read}
+use Rattle.ovs_fold.proofs.Written.{whole, status, begun}
 use Rattle.ovs_fold.proofs.fold.fold_run.Goals as goal
 
 pub returns-clause-whole : goal.returns-clause-whole
 returns-clause-whole g c =
     let texts = texts_of (g.R.Read.remaining c.args.reader.now.device) (λ (m : Counting _). g.M.Read.remaining m.device) c.args.merge.now in
-    let whole : Fold → Type 0 = λ f. IsTrue (is_whole c.run_script.result) → IfSome texts (λ (t : Texts).
-    Appends (g.W.Write.contents c.args.writer.now.device) (g.W.Write.contents c.run_script.new.writer.device) (script_output fold_rules f t)) in
-    subst whole c.new.ensures.value c.run_script.ensures.whole
+    let before = g.W.Write.contents c.args.writer.now.device in
+    let now = g.W.Write.contents c.run_script.new.writer.device in
+    let wrote : Fold → Type 0 = λ f. IfSome texts (λ (t : Texts). WritesOutput c.run_script.result (IsOutput fold_rules f t) before now) in
+    whole before now texts c.run_script.result (subst wrote c.new.ensures.value c.run_script.ensures.whole)
 
 pub returns-clause-status : goal.returns-clause-status
 returns-clause-status g c =
     let texts = texts_of (g.R.Read.remaining c.args.reader.now.device) (λ (m : Counting _). g.M.Read.remaining m.device) c.args.merge.now in
-    let status : Fold → Type 0 = λ f. IsTrue (is_whole c.run_script.result) → IfSome texts (λ (t : Texts).
-    c.run_script.result ≡ if is_content_with fold_rules f t then Clean else Refused) in
-    subst status c.new.ensures.value c.run_script.ensures.content
+    let before = g.W.Write.contents c.args.writer.now.device in
+    let now = g.W.Write.contents c.run_script.new.writer.device in
+    let wrote : Fold → Type 0 = λ f. IfSome texts (λ (t : Texts). WritesOutput c.run_script.result (IsOutput fold_rules f t) before now) in
+    status before now texts c.run_script.result (subst wrote c.new.ensures.value c.run_script.ensures.whole)
 
 pub returns-clause-begun : goal.returns-clause-begun
 returns-clause-begun g c =
     let texts = texts_of (g.R.Read.remaining c.args.reader.now.device) (λ (m : Counting _). g.M.Read.remaining m.device) c.args.merge.now in
-    let begun : Fold → Type 0 = λ f. IfSome texts (λ (t : Texts).
-    AppendsBeginning (g.W.Write.contents c.args.writer.now.device) (g.W.Write.contents c.run_script.new.writer.device) (script_output fold_rules f t)) in
-    subst begun c.new.ensures.value c.run_script.ensures.begun
+    let before = g.W.Write.contents c.args.writer.now.device in
+    let now = g.W.Write.contents c.run_script.new.writer.device in
+    let so_far : Fold → Type 0 = λ f. IfSome texts (λ (t : Texts). (output : List ℕ) × IsOutputSoFar fold_rules f t output × AppendsBeginning before now output) in
+    begun before now texts (subst so_far c.new.ensures.value c.run_script.ensures.begun)
 
 pub returns-clause-said : goal.returns-clause-said
 returns-clause-said g c =

@@ -4,23 +4,14 @@ use Rattle.ovs_script.specs.Lines.{TakesLine}
 use Rattle.std.specs.Io.KnownBytes.{prepend_known}
 use Rattle.ovs_script.proofs.Sent.{on_err}
 use Rattle.ovs_script.proofs.Spent.{spent_by_reader, spent_by_writer, spent_then}
-use Rattle.ovs_script.proofs.Way.{setting_out, answered, wrote, told_where_over, all_sent, last_state, begun, begun_kept, begun_lost, stopped, still_on}
+use Rattle.ovs_script.proofs.Way.{setting_out, answered, wrote, all_where_over, begun, begun_kept, begun_lost, stopped, still_on}
 use Rattle.ovs_script.proofs.run.run_lines.Goals as goal
 use Rattle.ovs_script.proofs.run.run_lines.Goals.{then-is_due+in_ok-send, else-is_due}
 
 pub returns-then-is_over-clause-answers : goal.returns-then-is_over-clause-answers
 returns-then-is_over-clause-answers g c =
-    let rules = g.S.Script.rules in
-    let p = c.loop-number.invariant.progress in
-    let all = told_where_over rules c.args.script.now _ p.told c.loop-number.script c.loop-number.number _ p.way (sym c.is_over.ensures.value ∙ c.if-is_over.true) in
-    all_sent rules c.args.script.now _ _ _ c.args.pending.now p.told c.loop-number.pending c.loop-number.script all p.sent
-
-pub returns-then-is_over-clause-state : goal.returns-then-is_over-clause-state
-returns-then-is_over-clause-state g c =
-    let rules = g.S.Script.rules in
-    let p = c.loop-number.invariant.progress in
-    let all = told_where_over rules c.args.script.now _ p.told c.loop-number.script c.loop-number.number _ p.way (sym c.is_over.ensures.value ∙ c.if-is_over.true) in
-    last_state rules c.args.script.now _ p.told c.loop-number.script all
+    all_where_over g.S.Script.rules c.args.script.now _ _ _ c.args.pending.now c.loop-number.pending c.loop-number.script c.loop-number.number _
+    c.loop-number.invariant.progress (sym c.is_over.ensures.value ∙ c.if-is_over.true)
 
 pub returns-in_err-next_line-clause-begun : goal.returns-in_err-next_line-clause-begun
 returns-in_err-next_line-clause-begun g c =
@@ -58,8 +49,8 @@ returns-in_err-send-clause-begun g c =
     let found : c.in_ok-next_line.field-0 ≡ true = (cc) in
     let took : TakesLine left new_left (Some c.next_line.new.line) = rw found at c.in_ok-next_line.ensures.line in
     let so_far = answered rules c.args.script.now start before now c.args.pending.now at.pending at.script at.number left new_left
-    c.next_line.new.line _ c.take.new.self c.deref.result.now c.push.new.self at.invariant.progress took (sym c.is_over.ensures.value ∙ c.if-is_over.false)
-    c.bytes.ensures.value (c.deref.ensures ∙ c.in_ok-answer.ensures.text) c.in_ok-answer.ensures.after c.in_ok-push.ensures.ok in
+    c.next_line.new.line _ c.take.new.self _ c.deref.result.now c.push.new.self at.invariant.progress took (sym c.is_over.ensures.value ∙ c.if-is_over.false)
+    c.bytes.ensures.value c.in_ok-answer.ensures.answers c.deref.ensures c.in_ok-push.ensures.ok in
     on_err _ _ (begun_lost rules c.args.script.now start before now new c.args.pending.now c.push.new.self c.send.new.self c.take.new.self
     (at.number + 1) new_left so_far c.in_err-send.ensures.err c.send.ensures.empty)
 
@@ -75,8 +66,8 @@ loop-number-preserved g c =
     let found : c.in_ok-next_line.field-0 ≡ true = (cc) in
     let took : TakesLine left new_left (Some c.next_line.new.line) = rw found at c.in_ok-next_line.ensures.line in
     let so_far = answered rules c.args.script.now start before now c.args.pending.now at.pending at.script at.number left new_left
-    c.next_line.new.line _ c.take.new.self c.deref.result.now c.push.new.self at.invariant.progress took (sym c.is_over.ensures.value ∙ c.if-is_over.false)
-    c.bytes.ensures.value (c.deref.ensures ∙ c.in_ok-answer.ensures.text) c.in_ok-answer.ensures.after c.in_ok-push.ensures.ok in
+    c.next_line.new.line _ c.take.new.self _ c.deref.result.now c.push.new.self at.invariant.progress took (sym c.is_over.ensures.value ∙ c.if-is_over.false)
+    c.bytes.ensures.value c.in_ok-answer.ensures.answers c.deref.ensures c.in_ok-push.ensures.ok in
     let read_failures = c.in_ok-next_line.ensures.counted.failures ∙ at.invariant.read_failures in
     let read = c.next_line.new in
     let r = read.reader.calls in

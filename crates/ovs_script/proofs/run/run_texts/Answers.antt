@@ -24,7 +24,7 @@ returns-in_err-begin_second-in-Some-clause-begun g c =
     let second = g.M.Read.remaining c.in-Some.second.device in
     let before = g.W.Write.contents c.args.writer.now.device in
     let now = g.W.Write.contents c.run_lines.new.writer.device in
-    rw c.in-Some.is (on_err _ _ (begun_between rules c.args.script.now start before now c.args.pending.now c.run_lines.new.pending second
+    rw c.in-Some.is (on_err _ _ (begun_between rules c.args.script.now start before now c.args.pending.now c.run_lines.new.pending second c.run_lines.new.script
     c.in_ok-run_lines.ensures.answers))
 
 pub returns-in_ok-begin_second-in-Some-clause-answers : goal.returns-in_ok-begin_second-in-Some-clause-answers
@@ -35,9 +35,9 @@ returns-in_ok-begin_second-in-Some-clause-answers g c =
     let before = g.W.Write.contents c.args.writer.now.device in
     let now = g.W.Write.contents c.run_lines.new.writer.device in
     let new = g.W.Write.contents c.run_lines-in-Some.new.writer.device in
-    rw c.in-Some.is (ok_map c.run_lines-in-Some.result _ _ (λ more. both_answered rules c.args.script.now start before now c.args.pending.now c.run_lines.new.pending second new
+    rw c.in-Some.is (ok_map c.run_lines-in-Some.result _ _ (both_answered rules c.args.script.now start before now c.args.pending.now c.run_lines.new.pending second new
     c.run_lines-in-Some.new.pending c.run_lines.new.script c.begin_second.new.self c.in_ok-begin_second-in-Some.ensures.state c.in_ok-run_lines.ensures.answers
-    c.in_ok-run_lines.ensures.state more) c.run_lines-in-Some.ensures.answers)
+    c.run_lines-in-Some.new.script) c.run_lines-in-Some.ensures.answers)
 
 pub returns-in_ok-begin_second-in-Some-clause-begun : goal.returns-in_ok-begin_second-in-Some-clause-begun
 returns-in_ok-begin_second-in-Some-clause-begun g c =
@@ -47,9 +47,9 @@ returns-in_ok-begin_second-in-Some-clause-begun g c =
     let before = g.W.Write.contents c.args.writer.now.device in
     let now = g.W.Write.contents c.run_lines.new.writer.device in
     let new = g.W.Write.contents c.run_lines-in-Some.new.writer.device in
-    rw c.in-Some.is (err_map c.run_lines-in-Some.result _ _ (λ more. both_begun rules c.args.script.now start before now c.args.pending.now c.run_lines.new.pending second new
-    c.run_lines-in-Some.new.pending c.run_lines.new.script c.begin_second.new.self c.in_ok-begin_second-in-Some.ensures.state c.in_ok-run_lines.ensures.answers
-    c.in_ok-run_lines.ensures.state more) c.run_lines-in-Some.ensures.begun)
+    rw c.in-Some.is (err_map c.run_lines-in-Some.result _ _ (both_begun rules c.args.script.now start before now c.args.pending.now c.run_lines.new.pending second new
+    c.run_lines-in-Some.new.pending c.run_lines.new.script c.begin_second.new.self c.in_ok-begin_second-in-Some.ensures.state c.in_ok-run_lines.ensures.answers)
+    c.run_lines-in-Some.ensures.begun)
 
 pub returns-in_ok-begin_second-in-Some-clause-said : goal.returns-in_ok-begin_second-in-Some-clause-said
 returns-in_ok-begin_second-in-Some-clause-said g c =
@@ -61,5 +61,5 @@ returns-in_ok-begin_second-in-Some-clause-said g c =
     let new = g.W.Write.contents c.run_lines-in-Some.new.writer.device in
     rw c.in-Some.is (IfErr-weaker c.run_lines-in-Some.result _ _ (λ fault more. both_said rules c.args.script.now start before now c.args.pending.now c.run_lines.new.pending second new
     c.run_lines-in-Some.new.pending c.run_lines.new.script c.begin_second.new.self c.in_ok-begin_second-in-Some.ensures.state c.in_ok-run_lines.ensures.answers
-    c.in_ok-run_lines.ensures.state c.run_lines-in-Some.new.script (g.R.Read.remaining c.run_lines.new.reader.device)
+    c.run_lines-in-Some.new.script (g.R.Read.remaining c.run_lines.new.reader.device)
     (g.M.Read.remaining c.run_lines-in-Some.new.reader.device) fault more) c.run_lines-in-Some.ensures.said)
