@@ -199,7 +199,7 @@ impl LinkStore {
     pub fn parked(&self) -> usize
         ensures value { length self.now.folded + result ≡ map.len self.now.links }
     {
-        self.held.len() - self.folded.chain_len()
+        self.len() - self.folded.chain_len()
     }
 
     /// Whether this very link is held.
