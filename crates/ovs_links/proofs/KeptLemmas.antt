@@ -1,5 +1,5 @@
 -- The held links and the steps of the folded ones, and one more folded link.
-use Rattle.std.proofs.Common.{◌≡◌, ◌≢◌, ℕ, zero, suc, ◌-◌, ◌≤◌, true, false, cond, List, [], ◌∷◌, ◌++◌, length, take, refl, sym, ◌∙◌, ap, subst, arith, ⊎_elim, Some, None, Option}
+use Rattle.std.proofs.Common.{◌≡◌, ◌≢◌, ℕ, zero, suc, ◌-◌, ◌≤◌, true, false, cond, List, [], ◌∷◌, ◌++◌, length, take, refl, sym, ◌∙◌, ap, subst, arith, ⊎_elim, Some, None}
 use Rattle.std.proofs.lemmas.Bool.{cases_eq, eq-eqb, ne_eqb}
 use Rattle.std.proofs.lemmas.List.{length-map}
 use Rattle.std.specs.Ordering.{nat_cmp}
@@ -12,7 +12,7 @@ use Rattle.ovs_rows.specs.After.{fits, after}
 use Rattle.ovs_links.specs.Sets.{AllOf, Holds}
 use Rattle.ovs_links.specs.Chains.{IsChain, IsPrefixOf, head_after, rows_after}
 use Rattle.ovs_links.specs.Steps.{FoldedValue, folded_of, folded_with, step_of, steps_of, tables_in}
-use Rattle.ovs_links.specs.StepChains.{IsFoldedChain, head_after_steps, head_at, place_in}
+use Rattle.ovs_links.specs.StepChains.{IsFoldedChain, head_after_steps, head_at}
 use Rattle.ovs_links.specs.Store.{Stored, IsStore, IsChainOf, head_of, rows_of, at_number}
 use Rattle.ovs_links.specs.Held.{any_link}
 use Rattle.ovs_links.specs.Kept.{IsKept, IsSound, chain_in, stored_of}
@@ -22,17 +22,10 @@ use Rattle.ovs_links.specs.declared.link.Link.{Link}
 use Rattle.ovs_links.specs.declared.step.Step.{Step}
 use Rattle.ovs_links.specs.declared.answer.Settled.{Settled}
 use Rattle.ovs_links.specs.declared.answer.Settled.TheVariants.{Done, Stuck}
-use Rattle.ovs_links.proofs.ChainLemmas.{AllOf-append, AllOf-at, AllOf-weaker, JoinUp-append, rows_after-append, steps_of-push, chain_prefix, longest_from_no_next, holds_by_prev, none_follows, prefix_push}
-use Rattle.ovs_links.proofs.JoinLemmas.{Links, at_prev}
+use Rattle.ovs_links.proofs.ChainLemmas.{AllOf-append, AllOf-weaker, JoinUp-append, rows_after-append, steps_of-push, chain_prefix, longest_from_no_next, holds_by_prev, prefix_push}
+use Rattle.ovs_links.proofs.JoinLemmas.{Links}
 use Rattle.ovs_links.proofs.LongestLemmas.{chain_within, ids_once, none_fits_after}
-use Rattle.ovs_links.proofs.SetLemmas.{find_key, find_head, find_past, find_key_is, place_of}
-use Rattle.ovs_links.proofs.StepLemmas.{folded_chain, head_steps, none_placed}
-
-none_has : (g : Link → ℕ) (i : ℕ) (ls : List Link) → find_key g i ls ≡ None → AllOf (λ (l : Link). g l ≢ i) ls
-none_has g i [] e = tt
-none_has g i (l ∷ ls) e =
-    let past : g l ≢ i = λ same. (let bad : Some l ≡ None = sym (find_head g l ls i same) ∙ e in absurd (cc)) in
-    (past, none_has g i ls (sym (find_past g l ls i past) ∙ e))
+use Rattle.ovs_links.proofs.StepLemmas.{folded_chain, head_steps}
 
 -- ---- the chain that is folded
 
@@ -140,30 +133,6 @@ module _ (m : Links) (f : FoldedValue) (k : IsKept m f) where
   kept_steps =
       let c : IsChain (tables_in f) 0 no_rows (Holds m) k.chain = record { members = k.members; joined = k.joined } in
       subst IsFoldedChain (sym k.folded) (folded_chain f.database.schema k.chain k.joined (AllOf-weaker (Holds m) IsSound k.held.ends k.chain k.members) (ids_once (tables_in f) 0 no_rows m (omega arith) k.held.set k.held.ends k.chain c))
-
-  -- an id that no held link has is that of no step
-  pub none_placed_held : (i : ℕ) → ((l : Link) → Holds m l → l.id ≢ i) → place_in f.steps i ≡ None
-  none_placed_held i none =
-      ap (λ (x : FoldedValue). place_in x.steps i) k.folded
-      ∙ none_placed (tables_in f) no_rows k.chain i 1 (AllOf-weaker (Holds m) (λ (l : Link). l.id ≢ i) none k.chain k.members)
-
-  -- nor is that of a link that follows the head
-  pub none_placed_next : (l : Link) → get m (head_after_steps 0 f.steps) ≡ Some l → place_in f.steps l.id ≡ None
-  none_placed_next l at =
-      ap (λ (x : FoldedValue). place_in x.steps l.id) k.folded
-      ∙ none_placed (tables_in f) no_rows k.chain l.id 1 (none_has (λ x. x.id) l.id k.chain (by_case (find_key (λ x. x.id) l.id k.chain) refl))
-    where
-      by_case : (o : Option Link) → find_key (λ x. x.id) l.id k.chain ≡ o → find_key (λ x. x.id) l.id k.chain ≡ None
-      by_case None e = e
-      by_case (Some x) e =
-          let head = ap (λ (y : FoldedValue). head_after_steps 0 y.steps) k.folded ∙ head_of_steps (tables_in f) 0 no_rows k.chain in
-          let held = at_prev m (head_after_steps 0 f.steps) l k.held.set.keyed at in
-          let prev = k.held.set.keyed (head_after_steps 0 f.steps) l at in
-          let t = place_of (λ y. y.id) l.id k.chain x x e in
-          let there : Holds m x = subst (Holds m) t.2 (AllOf-at (Holds m) k.chain x t.0 t.1 k.members) in
-          let same : x ≡ l = k.held.set.consistent.by_id x l there held (find_key_is (λ y. y.id) l.id k.chain x e) in
-          absurd (none_follows (Holds m) k.held.set.consistent (tables_in f) 0 no_rows (omega arith) k.chain k.members (AllOf-weaker (Holds m) IsSound k.held.ends k.chain k.members) k.joined x t.0 t.1
-          (ap (λ (y : Link). y.prev) (t.2 ∙ same) ∙ prev ∙ head))
 
   -- ---- what settling answers
 

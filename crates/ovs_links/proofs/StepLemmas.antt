@@ -1,18 +1,19 @@
 -- The steps of a chain of links are a chain of their own, and places on such a chain.
-use Rattle.std.proofs.Common.{◌≡◌, ◌≢◌, ℕ, zero, suc, ◌+◌, ◌-◌, ◌<◌, ◌≤◌, ◌^◌, List, [], ◌∷◌, ◌++◌, length, get_or, take, refl, sym, ◌∙◌, ap, subst, arith, ⊎_elim, Option, Some, None, ◌==◌, cond}
+use Rattle.std.proofs.Common.{◌≡◌, ◌≢◌, ℕ, zero, suc, ◌+◌, ◌-◌, ◌<◌, ◌≤◌, ◌^◌, List, [], ◌∷◌, ◌++◌, length, get_or, take, refl, sym, ◌∙◌, ap, subst, arith, ⊎_elim, Option, Some, None, is_some, ◌==◌, cond}
 use Rattle.std.proofs.lemmas.Bool.{cases_eq, eq-eqb, ne_eqb}
 use Rattle.std.specs.Prelude.{slice_get, IfSome}
 use Rattle.std.specs.List.{AllByRecursion, position_from}
 use Rattle.std.specs.Ordering.{nat_cmp}
-use Rattle.std.specs.FinMap.{FinMap, entries, insert}
+use Rattle.std.specs.FinMap.{FinMap, entries, get, insert}
 use Rattle.ovs_types.specs.declared.schema.Schema.{Schema}
 use Rattle.ovs_types.specs.declared.schema.Table.{Table}
 use Rattle.ovs_rows.specs.Row.{Rows, no_rows}
 use Rattle.ovs_rows.specs.After.{after}
 use Rattle.ovs_rows.specs.After.{applied_to, AreFrom}
 use Rattle.ovs_links.specs.Sets.{AllOf}
+use Rattle.ovs_links.specs.Held.{with_first}
 use Rattle.ovs_links.specs.Chains.{JoinUp, head_after, rows_after}
-use Rattle.ovs_links.specs.Steps.{FoldedValue, folded_of, step_of, steps_of}
+use Rattle.ovs_links.specs.Steps.{FoldedValue, folded_of, steps_of}
 use Rattle.ovs_links.specs.StepChains.{rows_after_steps, head_after_steps, StepsJoinUp, AreDistinctSteps, NoStepIsStart, IsFoldedChain, head_at, rows_at, IsStepAt, place_in, ArePlaces}
 use Rattle.ovs_links.specs.Kept.{IsSound, count_key}
 use Rattle.ovs_links.specs.declared.link.Link.{Link}
@@ -44,10 +45,6 @@ module _ (ts : List Table) where
   head_steps from rows [] (suc n) = refl
   head_steps from rows (l ∷ ls) zero = refl
   head_steps from rows (l ∷ ls) (suc n) = head_steps l.id (after ts rows l.change l.id) ls n
-
-  pub length_steps : (rows : Rows) (ls : List Link) → length (steps_of ts rows ls) ≡ length ls
-  length_steps rows [] = refl
-  length_steps rows (l ∷ ls) = ap suc (length_steps (after ts rows l.change l.id) ls)
 
   -- an id that no link has is that of no step
   other_ids : (id : ℕ) (rows : Rows) (ls : List Link) → count_key (λ l. l.id) id ls ≡ 0 → AllByRecursion (λ (s : Step). s.id ≢ id) (steps_of ts rows ls)
@@ -166,20 +163,35 @@ place_before (x ∷ xs) s i n e =
     ⊎_elim (λ (same : x.id ≡ i). place_head x (xs ++ s ∷ []) i n same ∙ sym (place_head x xs i n same))
     (λ (other : x.id ≢ i). place_past x (xs ++ s ∷ []) i n other ∙ place_before xs s i (n + 1) e ∙ sym (place_past x xs i n other)) (cases_eq x.id i)
 
-pub places_push : (ss : List Step) (s : Step) (places : FinMap nat_cmp ℕ) (n : ℕ) → ArePlaces ss places → place_in ss s.id ≡ None → n ≡ length ss + 1
-    → ArePlaces (ss ++ s ∷ []) (insert places s.id n)
-places_push ss s places n are none last q =
-    ⊎_elim (λ (e : q ≡ s.id).
-    insert_at places s.id n q e ∙ ap Some (omega (arith, last))
-    ∙ sym (place_last ss s q 1 (sym e) (ap (λ (i : ℕ). place_in ss i) e ∙ none)))
-    (λ (e : q ≢ s.id). insert_other places s.id n q e ∙ are q ∙ sym (place_before ss s q 1 (λ same. e (sym same)))) (cases_eq q s.id)
+place_found : (ss : List Step) (s : Step) (i n k : ℕ) → place_from i n ss ≡ Some k → place_from i n (ss ++ s ∷ []) ≡ Some k
+place_found [] s i n k e = let bad : None ≡ Some k = e in absurd (cc)
+place_found (x ∷ xs) s i n k e =
+    ⊎_elim (λ (same : x.id ≡ i). place_head x (xs ++ s ∷ []) i n same ∙ sym (place_head x xs i n same) ∙ e)
+    (λ (other : x.id ≢ i). place_past x (xs ++ s ∷ []) i n other ∙ place_found xs s i (n + 1) k (sym (place_past x xs i n other) ∙ e)) (cases_eq x.id i)
 
--- the links' ids are those of the steps
-pub none_placed : (ts : List Table) (rows : Rows) (ls : List Link) (i n : ℕ) → AllOf (λ (l : Link). l.id ≢ i) ls → place_from i n (steps_of ts rows ls) ≡ None
-none_placed ts rows [] i n a = refl
-none_placed ts rows (l ∷ ls) i n a =
-    let next = after ts rows l.change l.id in
-    place_past (step_of ts rows l) (steps_of ts next ls) i n a.0 ∙ none_placed ts next ls i (n + 1) a.1
+-- one more step: its place comes under its id, where none stands there
+module _ (ss : List Step) (s : Step) (places : FinMap nat_cmp ℕ) (n : ℕ) (are : ArePlaces ss places) (last : n ≡ length ss + 1) where
+  pushed_new : get places s.id ≡ None → ArePlaces (ss ++ s ∷ []) (insert places s.id n)
+  pushed_new none q =
+      ⊎_elim (λ (e : q ≡ s.id).
+      insert_at places s.id n q e ∙ ap Some (omega (arith, last))
+      ∙ sym (place_last ss s q 1 (sym e) (sym (are q) ∙ ap (λ (i : ℕ). get places i) e ∙ none)))
+      (λ (e : q ≢ s.id). insert_other places s.id n q e ∙ are q ∙ sym (place_before ss s q 1 (λ same. e (sym same)))) (cases_eq q s.id)
+
+  pushed_again : (k : ℕ) → get places s.id ≡ Some k → ArePlaces (ss ++ s ∷ []) places
+  pushed_again k there q =
+      are q
+      ∙ ⊎_elim (λ (e : q ≡ s.id).
+      let found : place_in ss q ≡ Some k = sym (are q) ∙ ap (λ (i : ℕ). get places i) e ∙ there in
+      found ∙ sym (place_found ss s q 1 k found))
+      (λ (e : q ≢ s.id). sym (place_before ss s q 1 (λ same. e (sym same)))) (cases_eq q s.id)
+
+  pub places_push : ArePlaces (ss ++ s ∷ []) (with_first places s.id n)
+  places_push = by_case (get places s.id) refl
+    where
+      by_case : (o : Option ℕ) → get places s.id ≡ o → ArePlaces (ss ++ s ∷ []) (with_first places s.id n)
+      by_case None e = subst (ArePlaces (ss ++ s ∷ [])) (sym (ap (λ (o : Option ℕ). cond (is_some o) places (insert places s.id n)) e)) (pushed_new e)
+      by_case (Some k) e = subst (ArePlaces (ss ++ s ∷ [])) (sym (ap (λ (o : Option ℕ). cond (is_some o) places (insert places s.id n)) e)) (pushed_again k e)
 
 -- the steps up to a place end at its id
 ends_at : (ss : List Step) (i k : ℕ) → k < length ss → ((d : Step) → (get_or ss k d).id ≡ i) → head_after_steps 0 (take (k + 1) ss) ≡ i

@@ -52,9 +52,6 @@ refuted m y Id p i r = (r.1.0, r.1.1, r.1.2)
 -- ---- one more link
 
 module _ (m : Links) (l : Link) where
-  pub holds_new : Holds (insert m l.prev l) l
-  holds_new = insert_at m l.prev l l.prev refl
-
   pub holds_more : get m l.prev ≡ None → (x : Link) → Holds m x → Holds (insert m l.prev l) x
   holds_more none x held =
       insert_other m l.prev l x.prev (λ e. let bad : Some x ≡ None = sym held ∙ ap (λ (p : ℕ). get m p) e ∙ none in absurd (cc)) ∙ held

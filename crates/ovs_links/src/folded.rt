@@ -6,7 +6,7 @@ ghost use Rattle.ovs_rows.specs.After.{fits};
 ghost use Rattle.ovs_links.specs.Sets.{IsOfTables};
 ghost use Rattle.ovs_links.specs.Store.{at_number};
 ghost use Rattle.ovs_links.specs.Steps.{folded_of, folded_with, tables_in};
-ghost use Rattle.ovs_links.specs.StepChains.{IsFoldedChain, IsStepAt, ExtendsShown, head_after_steps, place_in, position_in};
+ghost use Rattle.ovs_links.specs.StepChains.{IsFoldedChain, IsStepAt, ExtendsShown, head_after_steps, position_in};
 
 use crate::id_map::IdMap;
 use crate::link::Link;
@@ -113,17 +113,16 @@ impl Folded {
         self.places.get(id)
     }
 
-    /// Applies the change of a link whose id no step has, and adds its step. An `Err` changes nothing.
+    /// Applies the change of a link, and adds its step. An `Err` changes nothing.
     pub(crate) fn fold(&mut self, alloc: Global, link: &Link) -> Result<(), NoMemory>
         requires fits { fits self.old.database.rows link.now.change ≡ true }
         requires of_tables { IsOfTables (tables_in self.old) link.now }
-        requires fresh { place_in self.old.steps link.now.id ≡ None }
         ensures value { OnOk result (self.new ≡ folded_with self.old link.now) }
         ensures unchanged { OnErr result (self.new ≡ self.old) }
     {
         self.steps.reserve(1)?;
         let (prev, id) = (link.prev(), link.id());
-        self.places.put(id, self.steps.len() + 1)?;
+        let first = self.places.put_first(id, self.steps.len() + 1)?;
         match self.database.apply(alloc, link.change(), id) {
             Ok(applied) => {
                 self.steps.push_reserved(Step { prev, id, applied });
@@ -131,7 +130,7 @@ impl Folded {
             }
             // A change that fits is refused for want of memory alone.
             Err(_) => {
-                self.places.remove(id);
+                self.places.remove_if(first, id);
                 Err(NoMemory)
             }
         }

@@ -1,8 +1,8 @@
 //! Numbers by id.
 
-ghost use Rattle.std.specs.Prelude.{◌≡◌, OnOk, OnErr};
+ghost use Rattle.std.specs.Prelude.{◌≡◌, is_none, if◌then◌else◌, IfOk, OnOk, OnErr};
 ghost use Rattle.std.specs.FinMap.{empty, insert, remove, get, entries, len as map_len};
-ghost use Rattle.ovs_links.specs.Held.{IsNextNumber};
+ghost use Rattle.ovs_links.specs.Held.{IsNextNumber, with_first};
 
 use ovs_types::{NoMemory, TxnId};
 use std::alloc::Global;
@@ -76,11 +76,33 @@ impl IdMap {
         Ok(())
     }
 
+    /// Puts a number under an id where none stands there, and answers whether it did.
+    pub(crate) fn put_first(&mut self, id: TxnId, number: usize) -> Result<bool, NoMemory>
+        ensures added { IfOk result (λ added. added ≡ is_none (get self.old id)) }
+        ensures value { OnOk result (self.new ≡ with_first self.old id number) }
+        ensures unchanged { OnErr result (self.new ≡ self.old) }
+    {
+        if self.get(id).is_some() {
+            return Ok(false);
+        }
+        self.put(id, number)?;
+        Ok(true)
+    }
+
     /// Takes the number under an id away.
     pub(crate) fn remove(&mut self, id: TxnId)
         ensures value { self.new ≡ remove self.old id }
     {
         let _ = self.numbers.remove(&id);
+    }
+
+    /// Takes the number under an id away, if this is so.
+    pub(crate) fn remove_if(&mut self, it_is: bool, id: TxnId)
+        ensures value { self.new ≡ (if it_is then remove self.old id else self.old) }
+    {
+        if it_is {
+            self.remove(id);
+        }
     }
 
     /// The numbers in the order of their ids.

@@ -5,7 +5,6 @@ ghost use Rattle.std.specs.FinMap.{get, insert};
 ghost use Rattle.ovs_rows.specs.After.{fits};
 ghost use Rattle.ovs_links.specs.Sets.{IsOfTables};
 ghost use Rattle.ovs_links.specs.Steps.{folded_with, tables_in};
-ghost use Rattle.ovs_links.specs.StepChains.{place_in};
 ghost use Rattle.ovs_links.specs.Store.{IsChainOf};
 ghost use Rattle.ovs_links.specs.Answers.{NoneId, SettlesAs};
 ghost use Rattle.ovs_links.specs.Kept.{IsKept, chain_in, stored_of};
@@ -29,7 +28,6 @@ pub(crate) fn add_and_fold(
     requires none_id { NoneId held.old link.now }
     requires fits { fits folded.old.database.rows link.now.change ≡ true }
     requires of_tables { IsOfTables (tables_in folded.old) link.now }
-    requires fresh { place_in folded.old.steps link.now.id ≡ None }
     ensures added { OnOk result (held.new ≡ insert held.old link.now.prev link.now) }
     ensures folded { OnOk result (folded.new ≡ folded_with folded.old link.now) }
     ensures held_kept { OnErr result (held.new ≡ held.old) }

@@ -10,7 +10,7 @@ use Rattle.ovs_links.specs.Kept.{chain_in, stored_of}
 use Rattle.ovs_links.specs.declared.link.Link.{Link}
 use Rattle.ovs_links.proofs.JoinLemmas.{Links, at_prev}
 use Rattle.ovs_links.proofs.settling.settle_links.Goals as goal
-use Rattle.ovs_links.proofs.KeptLemmas.{done_settles, stuck_settles, not_longest, kept_more, keeps_more, kept_within, none_placed_next}
+use Rattle.ovs_links.proofs.KeptLemmas.{done_settles, stuck_settles, not_longest, kept_more, keeps_more, kept_within}
 
 fits_at : {b : Bool} {d e : DatabaseValue} {a : Actions} (l : Link) → b ≡ fits d.rows a → d ≡ e → a ≡ l.change
     → fits e.rows l.change ≡ b
@@ -46,13 +46,6 @@ fold-requires-clause-of_tables c =
     let h = follower m c.fold.folded l c.head.ensures.value c.in-Some.ensures.value c.if-not-fits.ensures.value c.database.ensures.value c.change.ensures.value in
     let k = c.fold.invariant.kept in
     k.changes l (at_prev m (head_after_steps 0 c.fold.folded.steps) l k.held.set.keyed h.at)
-
-pub fold-requires-clause-fresh : goal.fold-requires-clause-fresh
-fold-requires-clause-fresh c =
-    let m = c.args.held.now in
-    let l : Link = c.in-Some.link.now in
-    let at = ap (λ (p : ℕ). get m p) (sym c.head.ensures.value) ∙ sym c.in-Some.ensures.value in
-    none_placed_next m c.fold.folded c.fold.invariant.kept l at
 
 pub fold-smaller : goal.fold-smaller
 fold-smaller c =

@@ -1,5 +1,5 @@
-use Rattle.std.proofs.Common.{◌≡◌, ◌≢◌, ℕ, List, sym, ◌∙◌, ap, arith, Option, Some, None, cond, true≢false, MatchOption}
-use Rattle.std.proofs.lemmas.Bool.{eqb-true, eq-eqb, ne_eqb}
+use Rattle.std.proofs.Common.{◌≡◌, ◌≢◌, ℕ, sym, ◌∙◌, ap, arith, Option, Some, None, true≢false, MatchOption}
+use Rattle.std.proofs.lemmas.Bool.{eqb-true, eq-eqb}
 use Rattle.ovs_links.specs.Steps.{FoldedValue}
 use Rattle.ovs_links.specs.StepChains.{ExtendsShown, IsFoldedChain, place_in}
 use Rattle.ovs_links.proofs.StepLemmas.{no_steps, nowhere_on, place_once, placed_at}

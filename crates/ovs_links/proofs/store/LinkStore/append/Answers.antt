@@ -7,7 +7,7 @@ use Rattle.ovs_links.specs.declared.link.Link.{Link}
 use Rattle.ovs_links.specs.declared.answer.Settled.TheVariants.{Done}
 use Rattle.ovs_links.proofs.HistoryLemmas.{no_fork}
 use Rattle.ovs_links.specs.Held.{IsWithId}
-use Rattle.ovs_links.proofs.KeptLemmas.{none_placed_held, settles_longest}
+use Rattle.ovs_links.proofs.KeptLemmas.{settles_longest}
 use Rattle.ovs_links.proofs.TakeLemmas.{is_next, no_prev, kept_append, store_append}
 use Rattle.ovs_links.proofs.store.LinkStore.append.Goals as goal
 
@@ -35,7 +35,6 @@ add_and_fold-requires c =
       none_id = n.new.none_id;
       fits = n.fit;
       of_tables = n.new.change;
-      fresh = none_placed_held s.held s.folded c.self.invariant c.args.link.id n.new.none_id;
     }
 
 pub invariant_of-self-2 : goal.invariant_of-self-2
