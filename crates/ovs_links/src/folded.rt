@@ -122,7 +122,7 @@ impl Folded {
     {
         self.steps.reserve(1)?;
         let (prev, id) = (link.prev(), link.id());
-        let first = self.places.put_first(id, self.steps.len() + 1)?;
+        let was_put = self.places.put_first(id, self.steps.len() + 1)?;
         match self.database.apply(alloc, link.change(), id) {
             Ok(applied) => {
                 self.steps.push_reserved(Step { prev, id, applied });
@@ -130,7 +130,7 @@ impl Folded {
             }
             // A change that fits is refused for want of memory alone.
             Err(_) => {
-                self.places.remove_if(first, id);
+                self.places.take_back(id, was_put);
                 Err(NoMemory)
             }
         }

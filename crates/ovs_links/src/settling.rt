@@ -67,9 +67,6 @@ pub(crate) fn settle_links(
         if !folded.database().fits(link.change()) {
             return Ok(Settled::Stuck(link.id()));
         }
-        match folded.fold(alloc, link) {
-            Ok(()) => {}
-            Err(NoMemory) => return Err(NoMemory),
-        }
+        folded.fold(alloc, link)?;
     }
 }

@@ -1,4 +1,4 @@
-use Rattle.std.proofs.Common.{◌≡◌, ◌+◌, ℕ, length, [], ◌∷◌, Some, sym, ◌∙◌, ap, subst, true, Bool, arith, length-append}
+use Rattle.std.proofs.Common.{◌≡◌, ◌+◌, ℕ, length, [], ◌∷◌, Result, Ok, Err, OnErr, Some, sym, ◌∙◌, ap, subst, true, Bool, arith, length-append}
 use Rattle.std.specs.FinMap.{get}
 use Rattle.ovs_rows.specs.Change.{Actions}
 use Rattle.ovs_rows.specs.Database.{DatabaseValue}
@@ -54,8 +54,8 @@ fold-smaller c =
     let f = c.fold.folded in
     let h = follower m f l c.head.ensures.value c.in-Some.ensures.value c.if-not-fits.ensures.value c.database.ensures.value c.change.ensures.value in
     let within = kept_within m (folded_with f l) (kept_more m f l c.fold.invariant.kept h.at h.fit) in
-    let grown : length c.fold-in-fold.new.self.steps ≡ length f.steps + 1 = ap (λ (x : FoldedValue). length x.steps) c.in-Ok.ensures.value ∙ length-append f.steps (step_of (tables_in f) f.database.rows l ∷ []) in
-    let same = ap (λ (x : FoldedValue). length x.steps) c.in-Ok.ensures.value in
+    let grown : length c.fold-in-fold.new.self.steps ≡ length f.steps + 1 = ap (λ (x : FoldedValue). length x.steps) c.in_ok-fold.ensures.value ∙ length-append f.steps (step_of (tables_in f) f.database.rows l ∷ []) in
+    let same = ap (λ (x : FoldedValue). length x.steps) c.in_ok-fold.ensures.value in
     omega (arith, within, grown, same)
 
 pub fold-preserved : goal.fold-preserved
@@ -66,14 +66,19 @@ fold-preserved c =
     let k = c.fold.invariant.kept in
     let h = follower m f l c.head.ensures.value c.in-Some.ensures.value c.if-not-fits.ensures.value c.database.ensures.value c.change.ensures.value in
     record {
-      kept = rw (c.in-Ok.ensures.value) (kept_more m f l k h.at h.fit);
-      links = rw (c.in-Ok.ensures.value) (keeps_more m f l k h.at h.fit (stored_of m c.args.folded.now) c.fold.invariant.links);
+      kept = rw (c.in_ok-fold.ensures.value) (kept_more m f l k h.at h.fit);
+      links = rw (c.in_ok-fold.ensures.value) (keeps_more m f l k h.at h.fit (stored_of m c.args.folded.now) c.fold.invariant.links);
     }
 
-pub returns-in-Err-clause-unfinished : goal.returns-in-Err-clause-unfinished
-returns-in-Err-clause-unfinished c long =
+on_err : {T E : Type 0} (r : Result T E) (P : Type 0) → P → OnErr r P
+on_err (Ok t) P p = tt
+on_err (Err e) P p = p
+
+pub returns-in_err-fold-clause-unfinished : goal.returns-in_err-fold-clause-unfinished
+returns-in_err-fold-clause-unfinished c =
     let m = c.args.held.now in
     let l : Link = c.in-Some.link.now in
     let f = c.fold.folded in
     let h = follower m f l c.head.ensures.value c.in-Some.ensures.value c.if-not-fits.ensures.value c.database.ensures.value c.change.ensures.value in
-    not_longest m f c.fold.invariant.kept l h.at h.fit (subst (λ (x : FoldedValue). IsChainOf (stored_of m x) (chain_in m x.steps)) c.in-Err.ensures.unchanged long)
+    on_err c.from_residual.result _ (λ long.
+    not_longest m f c.fold.invariant.kept l h.at h.fit (subst (λ (x : FoldedValue). IsChainOf (stored_of m x) (chain_in m x.steps)) c.in_err-fold.ensures.unchanged long))
