@@ -1,6 +1,6 @@
 -- What the calls of a delivery do, move by move.
 use Rattle.std.specs.List.{AllByRecursion}
-use Rattle.std.proofs.Common.{◌≡◌, ◌<◌, ◌-◌, inl, inr, ℕ, zero, suc, Option, Some, None, List, [], ◌∷◌, length, map, get_or, slice_set, refl, sym, ◌∙◌, ap, subst, arith}
+use Rattle.std.proofs.Common.{◌≡◌, ◌≤◌, ◌<◌, ◌-◌, inl, inr, ℕ, zero, suc, Option, Some, None, List, [], ◌∷◌, length, map, get_or, slice_set, refl, sym, ◌∙◌, ap, subst, arith}
 use Rattle.std.proofs.lemmas.List.{length-set}
 use Rattle.ovs_links.specs.Steps.{FoldedValue}
 use Rattle.ovs_links.specs.Store.{Stored}
@@ -201,8 +201,8 @@ after_feeding source relays s t stands is keeps =
       };
     })
 
-pub did_feed : (source : Stored) (relays : List Stored) (s t : Session) (counts : Counts) (n : ℕ) → t ≡ with_line s t.downward → Moves s.downward n t.downward
+pub did_feed : (source : Stored) (relays : List Stored) (s t : Session) (counts : Counts) (n : ℕ) → n ≤ length s.downward.flight → t ≡ with_line s t.downward → Moves s.downward n t.downward
     → Leads source n (scene relays s counts) (scene relays t counts)
-did_feed source relays s t counts n is moves =
+did_feed source relays s t counts n within is moves =
     leads_one source (Feed n) (scene relays s counts) (scene relays t counts) n (omega arith)
-    (t.downward, moves, ap (λ (x : Session). scene relays x counts) is)
+    (within, (t.downward, moves, ap (λ (x : Session). scene relays x counts) is))

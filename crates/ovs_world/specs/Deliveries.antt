@@ -44,7 +44,8 @@ abbrev pub Does : Stored → Move → Scene → Scene → Type 0
 Does source Tell a b =
     (a.session.downward.flight ≡ []) × Pumps (followed source a) a.session b.session × (b.relays ≡ a.relays) × (b.counts ≡ a.counts)
 Does source (Feed n) a b =
-    (line : Line) × Moves a.session.downward n line × (b ≡ scene a.relays (with_line a.session line) a.counts)
+    (n ≤ length a.session.downward.flight)
+    × ((line : Line) × Moves a.session.downward n line × (b ≡ scene a.relays (with_line a.session line) a.counts))
 Does source (Hear links) a b =
     HearsNext (followed source a) a.session links b.session × (b.relays ≡ holding a.relays (a.session.relay - 1) links)
     × (b.counts ≡ plus a.counts (counts_of (node_at source a.relays a.session.relay) links))

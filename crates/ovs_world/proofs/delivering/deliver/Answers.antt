@@ -78,7 +78,7 @@ turns-preserved c =
     let told = leads_on source fed 0 begun (scene at.relays s at.counts) (scene at.relays t at.counts) at.invariant.leads.2
     (did_pump source c.node.result.now at.relays s t at.invariant.stands c.node.ensures.value c.in_ok-pump.ensures.pumps at.counts) in
     let came = leads_on source (fed + 0) k begun (scene at.relays t at.counts) (scene at.relays u at.counts) told
-    (did_feed source at.relays t u at.counts k c.feed-fed.ensures.rest c.in_ok-left.ensures.fed.1) in
+    (did_feed source at.relays t u at.counts k (omega (arith, least)) c.feed-fed.ensures.rest c.in_ok-left.ensures.fed.1) in
     record {
       stands = c.in_ok-hear_all.ensures.scene;
       heard = c.in_ok-hear_all.ensures.heard;
