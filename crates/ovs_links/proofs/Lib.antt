@@ -1,13 +1,13 @@
+pub mod MapLemmas
+pub mod HeldLemmas
 pub mod ChainLemmas
 pub mod SetLemmas
-pub mod ShuffleLemmas
 pub mod HistoryLemmas
-pub mod BesideLemmas
 pub mod KeptLemmas
 pub mod TakeLemmas
 pub mod RunLemmas
 pub mod JoinLemmas
-pub mod AppendLemmas
+pub mod AddingLemmas
 pub mod MergeLemmas
 pub mod LongestLemmas
 pub mod ValueLemmas

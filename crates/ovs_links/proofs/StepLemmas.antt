@@ -1,22 +1,25 @@
 -- The steps of a chain of links are a chain of their own, and places on such a chain.
-use Rattle.std.proofs.Common.{◌≡◌, ◌≢◌, ℕ, zero, suc, ◌+◌, ◌-◌, ◌<◌, ◌≤◌, ◌^◌, List, [], ◌∷◌, length, get_or, take, refl, sym, ◌∙◌, ap, subst, arith, ⊎_elim, Option, Some, None, ◌==◌, cond, find}
+use Rattle.std.proofs.Common.{◌≡◌, ◌≢◌, ℕ, zero, suc, ◌+◌, ◌-◌, ◌<◌, ◌≤◌, ◌^◌, List, [], ◌∷◌, ◌++◌, length, get_or, take, refl, sym, ◌∙◌, ap, subst, arith, ⊎_elim, Option, Some, None, is_some, ◌==◌, cond}
 use Rattle.std.proofs.lemmas.Bool.{cases_eq, eq-eqb, ne_eqb}
 use Rattle.std.specs.Prelude.{slice_get, IfSome}
-use Rattle.std.specs.List.{AllByRecursion}
-use Rattle.std.specs.FinMap.{entries}
+use Rattle.std.specs.List.{AllByRecursion, position_from}
+use Rattle.std.specs.Ordering.{nat_cmp}
+use Rattle.std.specs.FinMap.{FinMap, entries, get, insert}
 use Rattle.ovs_types.specs.declared.schema.Schema.{Schema}
 use Rattle.ovs_types.specs.declared.schema.Table.{Table}
 use Rattle.ovs_rows.specs.Row.{Rows, no_rows}
 use Rattle.ovs_rows.specs.After.{after}
 use Rattle.ovs_rows.specs.After.{applied_to, AreFrom}
 use Rattle.ovs_links.specs.Sets.{AllOf}
+use Rattle.ovs_links.specs.Held.{with_first}
 use Rattle.ovs_links.specs.Chains.{JoinUp, head_after, rows_after}
 use Rattle.ovs_links.specs.Steps.{FoldedValue, folded_of, steps_of}
-use Rattle.ovs_links.specs.StepChains.{rows_after_steps, head_after_steps, StepsJoinUp, AreDistinctSteps, NoStepIsStart, IsFoldedChain, head_at, rows_at, IsStepAt}
+use Rattle.ovs_links.specs.StepChains.{rows_after_steps, head_after_steps, StepsJoinUp, AreDistinctSteps, NoStepIsStart, IsFoldedChain, head_at, rows_at, IsStepAt, place_in, ArePlaces}
 use Rattle.ovs_links.specs.Kept.{IsSound, count_key}
 use Rattle.ovs_links.specs.declared.link.Link.{Link}
 use Rattle.ovs_links.specs.declared.step.Step.{Step}
 use Rattle.ovs_rows.proofs.Settled.{applied_to-old, told_before}
+use Rattle.ovs_links.proofs.MapLemmas.{insert_at, insert_other}
 use Rattle.ovs_links.proofs.SetLemmas.{count_head, count_past, fewer}
 
 -- ---- the steps of links
@@ -42,10 +45,6 @@ module _ (ts : List Table) where
   head_steps from rows [] (suc n) = refl
   head_steps from rows (l ∷ ls) zero = refl
   head_steps from rows (l ∷ ls) (suc n) = head_steps l.id (after ts rows l.change l.id) ls n
-
-  pub length_steps : (rows : Rows) (ls : List Link) → length (steps_of ts rows ls) ≡ length ls
-  length_steps rows [] = refl
-  length_steps rows (l ∷ ls) = ap suc (length_steps (after ts rows l.change l.id) ls)
 
   -- an id that no link has is that of no step
   other_ids : (id : ℕ) (rows : Rows) (ls : List Link) → count_key (λ l. l.id) id ls ≡ 0 → AllByRecursion (λ (s : Step). s.id ≢ id) (steps_of ts rows ls)
@@ -117,32 +116,96 @@ place_once [] (suc j) (suc k) d s a b e = absurd (omega arith)
 place_once (x ∷ xs) (suc j) (suc k) d s a b e =
     ap suc (one_place (x ∷ xs) x j k d (omega arith) (omega arith) (sym (head_after_steps-take 0 (x ∷ xs) x j (omega arith)) ∙ e ∙ head_after_steps-take 0 (x ∷ xs) x k (omega arith)))
 
-not_first : (s : Step) (ss : List Step) (i : ℕ) → find (λ (s : Step). s.id == i) (s ∷ ss) ≡ None → s.id ≢ i
-not_first s ss i none e =
-    let bad : Some s ≡ None = sym (ap (λ b. cond b (Some s) (find (λ (s : Step). s.id == i) ss)) (eq-eqb s.id i e)) ∙ none in cc
+-- ---- the place of an id
+
+abbrev pub place_from : ℕ → ℕ → List Step → Option ℕ
+place_from i n ss = position_from (λ (s : Step). s.id == i) n ss
+
+place_head : (s : Step) (ss : List Step) (i n : ℕ) → s.id ≡ i → place_from i n (s ∷ ss) ≡ Some n
+place_head s ss i n e = ap (λ b. cond b (Some n) (place_from i (n + 1) ss)) (eq-eqb s.id i e)
+
+place_past : (s : Step) (ss : List Step) (i n : ℕ) → s.id ≢ i → place_from i n (s ∷ ss) ≡ place_from i (n + 1) ss
+place_past s ss i n e = ap (λ b. cond b (Some n) (place_from i (n + 1) ss)) (ne_eqb s.id i e)
 
 -- what isn't found stands at no place
-not_found : (ss : List Step) (i : ℕ) (d : Step) (k : ℕ) → find (λ (s : Step). s.id == i) ss ≡ None → k < length ss → (get_or ss k d).id ≢ i
-not_found [] i d k none n e = omega arith
-not_found (s ∷ ss) i d zero none n e = not_first s ss i none e
-not_found (s ∷ ss) i d (suc k) none n e =
-    ⊎_elim (λ (same : s.id ≡ i). not_first s ss i none same)
-    (λ (other : s.id ≢ i). not_found ss i d k (sym (ap (λ b. cond b (Some s) (find (λ (s : Step). s.id == i) ss)) (ne_eqb s.id i other)) ∙ none) (omega arith) e) (cases_eq s.id i)
+not_found : (ss : List Step) (i n : ℕ) (d : Step) (k : ℕ) → place_from i n ss ≡ None → k < length ss → (get_or ss k d).id ≢ i
+not_found [] i n d k none lt e = omega arith
+not_found (s ∷ ss) i n d zero none lt e = let bad : Some n ≡ None = sym (place_head s ss i n e) ∙ none in cc
+not_found (s ∷ ss) i n d (suc k) none lt e =
+    ⊎_elim (λ (same : s.id ≡ i). let bad : Some n ≡ None = sym (place_head s ss i n same) ∙ none in cc)
+    (λ (other : s.id ≢ i). not_found ss i (n + 1) d k (sym (place_past s ss i n other) ∙ none) (omega arith) e) (cases_eq s.id i)
 
 -- an id other than 0 that isn't found stands nowhere
-pub nowhere_on : (ss : List Step) (i k : ℕ) → find (λ (s : Step). s.id == i) ss ≡ None → i ≢ 0 → k ≤ length ss
+pub nowhere_on : (ss : List Step) (i k : ℕ) → place_in ss i ≡ None → i ≢ 0 → k ≤ length ss
     → head_after_steps 0 (take k ss) ≢ i
 nowhere_on ss i zero none past a e = past (sym e ∙ no_steps ss)
 nowhere_on [] i (suc k) none past a e = omega arith
 nowhere_on (x ∷ xs) i (suc k) none past a e =
-    not_found (x ∷ xs) i x k none (omega arith) (sym (head_after_steps-take 0 (x ∷ xs) x k (omega arith)) ∙ e)
+    not_found (x ∷ xs) i 1 x k none (omega arith) (sym (head_after_steps-take 0 (x ∷ xs) x k (omega arith)) ∙ e)
+
+found_place : (ss : List Step) (i n k : ℕ) → place_from i n ss ≡ Some k
+    → (j : ℕ) × (k ≡ n + j) × (j < length ss) × ((d : Step) → (get_or ss j d).id ≡ i)
+found_place [] i n k e = let bad : None ≡ Some k = e in absurd (cc)
+found_place (s ∷ ss) i n k e =
+    ⊎_elim (λ (same : s.id ≡ i). let first : Some n ≡ Some k = sym (place_head s ss i n same) ∙ e in let at : n ≡ k = cc in (0, omega (arith, at), omega arith, λ d. same))
+    (λ (other : s.id ≢ i). let t = found_place ss i (n + 1) k (sym (place_past s ss i n other) ∙ e) in (suc t.0, omega (arith, t.1), omega (arith, t.2), t.3)) (cases_eq s.id i)
+
+-- one more step, with an id that no other has
+place_last : (ss : List Step) (s : Step) (i n : ℕ) → s.id ≡ i → place_from i n ss ≡ None → place_from i n (ss ++ s ∷ []) ≡ Some (n + length ss)
+place_last [] s i n e none = place_head s [] i n e ∙ ap Some (omega arith)
+place_last (x ∷ xs) s i n e none =
+    ⊎_elim (λ (same : x.id ≡ i). let bad : Some n ≡ None = sym (place_head x xs i n same) ∙ none in absurd (cc))
+    (λ (other : x.id ≢ i). place_past x (xs ++ s ∷ []) i n other ∙ place_last xs s i (n + 1) e (sym (place_past x xs i n other) ∙ none) ∙ ap Some (omega arith)) (cases_eq x.id i)
+
+place_before : (ss : List Step) (s : Step) (i n : ℕ) → s.id ≢ i → place_from i n (ss ++ s ∷ []) ≡ place_from i n ss
+place_before [] s i n e = place_past s [] i n e
+place_before (x ∷ xs) s i n e =
+    ⊎_elim (λ (same : x.id ≡ i). place_head x (xs ++ s ∷ []) i n same ∙ sym (place_head x xs i n same))
+    (λ (other : x.id ≢ i). place_past x (xs ++ s ∷ []) i n other ∙ place_before xs s i (n + 1) e ∙ sym (place_past x xs i n other)) (cases_eq x.id i)
+
+place_found : (ss : List Step) (s : Step) (i n k : ℕ) → place_from i n ss ≡ Some k → place_from i n (ss ++ s ∷ []) ≡ Some k
+place_found [] s i n k e = let bad : None ≡ Some k = e in absurd (cc)
+place_found (x ∷ xs) s i n k e =
+    ⊎_elim (λ (same : x.id ≡ i). place_head x (xs ++ s ∷ []) i n same ∙ sym (place_head x xs i n same) ∙ e)
+    (λ (other : x.id ≢ i). place_past x (xs ++ s ∷ []) i n other ∙ place_found xs s i (n + 1) k (sym (place_past x xs i n other) ∙ e)) (cases_eq x.id i)
+
+-- one more step: its place comes under its id, where none stands there
+module _ (ss : List Step) (s : Step) (places : FinMap nat_cmp ℕ) (n : ℕ) (are : ArePlaces ss places) (last : n ≡ length ss + 1) where
+  pushed_new : get places s.id ≡ None → ArePlaces (ss ++ s ∷ []) (insert places s.id n)
+  pushed_new none q =
+      ⊎_elim (λ (e : q ≡ s.id).
+      insert_at places s.id n q e ∙ ap Some (omega (arith, last))
+      ∙ sym (place_last ss s q 1 (sym e) (sym (are q) ∙ ap (λ (i : ℕ). get places i) e ∙ none)))
+      (λ (e : q ≢ s.id). insert_other places s.id n q e ∙ are q ∙ sym (place_before ss s q 1 (λ same. e (sym same)))) (cases_eq q s.id)
+
+  pushed_again : (k : ℕ) → get places s.id ≡ Some k → ArePlaces (ss ++ s ∷ []) places
+  pushed_again k there q =
+      are q
+      ∙ ⊎_elim (λ (e : q ≡ s.id).
+      let found : place_in ss q ≡ Some k = sym (are q) ∙ ap (λ (i : ℕ). get places i) e ∙ there in
+      found ∙ sym (place_found ss s q 1 k found))
+      (λ (e : q ≢ s.id). sym (place_before ss s q 1 (λ same. e (sym same)))) (cases_eq q s.id)
+
+  pub places_push : ArePlaces (ss ++ s ∷ []) (with_first places s.id n)
+  places_push = by_case (get places s.id) refl
+    where
+      by_case : (o : Option ℕ) → get places s.id ≡ o → ArePlaces (ss ++ s ∷ []) (with_first places s.id n)
+      by_case None e = subst (ArePlaces (ss ++ s ∷ [])) (sym (ap (λ (o : Option ℕ). cond (is_some o) places (insert places s.id n)) e)) (pushed_new e)
+      by_case (Some k) e = subst (ArePlaces (ss ++ s ∷ [])) (sym (ap (λ (o : Option ℕ). cond (is_some o) places (insert places s.id n)) e)) (pushed_again k e)
 
 -- the steps up to a place end at its id
-pub ends_at : (ss : List Step) (i k : ℕ) → k < length ss → ((d : Step) → (get_or ss k d).id ≡ i) → head_after_steps 0 (take (k + 1) ss) ≡ i
+ends_at : (ss : List Step) (i k : ℕ) → k < length ss → ((d : Step) → (get_or ss k d).id ≡ i) → head_after_steps 0 (take (k + 1) ss) ≡ i
 ends_at [] i k lt e = absurd (omega arith)
 ends_at (x ∷ xs) i k lt e =
     let after : k + 1 ≡ suc k = omega arith in
     ap (λ n. head_after_steps 0 (take n (x ∷ xs))) after ∙ head_after_steps-take 0 (x ∷ xs) x k lt ∙ e x
+
+-- where an id is found the steps end at it
+pub placed_at : (ss : List Step) (i k : ℕ) → place_in ss i ≡ Some k → (k ≤ length ss) × (head_after_steps 0 (take k ss) ≡ i)
+placed_at ss i k e =
+    let t = found_place ss i 1 k e in
+    let next : k ≡ t.0 + 1 = omega (arith, t.1) in
+    (omega (arith, next, t.2), ap (λ n. head_after_steps 0 (take n ss)) next ∙ ends_at ss i t.0 t.2 t.3)
 
 -- ---- the step at a place
 

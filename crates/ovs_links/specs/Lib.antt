@@ -6,12 +6,12 @@ pub mod History
 pub mod Steps
 pub mod StepChains
 pub mod Store
+pub mod Held
 pub mod Kept
 pub mod Beside
 pub mod Answers
 pub mod Join
-pub mod MergeLists
-pub mod Parked
+pub mod Adding
 pub mod Merging
 pub mod Runs
 pub mod Outcomes

@@ -1,6 +1,8 @@
 -- A database with its steps as a chain of its own: what the steps alone say.
 use Rattle.std.specs.Prelude.{◌≡◌, ◌≢◌, ◌≤◌, ◌^◌, ◌-◌, ◌==◌, ℕ, List, [], ◌∷◌, Option, Some, if◌then◌else◌, length, take}
 use Rattle.std.specs.List.{AllByRecursion, position_from}
+use Rattle.std.specs.Ordering.{nat_cmp}
+use Rattle.std.specs.FinMap.{FinMap, get}
 use Rattle.ovs_rows.specs.Row.{Rows, no_rows}
 use Rattle.ovs_rows.specs.After.{applied_to, AreFrom}
 use Rattle.ovs_links.specs.Steps.{FoldedValue}
@@ -58,6 +60,14 @@ pub record IsStepAt (f : FoldedValue) (n : ℕ) (s : Step) : Type 0 where
 abbrev pub ExtendsShown : FoldedValue → ℕ → ℕ → Type 0
 ExtendsShown f shown head = (shown ≤ length f.steps) × (head_at f shown ≡ head)
 
+-- the place of the first step with this id, counted from 1
+abbrev pub place_in : List Step → ℕ → Option ℕ
+place_in steps id = position_from (λ s. s.id == id) 1 steps
+
 -- how many steps there are up to this id: 0 is the id before the first
 abbrev pub position_in : FoldedValue → ℕ → Option ℕ
-position_in f id = if id == 0 then Some 0 else position_from (λ s. s.id == id) 1 f.steps
+position_in f id = if id == 0 then Some 0 else place_in f.steps id
+
+-- the map has the place of each step under its id, and no other
+abbrev pub ArePlaces : List Step → FinMap nat_cmp ℕ → Type 0
+ArePlaces steps places = (id : ℕ) → get places id ≡ place_in steps id

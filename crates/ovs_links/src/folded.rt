@@ -1,15 +1,14 @@
 //! A database with the steps that led to it.
 
-ghost use Rattle.std.specs.Prelude.{◌≡◌, ◌<◌, ◌==◌, ℕ, suc, [], true, length, find, slice_index_or, Some, None, IfOk, OnOk, OnErr, IfSome, MatchOption, option_map};
+ghost use Rattle.std.specs.Prelude.{◌≡◌, ℕ, [], true, length, Some, None, IfOk, OnOk, OnErr, IfSome, MatchOption};
 ghost use Rattle.std.specs.Option.{option_copied};
-ghost use Rattle.std.specs.List.{position_from};
 ghost use Rattle.ovs_rows.specs.After.{fits};
 ghost use Rattle.ovs_links.specs.Sets.{IsOfTables};
 ghost use Rattle.ovs_links.specs.Store.{at_number};
 ghost use Rattle.ovs_links.specs.Steps.{folded_of, folded_with, tables_in};
 ghost use Rattle.ovs_links.specs.StepChains.{IsFoldedChain, IsStepAt, ExtendsShown, head_after_steps, position_in};
-ghost use Rattle.ovs_links.specs.declared.step.Step.{Step};
 
+use crate::id_map::IdMap;
 use crate::link::Link;
 use crate::step::Step;
 use ovs_rows::Database;
@@ -17,25 +16,12 @@ use ovs_types::{NoMemory, Schema, TxnId};
 use std::alloc::Global;
 use std::marker::Model;
 
-// The place of the first step with this id.
-fn place_of_step(steps: &[Step], id: TxnId) -> Option<usize>
-    ensures found { MatchOption result (find (λ (s : Step). s.id == id) steps.now ≡ None)
-        (λ k. (k < length steps.now) × ((d : Step) → (slice_index_or steps.now k d).id ≡ id)) }
-    ensures first { option_map suc result ≡ position_from (λ (s : Step). s.id == id) 1 steps.now }
-{
-    for (k, step) in steps.iter().enumerate() {
-        if step.id == id {
-            return Some(k);
-        }
-    }
-    None
-}
-
 /// A database, and one step for each link that was folded into it.
 #[derive(Drop)]
 pub struct Folded {
     database: Database,
     steps: Vec<Step>,
+    places: IdMap,
 }
 
 impl Model for Folded {
@@ -46,6 +32,7 @@ impl Model for Folded {
     ghost use Rattle.ovs_links.specs.contracts.step.Step as step_row;
     ghost use Rattle.ovs_links.specs.declared.step.Step.{Step};
     ghost use Rattle.ovs_links.specs.Steps.{FoldedValue};
+    ghost use Rattle.ovs_links.specs.StepChains.{ArePlaces};
 
     ghost Value = { FoldedValue };
 
@@ -54,6 +41,8 @@ impl Model for Folded {
         (λ f. (f.database, f.steps)) (λ p. record { database = p.0; steps = p.1 }) (λ _. refl) };
 
     ghost view = { λ f. record { database = f.database; steps = f.steps.items } };
+
+    ghost invariant = { λ f. ArePlaces f.steps.items f.places };
 }
 
 impl Folded {
@@ -64,6 +53,7 @@ impl Folded {
         Ok(Folded {
             database: Database::empty(alloc, schema)?,
             steps: Vec::new(alloc),
+            places: IdMap::new(alloc),
         })
     }
 
@@ -120,8 +110,7 @@ impl Folded {
         if id == TxnId::zero() {
             return Some(0);
         }
-        let k = place_of_step(self.steps.as_slice(), id)?;
-        Some(k + 1)
+        self.places.get(id)
     }
 
     /// Applies the change of a link, and adds its step. An `Err` changes nothing.
@@ -132,17 +121,18 @@ impl Folded {
         ensures unchanged { OnErr result (self.new ≡ self.old) }
     {
         self.steps.reserve(1)?;
-        let applied = match self.database.apply(alloc, link.change(), link.id()) {
-            Ok(applied) => applied,
+        let (prev, id) = (link.prev(), link.id());
+        let was_put = self.places.put_first(id, self.steps.len() + 1)?;
+        match self.database.apply(alloc, link.change(), id) {
+            Ok(applied) => {
+                self.steps.push_reserved(Step { prev, id, applied });
+                Ok(())
+            }
             // A change that fits is refused for want of memory alone.
-            Err(_) => return Err(NoMemory),
-        };
-        let step = Step {
-            prev: link.prev(),
-            id: link.id(),
-            applied,
-        };
-        self.steps.push_reserved(step);
-        Ok(())
+            Err(_) => {
+                self.places.take_back(id, was_put);
+                Err(NoMemory)
+            }
+        }
     }
 }

@@ -2,14 +2,16 @@
 #![tactic(auto)]
 
 mod answer;
+mod beside;
 mod folded;
+mod held;
+mod id_map;
 mod joins;
 mod laws;
 mod link;
 mod merging;
 mod outcomes;
 mod run;
-mod scan;
 mod settling;
 mod step;
 mod store;

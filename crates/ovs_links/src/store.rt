@@ -16,11 +16,12 @@ ghost use Rattle.ovs_links.specs.Settling.{KeepsLinks, IsWholeChain, chain_of, s
 ghost use Rattle.ovs_links.specs.declared.link.Link.{Link};
 
 use crate::answer::{By, MergeError, Settled, TakeError, Took};
+use crate::beside::{Beside, beside_link};
 use crate::folded::Folded;
+use crate::held::HeldLinks;
 use crate::link::Link;
 use crate::merging::merge_into;
-use crate::scan::{Beside, beside_link, head_of, with_id};
-use crate::settling::{fold_next, settle_lists};
+use crate::settling::{add_and_fold, settle_links};
 use crate::taking::take_into;
 use ovs_rows::Database;
 use ovs_types::{NoMemory, Schema, TxnId};
@@ -36,8 +37,8 @@ pub const MAX_LINKS: usize = 1_000_000;
 /// them. At all times the folded links are a beginning of the chain.
 #[derive(Drop)]
 pub struct LinkStore {
-    chain: Vec<Link>,
-    parked: Vec<Link>,
+    alloc: Global,
+    held: HeldLinks,
     folded: Folded,
 }
 
@@ -61,9 +62,9 @@ impl Model for LinkStore {
         (λ s. (s.schema, (s.links, s.folded)))
         (λ p. record { schema = p.0; links = p.1.0; folded = p.1.1 }) (λ _. refl) };
 
-    ghost view = { λ s. stored_of s.chain.items s.parked.items s.folded };
+    ghost view = { λ s. stored_of s.held s.folded };
 
-    ghost invariant = { λ s. IsKept s.chain.items s.parked.items s.folded };
+    ghost invariant = { λ s. IsKept s.held s.folded };
 }
 
 impl LinkStore {
@@ -72,8 +73,8 @@ impl LinkStore {
         ensures value { IfOk result (λ s. s ≡ record { schema = schema.now; links = map.empty; folded = [] }) }
     {
         Ok(LinkStore {
-            chain: Vec::new(alloc),
-            parked: Vec::new(alloc),
+            alloc,
+            held: HeldLinks::new(alloc),
             folded: Folded::new(alloc, schema)?,
         })
     }
@@ -92,7 +93,7 @@ impl LinkStore {
         // Links of one history are never refused as contradictions.
         ensures source { AreOfOneSource (tables_of self.old) (Holds self.old.links) (Among (link ∷ [])) → ¬ (IsFork result) }
     {
-        take_into(&self.chain, &mut self.parked, link)
+        take_into(&mut self.held, link)
     }
 
     /// Adds a link that follows the head and fits the database, and folds it. No other link may follow the head, as
@@ -113,7 +114,7 @@ impl LinkStore {
         // The folded links are still the longest chain, where none that was parked follows this one.
         ensures longest { OnOk result (SettlesAs self.new Settled.Done → IsChainOf self.new self.new.folded) }
     {
-        if let Some(held) = with_id(&self.chain, &self.parked, link.id()) {
+        if let Some(held) = self.held.with_id(link.id()) {
             return Err(TakeError::Fork {
                 by: By::Id,
                 held_prev: held.prev(),
@@ -124,7 +125,7 @@ impl LinkStore {
         if self.len() >= MAX_LINKS {
             return Err(TakeError::Full { link });
         }
-        if let Err(link) = fold_next(alloc, &mut self.chain, &mut self.folded, link) {
+        if let Err(NoMemory) = add_and_fold(alloc, &mut self.held, &mut self.folded, &link) {
             return Err(TakeError::NoMemory { link });
         }
         Ok(())
@@ -146,7 +147,7 @@ impl LinkStore {
         ensures source { AreOfOneSource (tables_of self.old) (Holds self.old.links) (Holds other.now.links)
             → ¬ (IsMergeFork result) }
     {
-        merge_into(&self.chain, &mut self.parked, &other.chain, &other.parked)
+        merge_into(self.alloc, &mut self.held, &other.held)
     }
 
     /// Folds the longest chain. `Done` where no held link follows it, and `Stuck` where one does that doesn't fit.
@@ -161,7 +162,7 @@ impl LinkStore {
         ensures whole { IsWholeChain self.old (chain_of self.old) }
         ensures unfinished { OnErr result (¬ (IsChainOf self.new self.new.folded)) }
     {
-        settle_lists(alloc, &mut self.chain, &mut self.parked, &mut self.folded)
+        settle_links(alloc, &self.held, &mut self.folded)
     }
 
     /// The last folded id, or 0.
@@ -169,7 +170,7 @@ impl LinkStore {
         ensures value { result ≡ head_of self.now }
         ensures store { IsStore self.now }
     {
-        head_of(&self.chain)
+        self.folded.head()
     }
 
     /// How many links are held.
@@ -177,8 +178,7 @@ impl LinkStore {
         ensures value { result ≡ map.len self.now.links }
         ensures few { result ≤ max_links }
     {
-        let folded = self.chain.len();
-        folded + self.parked.len()
+        self.held.len()
     }
 
     /// Whether no link is held.
@@ -192,21 +192,21 @@ impl LinkStore {
     pub fn chain_len(&self) -> usize
         ensures value { result ≡ length self.now.folded }
     {
-        self.chain.len()
+        self.folded.chain_len()
     }
 
     /// How many held links aren't folded.
     pub fn parked(&self) -> usize
         ensures value { length self.now.folded + result ≡ map.len self.now.links }
     {
-        self.parked.len()
+        self.len() - self.folded.chain_len()
     }
 
     /// Whether this very link is held.
     pub fn holds(&self, link: &Link) -> bool
         ensures value { IsTrue result ↔ Holds self.now.links link.now }
     {
-        matches!(beside_link(&self.chain, &self.parked, link), Beside::Same)
+        matches!(beside_link(&self.held, link), Beside::Same)
     }
 
     /// How many links are folded up to this id: 0 for the id 0, k for the id of the k-th folded link, else none.
@@ -223,10 +223,8 @@ impl LinkStore {
     pub fn link_at(&self, n: usize) -> Option<&Link>
         ensures value { option_copied result ≡ at_number self.now.folded n }
     {
-        if n == 0 {
-            return None;
-        }
-        self.chain.get(n - 1)
+        let step = self.folded.step(n)?;
+        self.held.with_prev(step.prev)
     }
 
     /// The database after the folded links.
