@@ -46,6 +46,10 @@ module _ (ts : List Table) where
   head_steps from rows (l ∷ ls) zero = refl
   head_steps from rows (l ∷ ls) (suc n) = head_steps l.id (after ts rows l.change l.id) ls n
 
+  pub length_steps : (rows : Rows) (ls : List Link) → length (steps_of ts rows ls) ≡ length ls
+  length_steps rows [] = refl
+  length_steps rows (l ∷ ls) = ap suc (length_steps (after ts rows l.change l.id) ls)
+
   -- an id that no link has is that of no step
   other_ids : (id : ℕ) (rows : Rows) (ls : List Link) → count_key (λ l. l.id) id ls ≡ 0 → AllByRecursion (λ (s : Step). s.id ≢ id) (steps_of ts rows ls)
   other_ids id rows [] n = tt
