@@ -18,7 +18,7 @@ use Rattle.ovs_wire.proofs.Cuts.{only_object, only_fault}
 use Rattle.ovs_wire.proofs.Over.{object_or_large}
 use Rattle.ovs_wire.proofs.Spelling.{one_message}
 use Rattle.ovs_wire.proofs.Unique.{once}
-use Rattle.ovs_world.specs.Carrying.{Line, IsIdle, Carries, Sends, Receives, Moves}
+use Rattle.ovs_world.specs.Carrying.{Line, IsIdle, IsFaulty, Carries, Sends, Receives, Moves, MeetsLarge}
 
 pub carries_nothing : (line : Line) → IsIdle line → Carries line []
 carries_nothing line is = record {
@@ -294,3 +294,18 @@ stopped_large old mid now m n fault idle sends all fed is = (text, sends.1, larg
     large : IsWhole text now ⊎ (IsTooLarge text × ((fault : FrameError) × (now.ending ≡ Fault fault))) → IsTooLarge text
     large (inl w) = absurd (let e : Rest [] ≡ Fault fault = sym w.ending ∙ is in cc)
     large (inr l) = l.0
+
+-- where none is whole and a fault has come, the next message is above the limits
+pub meets_large : (line : Line) (messages : List Message) → Carries line messages → line.framing.waiting ≡ [] → IsFaulty line.framing.ending → MeetsLarge line
+meets_large line messages carries none faulty = let is = over line.framing.ending faulty carries.rest in split messages is carries (zipped is.0 is.1 is.2)
+  where
+    over : (e : Ending) → IsFaulty e → Remain e line.flight carries.coming → (large : List ℕ) × (more : List (List ℕ)) × (carries.coming ≡ large ∷ more) × IsTooLarge large
+    over (Rest rest) f r = absurd f
+    over (Fault fault) f r = r
+
+    zipped : (large : List ℕ) (more : List (List ℕ)) → carries.coming ≡ large ∷ more → AllZip IsWritten messages (large ∷ more)
+    zipped large more e = subst (AllZip IsWritten messages) (ap (λ (ts : List (List ℕ)). ts ++ carries.coming) none ∙ e) carries.texts
+
+    split : (ms : List Message) (is : (large : List ℕ) × (more : List (List ℕ)) × (carries.coming ≡ large ∷ more) × IsTooLarge large) → Carries line ms → AllZip IsWritten ms (is.0 ∷ is.1) → MeetsLarge line
+    split [] is c z = absurd z
+    split (m ∷ ms) is c z = record { waiting = none; faulty = faulty; message = m; more = ms; carried = c; large = (is.0, z.0, is.3) }

@@ -12,8 +12,8 @@ use Rattle.ovs_upstream.specs.declared.up_event.UpEvent.{UpEvent}
 use Rattle.ovs_upstream.specs.declared.up_event.UpEvent.TheVariants.{Links, Send, ReplyFor, Locked, Stolen, Nothing}
 use Rattle.ovs_wire.specs.declared.message.Message.{Message}
 use Rattle.ovs_wire.specs.Framing.{Framing}
-use Rattle.ovs_world.specs.Carrying.{Line, Carries, Moves, SendsAll, SendsAny}
-use Rattle.ovs_world.specs.Deliveries.{scene, Tell, Feed, Hear, Does, Leads, holding, followed, IsToldOut, IsScene}
+use Rattle.ovs_world.specs.Carrying.{Line, IsWhole, Carries, Moves, Chokes, SendsAll, SendsAny}
+use Rattle.ovs_world.specs.Deliveries.{scene, Tell, Feed, Choke, Hear, Does, Leads, holding, followed, IsToldOut, IsQuiet, IsScene}
 use Rattle.ovs_world.specs.Leading.{IsLed}
 use Rattle.ovs_world.specs.Nodes.{IsNode, Extends, node_at, folded_in, held, plus, counts_of}
 use Rattle.ovs_world.specs.Sessions.{Pumps, PumpsIdle, Goes, HearsNext, with_line}
@@ -58,6 +58,10 @@ hears_fewer f s t links next =
     let waits : length s.downward.framing.waiting ≡ length (next.received.0 ∷ next.line.framing.waiting) = ap length next.received.2.0 in
     let same : length t.downward.framing.waiting ≡ length next.line.framing.waiting = ap (λ (x : Framing). length x.waiting) (goes_framing f _ t next.hears.event next.hears.goes) in
     omega (arith, waits, same)
+
+-- and what is to come is framed as it was
+pub hears_ending : (f : FoldedValue) (s t : Session) (links : List Link) → HearsNext f s links t → t.downward.framing.ending ≡ s.downward.framing.ending
+hears_ending f s t links next = ap (λ (x : Framing). x.ending) (goes_framing f _ t next.hears.event next.hears.goes) ∙ next.received.2.1
 
 -- ---- the relay's store
 
@@ -135,6 +139,9 @@ pub pumped_framing : (f : FoldedValue) (s t : Session) → PumpsIdle f s t → t
 pumped_framing f s t (inl none) = ap (λ (x : Session). x.downward.framing) none.1
 pumped_framing f s t (inr pumps) = all_framing s.downward t.downward _ pumps.1.told
 
+pub quiet_framing : (s t : Session) → t.downward.framing ≡ s.downward.framing → IsQuiet s → IsQuiet t
+quiet_framing s t same quiet = record { heard = ap (λ (x : Framing). x.waiting) same ∙ quiet.heard; whole = subst (λ (x : Framing). IsWhole x.ending) (sym same) quiet.whole }
+
 module _ (source node : Stored) (relays : List Stored) (s t : Session) (stands : IsScene source relays s) (node_is : node ≡ node_at source relays s.upstream)
     (pumps : PumpsIdle (folded_in node) s t) where
   pub after_pumping : (s.downward.flight ≡ [] → AreToldReadably s.reader.monitors (folded_in node).steps) → MayBeShown t.reader (folded_in node) → IsScene source relays t
@@ -206,3 +213,9 @@ pub did_feed : (source : Stored) (relays : List Stored) (s t : Session) (counts 
 did_feed source relays s t counts n within is moves =
     leads_one source (Feed n) (scene relays s counts) (scene relays t counts) n (omega arith)
     (within, (t.downward, moves, ap (λ (x : Session). scene relays x counts) is))
+
+pub did_choke : (source : Stored) (relays : List Stored) (s t : Session) (counts : Counts) (n : ℕ) → t ≡ with_line s t.downward → Chokes s.downward n t.downward
+    → Leads source n (scene relays s counts) (scene relays t counts)
+did_choke source relays s t counts n is chokes =
+    leads_one source (Choke n) (scene relays s counts) (scene relays t counts) n (omega arith)
+    (t.downward, chokes, ap (λ (x : Session). scene relays x counts) is)

@@ -53,7 +53,7 @@ faithful source relays tier = record {
 
 -- ---- no link
 
-none_held : (l : Link) → Holds empty l → ⊥
+pub none_held : (l : Link) → Holds empty l → ⊥
 none_held l held = absurd (let n : get (empty {K = ℕ} {X = Link} {R = nat_cmp}) l.prev ≡ None = get-empty nat_cmp l.prev in let f = sym n ∙ held in cc)
 
 pub empty_is_store : (schema : SchemaValue) → IsStore (empty_store schema)

@@ -4,10 +4,17 @@ pub mod Asking
 pub mod Answering
 pub mod Heard
 pub mod Led
+pub mod Counting
 pub mod Held
 pub mod Moving
 pub mod Scenes
 pub mod Delivered
 pub mod Faithful
+pub mod Settled
 pub mod Opened
+pub mod Restarted
+pub mod Merged
 pub mod Longer
+pub mod Broken
+pub mod Refused
+pub mod Running

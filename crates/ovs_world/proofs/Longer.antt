@@ -6,7 +6,7 @@ use Rattle.std.proofs.lemmas.List.{take-append-le}
 use Rattle.serde_json.specs.Data.{Data}
 use Rattle.ovs_types.specs.declared.schema.Table.{Table}
 use Rattle.ovs_links.specs.Chains.{head_after}
-use Rattle.ovs_links.specs.Sets.{Among}
+use Rattle.ovs_links.specs.Sets.{AllOf, Among, Holds}
 use Rattle.ovs_links.specs.Store.{Stored, IsStore, tables_of}
 use Rattle.ovs_links.specs.declared.link.Link.{Link}
 use Rattle.ovs_rows.specs.Row.{Rows}
@@ -139,12 +139,21 @@ module _ (s t : Stored) (more : List Link) (schema : t.schema ≡ s.schema) (fol
 
   -- ---- all of it
 
-  module _ (relays : List Stored) (source : IsSource t) (store : IsStore t) where
+  module _ (relays : List Stored) (before : IsSource s) (source : IsSource t) (store : IsStore t) where
+    -- what was held stands on the chain
+    keeps : (l : Link) → Holds s.links l → Holds t.links l
+    keeps l held = held_of t.folded l store.chain.members (subst (λ (ls : List Link). Among ls l) (sym folded) (among_more s.folded more l (before.folded l held)))
+      where
+        held_of : (ls : List Link) (l : Link) → AllOf (Holds t.links) ls → Among ls l → Holds t.links l
+        held_of [] l a m = absurd m
+        held_of (x ∷ xs) l a (inl e) = subst (Holds t.links) (sym e) a.0
+        held_of (x ∷ xs) l a (inr m) = held_of xs l a.1 m
+
     pub tier_more : IsTier s relays → IsTier t relays
     tier_more tier = record { is_source = source; store = store; each = each_more relays tier.each }
 
     at_node : (n : ℕ) (x : Session) → n ≤ length relays → IsLed s (node_at s relays n) x → IsLed t (node_at t relays n) x
-    at_node zero x le is = led_grows t s t x (record { schema = schema; store = store; prefix = (more, sym folded) }) (led_more s x is)
+    at_node zero x le is = led_grows t s t x (record { schema = schema; store = store; keeps = keeps; prefix = (more, sym folded) }) (led_more s x is)
     at_node (suc i) x le is = subst (λ (v : Stored). IsLed t v x) (same relays i (omega (arith, le))) (led_more (get_or relays i s) x is)
       where
         same : (ss : List Stored) (i : ℕ) → i < length ss → get_or ss i s ≡ get_or ss i t
@@ -189,8 +198,8 @@ pub world_committed : (s t : Stored) (fresh rest : ℕ) (relays : List Stored) (
 world_committed s t fresh rest relays os w (inl same) source store =
     subst (λ (x : Stored). IsWorld (record { source = x; fresh = rest; relays = relays; sessions = os })) (sym same) (record { tier = w.tier; sessions = w.sessions })
 world_committed s t fresh rest relays os w (inr grown) source store = record {
-  tier = tier_more s t (grown.0 ∷ []) grown.1 grown.2 relays source store w.tier;
-  sessions = sessions_more s t (grown.0 ∷ []) grown.1 grown.2 relays source store os w.sessions;
+  tier = tier_more s t (grown.0 ∷ []) grown.1 grown.2 relays w.tier.is_source source store w.tier;
+  sessions = sessions_more s t (grown.0 ∷ []) grown.1 grown.2 relays w.tier.is_source source store os w.sessions;
 }
 
 pub world_same : (s t : Stored) (fresh rest : ℕ) (relays : List Stored) (os : List (Option Session)) → IsWorld (record { source = s; fresh = fresh; relays = relays; sessions = os })

@@ -1,7 +1,7 @@
 -- Moves of a delivery, one after another.
 use Rattle.std.proofs.Common.{◌≡◌, ℕ, ◌+◌, List, [], ◌∷◌, ◌++◌, refl, subst, arith}
 use Rattle.ovs_links.specs.Store.{Stored}
-use Rattle.ovs_world.specs.Deliveries.{Scene, Move, Tell, Feed, Hear, Does, DoesAll, fed_by, Leads}
+use Rattle.ovs_world.specs.Deliveries.{Scene, Move, Tell, Feed, Choke, Hear, Does, DoesAll, fed_by, Leads}
 
 does_append : (source : Stored) (us vs : List Move) (a b c : Scene) → DoesAll source us a b → DoesAll source vs b c → DoesAll source (us ++ vs) a c
 does_append source [] vs a b c d e = subst (λ (x : Scene). DoesAll source vs x c) d e
@@ -11,6 +11,7 @@ fed_append : (us vs : List Move) → fed_by (us ++ vs) ≡ fed_by us + fed_by vs
 fed_append [] vs = omega arith
 fed_append (Tell ∷ us) vs = fed_append us vs
 fed_append (Feed n ∷ us) vs = let t = fed_append us vs in omega (arith, t)
+fed_append (Choke n ∷ us) vs = let t = fed_append us vs in omega (arith, t)
 fed_append (Hear ls ∷ us) vs = fed_append us vs
 
 pub leads_none : (source : Stored) (a : Scene) → Leads source 0 a a

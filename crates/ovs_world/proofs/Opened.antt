@@ -8,11 +8,11 @@ use Rattle.ovs_links.specs.Store.{Stored, IsStore}
 use Rattle.ovs_types.specs.SchemaReading.{read_description}
 use Rattle.ovs_links.specs.Steps.{FoldedValue}
 use Rattle.ovs_reader.specs.Session.{MayBeShown}
-use Rattle.ovs_world.specs.Carrying.{Line}
+use Rattle.ovs_world.specs.Carrying.{Line, IsWhole}
 use Rattle.ovs_world.specs.Leading.{IsLed}
 use Rattle.ovs_world.specs.Sessions.{Opens}
 use Rattle.ovs_world.proofs.Led.{led_opened}
-use Rattle.ovs_world.specs.Deliveries.{IsBetween, IsScene, IsHeardOut}
+use Rattle.ovs_world.specs.Deliveries.{IsBetween, IsScene, IsQuiet}
 use Rattle.ovs_world.specs.Nodes.{IsNode, IsTier, Grow, node_at, folded_in}
 use Rattle.ovs_world.specs.Worlds.{IsWorld, IsOpen, IsOpenAt, NoneIsOpenAt}
 use Rattle.ovs_world.specs.declared.session.Session.{Session}
@@ -46,11 +46,14 @@ open_grows : (source : Stored) (ss ts : List Stored) (o : Option Session) → Is
 open_grows source ss ts None store grow is = is
 open_grows source ss ts (Some s) store grow is = (between_grows source ss ts s store grow is.0, is.1)
 
+pub sessions_grow : (source : Stored) (ss ts : List Stored) (os : List (Option Session)) → IsStore source → Grow ss ts → AllByRecursion (IsOpen source ss) os → AllByRecursion (IsOpen source ts) os
+sessions_grow source ss ts os store grow each = all_weaker (IsOpen source ss) (IsOpen source ts) os (λ x r. open_grows source ss ts x store grow r) each
+
 -- some relays took more, and one session is another
 pub sessions_after : (source : Stored) (ss ts : List Stored) (os : List (Option Session)) (i : ℕ) (o : Option Session) → IsStore source → Grow ss ts
     → AllByRecursion (IsOpen source ss) os → IsOpen source ts o → AllByRecursion (IsOpen source ts) (slice_set os i o)
 sessions_after source ss ts os i o store grow each is =
-    all_set (IsOpen source ts) os i o (all_weaker (IsOpen source ss) (IsOpen source ts) os (λ x r. open_grows source ss ts x store grow r) each) is
+    all_set (IsOpen source ts) os i o (sessions_grow source ss ts os store grow each) is
 
 pub sessions_cut : (source : Stored) (ss : List Stored) (os : List (Option Session)) (i : ℕ) → AllByRecursion (IsOpen source ss) os → AllByRecursion (IsOpen source ss) (slice_set os i None)
 sessions_cut source ss os i each = all_set (IsOpen source ss) os i None each tt
@@ -83,6 +86,10 @@ none_is os (suc i) d lt le e s at = absurd (let f = sym (get_is os i d None (ome
     before : (i : ℕ) → i ≡ suc i - 1
     before i = omega arith
 
+pub open_first : (os : List (Option Session)) (n : ℕ) (s : Session) → IsOpenAt os n s → 1 ≤ n
+open_first os zero s at = absurd at
+open_first os (suc i) s at = omega arith
+
 pub open_within : (os : List (Option Session)) (n : ℕ) (s : Session) → IsOpenAt os n s → n - 1 < length os
 open_within os zero s at = absurd at
 open_within os (suc i) s at = let lt = within os i at in omega (arith, lt)
@@ -99,7 +106,7 @@ pub lent : {X : Type 0} (new old : List X) (n : ℕ) (rest : List X) → n ≡ l
 lent new old n rest is same = take_at new rest n (same ∙ sym is)
 
 pub between_in : (source : Stored) (ss : List Stored) (os : List (Option Session)) (n : ℕ) (s : Session) → IsTier source ss → AllByRecursion (IsOpen source ss) os → IsOpenAt os n s
-    → IsScene source ss s × IsHeardOut s
+    → IsScene source ss s × IsQuiet s
 between_in source ss os n s tier each at = let is = open_at source ss os n s each at in (record { tier = tier; between = is.0 }, is.1)
 
 pub world_stopped : (source : Stored) (fresh : ℕ) (ss ts us : List Stored) (os ps : List (Option Session)) (i : ℕ) → IsWorld (record { source = source; fresh = fresh; relays = ss; sessions = os })
@@ -110,14 +117,14 @@ world_stopped source fresh ss ts us os ps i w tier grow us_is ps_is =
     (record { tier = tier; sessions = sessions_after source ss ts os i None w.tier.store grow w.sessions tt }))
 
 pub world_brought : (source : Stored) (fresh : ℕ) (ss ts us : List Stored) (os ps : List (Option Session)) (i : ℕ) (s : Session) → IsWorld (record { source = source; fresh = fresh; relays = ss; sessions = os })
-    → IsTier source ts → Grow ss ts → IsScene source ts s → IsHeardOut s → us ≡ ts → ps ≡ slice_set os i None → IsWorld (record { source = source; fresh = fresh; relays = us; sessions = slice_set ps i (Some s) })
+    → IsTier source ts → Grow ss ts → IsScene source ts s → IsQuiet s → us ≡ ts → ps ≡ slice_set os i None → IsWorld (record { source = source; fresh = fresh; relays = us; sessions = slice_set ps i (Some s) })
 world_brought source fresh ss ts us os ps i s w tier grow stands heard us_is ps_is =
     subst (λ (x : List Stored). IsWorld (record { source = source; fresh = fresh; relays = x; sessions = slice_set ps i (Some s) })) (sym us_is)
     (subst (λ (x : List (Option Session)). IsWorld (record { source = source; fresh = fresh; relays = ts; sessions = x })) (sym (ap (λ (x : List (Option Session)). slice_set x i (Some s)) ps_is ∙ set-set os i None (Some s)))
     (record { tier = tier; sessions = sessions_after source ss ts os i (Some s) w.tier.store grow w.sessions (stands.between, heard) }))
 
 pub world_opened : (source : Stored) (fresh : ℕ) (ss : List Stored) (os ps : List (Option Session)) (s : Session) → IsWorld (record { source = source; fresh = fresh; relays = ss; sessions = os })
-    → IsBetween source ss s → IsHeardOut s → ps ≡ os ++ Some s ∷ [] → IsWorld (record { source = source; fresh = fresh; relays = ss; sessions = ps })
+    → IsBetween source ss s → IsQuiet s → ps ≡ os ++ Some s ∷ [] → IsWorld (record { source = source; fresh = fresh; relays = ss; sessions = ps })
 world_opened source fresh ss os ps s w between heard ps_is =
     subst (λ (x : List (Option Session)). IsWorld (record { source = source; fresh = fresh; relays = ss; sessions = x })) (sym ps_is)
     (record { tier = w.tier; sessions = all_push (IsOpen source ss) os (Some s) w.sessions (between, heard) })
@@ -133,8 +140,11 @@ opened_between source node ss relay upstream asked s tier node_is is_relay is_no
       led = subst (λ n. IsLed source (node_at source ss n) s) (sym opens.ends.1) (subst (λ (n : Stored). IsLed source n s) node_is led);
     }
 
-pub opened_quiet : (f : FoldedValue) (relay upstream asked : ℕ) (s : Session) → Opens f relay upstream asked s → IsHeardOut s
-opened_quiet f relay upstream asked s opens = ap (λ (l : Line). l.framing.waiting) opens.reply.2 ∙ opens.idle.0.0
+pub opened_quiet : (f : FoldedValue) (relay upstream asked : ℕ) (s : Session) → Opens f relay upstream asked s → IsQuiet s
+opened_quiet f relay upstream asked s opens = record {
+  heard = ap (λ (l : Line). l.framing.waiting) opens.reply.2 ∙ opens.idle.0.0;
+  whole = subst IsWhole (sym (ap (λ (l : Line). l.framing.ending) opens.reply.2 ∙ opens.idle.0.1)) tt;
+}
 
 -- a relay's store is the node of its number
 pub relay_at : (source : Stored) (ss : List Stored) (r : ℕ) (d : Stored) → 0 < r → r ≤ length ss → get_or ss (r - 1) d ≡ node_at source ss r

@@ -19,12 +19,13 @@ use Rattle.ovs_world.specs.declared.session.Session.{Session}
 -- ---- nodes
 
 extends_itself : (s : Stored) → IsStore s → Extends s s
-extends_itself s is = record { schema = refl; store = is; prefix = ([], append-nil s.folded) }
+extends_itself s is = record { schema = refl; store = is; keeps = λ l h. h; prefix = ([], append-nil s.folded) }
 
 extends_on : (s t u : Stored) → Extends s t → Extends t u → Extends s u
 extends_on s t u a b = record {
   schema = b.schema ∙ a.schema;
   store = b.store;
+  keeps = λ l h. b.keeps l (a.keeps l h);
   prefix = (a.prefix.0 ++ b.prefix.0, sym (append_assoc s.folded a.prefix.0 b.prefix.0) ∙ ap (λ (ls : List Link). ls ++ b.prefix.0) a.prefix.1 ∙ b.prefix.1);
 }
 

@@ -2,7 +2,7 @@
 use Rattle.std.specs.Prelude.{◌≡◌, ℕ, List, [], ◌∷◌, ◌++◌, Option, Some, None, All, take, drop}
 use Rattle.std.specs.List.{AllZip}
 use Rattle.ovs_wire.specs.declared.message.Message.{Message}
-use Rattle.ovs_wire.specs.Frames.{IsObject}
+use Rattle.ovs_wire.specs.Frames.{IsObject, IsTooLarge, Ending, Rest, Fault}
 use Rattle.ovs_wire.specs.Framing.{Framing, IsNew, Feeds, Takes}
 use Rattle.ovs_wire.specs.Texts.{Remain}
 use Rattle.ovs_wire.specs.Message.{Says, IsWritten}
@@ -39,6 +39,24 @@ Receives old m new = (text : List ℕ) × Says text m × Takes old.framing text 
 abbrev pub Moves : Line → ℕ → Line → Type 0
 Moves old n new = Feeds old.framing (take n old.flight) new.framing × (new.flight ≡ drop n old.flight)
 
+-- no fault has come
+abbrev pub IsWhole : Ending → Type 0
+IsWhole (Rest rest) = Unit {0}
+IsWhole (Fault fault) = ⊥
+
+abbrev pub IsFaulty : Ending → Type 0
+IsFaulty (Rest rest) = ⊥
+IsFaulty (Fault fault) = Unit {0}
+
+-- one of the first n bytes in flight is a fault; what was whole before it waits, and nothing more is framed
+pub record Chokes (old : Line) (n : ℕ) (new : Line) : Type 0 where
+  pub fed : Feeds old.framing (take n old.flight) new.framing
+  pub faulty : IsFaulty new.framing.ending
+
+-- the message's text is above the limits
+abbrev pub IsLarge : Message → Type 0
+IsLarge message = (text : List ℕ) × IsWritten message text × IsTooLarge text
+
 -- these messages were sent and weren't taken out yet: those that are whole at the receiving end, and those of which
 -- bytes are still to come, or of which the first is above the limits
 pub record Carries (line : Line) (messages : List Message) : Type 0 where
@@ -46,3 +64,12 @@ pub record Carries (line : Line) (messages : List Message) : Type 0 where
   pub texts : AllZip IsWritten messages (line.framing.waiting ++ coming)
   pub whole : All IsObject line.framing.waiting
   pub rest : Remain line.framing.ending line.flight coming
+
+-- none of those that are whole is left, and the next of them is above the limits
+pub record MeetsLarge (line : Line) : Type 0 where
+  pub waiting : line.framing.waiting ≡ []
+  pub faulty : IsFaulty line.framing.ending
+  pub message : Message
+  pub more : List Message
+  pub carried : Carries line (message ∷ more)
+  pub large : IsLarge message

@@ -4,10 +4,12 @@ use Rattle.std.specs.List.{AllByRecursion}
 use Rattle.ovs_links.specs.Steps.{FoldedValue}
 use Rattle.ovs_links.specs.Store.{Stored}
 use Rattle.ovs_links.specs.declared.link.Link.{Link}
-use Rattle.ovs_world.specs.Carrying.{Line, Moves}
+use Rattle.ovs_world.specs.Carrying.{Line, Moves, Chokes, MeetsLarge, IsWhole}
 use Rattle.ovs_world.specs.Leading.{IsLed}
-use Rattle.ovs_world.specs.Nodes.{IsTier, node_at, folded_in, held, plus, counts_of}
-use Rattle.ovs_world.specs.Sessions.{Pumps, HearsNext, with_line}
+use Rattle.ovs_world.specs.Nodes.{IsTier, Grow, node_at, folded_in, held, plus, counts_of}
+use Rattle.ovs_world.specs.declared.error.WorldError.{WorldError}
+use Rattle.ovs_world.specs.declared.error.WorldError.TheVariants.{TooLarge, NoMemory}
+use Rattle.ovs_world.specs.Sessions.{Pumps, HearsNext, AsksLargeNext, with_line}
 use Rattle.ovs_world.specs.declared.holding.Counts.{Counts}
 use Rattle.ovs_world.specs.declared.session.Session.{Session}
 
@@ -37,6 +39,8 @@ pub data Move : Type 0 where
   Tell : Move
   -- so many of the bytes in flight reach the relay
   Feed : ℕ → Move
+  -- one of the next so many bytes makes a message above the limits; those before it can still be heard
+  Choke : ℕ → Move
   -- the relay hears the first message that is whole, makes these links of it, takes them and settles
   Hear : List Link → Move
 
@@ -46,6 +50,7 @@ Does source Tell a b =
 Does source (Feed n) a b =
     (n ≤ length a.session.downward.flight)
     × ((line : Line) × Moves a.session.downward n line × (b ≡ scene a.relays (with_line a.session line) a.counts))
+Does source (Choke n) a b = (line : Line) × Chokes a.session.downward n line × (b ≡ scene a.relays (with_line a.session line) a.counts)
 Does source (Hear links) a b =
     HearsNext (followed source a) a.session links b.session × (b.relays ≡ holding a.relays (a.session.relay - 1) links)
     × (b.counts ≡ plus a.counts (counts_of (node_at source a.relays a.session.relay) links))
@@ -55,22 +60,24 @@ abbrev pub DoesAll : Stored → List Move → Scene → Scene → Type 0
 DoesAll source [] a b = b ≡ a
 DoesAll source (v ∷ vs) a c = (b : Scene) × Does source v a b × DoesAll source vs b c
 
--- how many bytes were fed
+-- how many bytes reached the relay
 abbrev pub fed_by : List Move → ℕ
 fed_by [] = 0
 fed_by (Tell ∷ vs) = fed_by vs
 fed_by (Feed n ∷ vs) = n + fed_by vs
+fed_by (Choke n ∷ vs) = n + fed_by vs
 fed_by (Hear links ∷ vs) = fed_by vs
 
--- moves that feed so many bytes
+-- moves by which so many bytes reach the relay
 abbrev pub Leads : Stored → ℕ → Scene → Scene → Type 0
 Leads source n a b = (moves : List Move) × DoesAll source moves a b × (fed_by moves ≡ n)
 
 -- ---- a delivery
 
--- no message waits to be heard
-abbrev pub IsHeardOut : Session → Type 0
-IsHeardOut s = s.downward.framing.waiting ≡ []
+-- no message waits to be heard, and none above the limits has come
+pub record IsQuiet (s : Session) : Type 0 where
+  pub heard : s.downward.framing.waiting ≡ []
+  pub whole : IsWhole s.downward.framing.ending
 
 -- nothing is in flight, and nothing is left to be told
 abbrev pub IsToldOut : FoldedValue → Session → Type 0
@@ -81,8 +88,38 @@ pub record Delivers (source : Stored) (n : ℕ) (a b : Scene) : Type 0 where
   pub fed : ℕ
   pub within : fed ≤ n
   pub moves : Leads source fed a b
-  pub heard : IsHeardOut b.session
+  pub quiet : IsQuiet b.session
   pub ends : (fed ≡ n) ⊎ IsToldOut (followed source b) b.session
+
+-- ---- a delivery that breaks off
+
+-- the first message that waits isn't heard: what the relay has to ask is above the limits; or memory ran out
+abbrev pub StopsHearing : Session → List Stored → WorldError → List Stored → Type 0
+StopsHearing s relays TooLarge left = AsksLargeNext s × (left ≡ relays)
+StopsHearing s relays NoMemory left = Unit {0}
+StopsHearing s relays e left = ⊥
+
+-- the same of a later one, to which moves lead
+abbrev pub StopsHearingAll : Stored → Scene → WorldError → List Stored → Type 0
+StopsHearingAll source a TooLarge left = (b : Scene) × Leads source 0 a b × AsksLargeNext b.session × (left ≡ b.relays)
+StopsHearingAll source a NoMemory left = Unit {0}
+StopsHearingAll source a e left = ⊥
+
+-- the next message is above the limits, and those before it were heard; or what the relay has to ask at the next one is
+pub record MeetsTooLarge (source : Stored) (n : ℕ) (a : Scene) (relays : List Stored) : Type 0 where
+  pub fed : ℕ
+  pub within : fed ≤ n
+  pub at : Scene
+  pub moves : Leads source fed a at
+  pub large : MeetsLarge at.session.downward ⊎ AsksLargeNext at.session
+  pub left : relays ≡ at.relays
+
+-- why it breaks off, and which relays it leaves: want of memory may come at each move, and of the links that were heard
+-- some may be taken then
+abbrev pub BreaksOff : Stored → ℕ → Scene → WorldError → List Stored → Type 0
+BreaksOff source n a TooLarge relays = MeetsTooLarge source n a relays
+BreaksOff source n a NoMemory relays = Grow a.relays relays
+BreaksOff source n a e relays = ⊥
 
 -- ---- what is so of a session between two nodes
 

@@ -7,4 +7,5 @@ pub mod Sessions
 pub mod Leading
 pub mod Deliveries
 pub mod Worlds
+pub mod Steps
 pub mod Headline

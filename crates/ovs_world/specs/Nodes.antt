@@ -1,10 +1,10 @@
 -- The nodes of a tier: a source, and relays with links of its chain.
-use Rattle.std.specs.Prelude.{◌≡◌, ◌+◌, ◌-◌, ◌^◌, ℕ, min, List, ◌∷◌, length, take, slice_index_or}
+use Rattle.std.specs.Prelude.{◌≡◌, ◌⊎◌, ◌+◌, ◌-◌, ◌^◌, ℕ, min, List, ◌∷◌, Ok, length, take, slice_index_or, slice_set}
 use Rattle.std.specs.List.{AllByRecursion, AllZip}
 use Rattle.std.specs.FinMap.{len}
 use Rattle.ovs_links.specs.Chains.{IsPrefixOf}
-use Rattle.ovs_links.specs.Outcomes.{taken_all}
-use Rattle.ovs_links.specs.Settling.{after_settle}
+use Rattle.ovs_links.specs.Outcomes.{taken_all, merge_answer, merged}
+use Rattle.ovs_links.specs.Settling.{KeepsLinks, after_settle}
 use Rattle.ovs_links.specs.Sets.{Holds, Among}
 use Rattle.ovs_links.specs.Steps.{FoldedValue, folded_of}
 use Rattle.ovs_links.specs.Store.{Stored, IsStore, IsChainOf}
@@ -25,10 +25,11 @@ pub record IsNode (source s : Stored) : Type 0 where
 abbrev pub IsSettled : Stored → Type 0
 IsSettled s = IsChainOf s s.folded
 
--- the same store later: what was folded is
+-- the same store later: what was held is, and what was folded is
 pub record Extends (s t : Stored) : Type 0 where
   pub schema : t.schema ≡ s.schema
   pub store : IsStore t
+  pub keeps : (l : Link) → Holds s.links l → Holds t.links l
   pub prefix : IsPrefixOf s.folded t.folded
 
 -- the store after it took links, and settled
@@ -52,6 +53,23 @@ node_at source relays n = slice_index_or (source ∷ relays) n source
 -- what a node has folded
 abbrev pub folded_in : Stored → FoldedValue
 folded_in s = folded_of s.schema s.folded
+
+-- ---- links of another node
+
+-- after want of memory: as it was, or with the links of the other, of which less is folded than could be
+abbrev pub LeavesMerge : Stored → Stored → Stored → Type 0
+LeavesMerge s other t = (t ≡ s) ⊎ KeepsLinks (merged s other) t
+
+-- a relay has the links of another node too, and has settled
+abbrev pub MergesNodes : Stored → List Stored → ℕ → ℕ → List Stored → Type 0
+MergesNodes source relays into from new =
+    (merge_answer (node_at source relays into).links (node_at source relays from).links ≡ Ok tt)
+    × (new ≡ slice_set relays (into - 1) (after_settle (merged (node_at source relays into) (node_at source relays from))))
+
+-- the same after want of memory
+abbrev pub LeavesMergeOfNodes : Stored → List Stored → ℕ → ℕ → List Stored → Type 0
+LeavesMergeOfNodes source relays into from new =
+    (store : Stored) × LeavesMerge (node_at source relays into) (node_at source relays from) store × (new ≡ slice_set relays (into - 1) store)
 
 -- ---- counts, each of which stays at its last value
 

@@ -12,7 +12,9 @@ use Rattle.ovs_upstream.specs.declared.up_event.UpEvent.TheVariants.{Links, Send
 use Rattle.ovs_upstream.specs.declared.up_session.Stage.{Stage}
 use Rattle.ovs_wire.specs.declared.message.Message.{Message}
 use Rattle.ovs_world.specs.Asking.{schema_reply}
-use Rattle.ovs_world.specs.Carrying.{Line, IsIdle, Sends, SendsAll, SendsAny, Receives}
+use Rattle.ovs_world.specs.Carrying.{Line, IsIdle, IsLarge, Chokes, Sends, SendsAll, SendsAny, Receives}
+use Rattle.ovs_world.specs.declared.error.WorldError.{WorldError}
+use Rattle.ovs_world.specs.declared.error.WorldError.TheVariants.{TooLarge, NoMemory}
 use Rattle.ovs_world.specs.declared.session.Session.{Session}
 
 -- a request reaches the node at once, whole, and what the node replies from all that it has folded is in flight
@@ -76,3 +78,51 @@ pub record HearsNext (f : FoldedValue) (old : Session) (links : List Link) (new 
   pub line : Line
   pub received : Receives old.downward message line
   pub hears : Hears f (with_line old line) message links new
+
+-- ---- what ends a session
+
+-- memory ran out, or this message is above the limits
+abbrev pub IsNotPassed : Message → WorldError → Type 0
+IsNotPassed message TooLarge = IsLarge message
+IsNotPassed message NoMemory = Unit {0}
+IsNotPassed message e = ⊥
+
+-- the same of what an event sends
+abbrev pub IsNotSent : UpEvent → WorldError → Type 0
+IsNotSent (Links ls) e = ⊥
+IsNotSent (Send m) e = IsNotPassed m e
+IsNotSent (ReplyFor n a) e = ⊥
+IsNotSent (Locked name) e = ⊥
+IsNotSent (Stolen name) e = ⊥
+IsNotSent Nothing e = ⊥
+
+-- memory ran out, and nothing reached the relay; or one of the next n bytes makes a message above the limits
+abbrev pub IsNotFed : Session → ℕ → WorldError → Session → Type 0
+IsNotFed old n TooLarge new = Chokes old.downward n new.downward
+IsNotFed old n NoMemory new = new ≡ old
+IsNotFed old n e new = ⊥
+
+-- what the relay has to ask, once it has heard this message, is above the limits
+pub record AsksLarge (s : Session) (message : Message) : Type 0 where
+  pub stage : Stage
+  pub request : Message
+  pub is : hears s.up message ≡ heard stage (Send request)
+  pub large : IsLarge request
+
+-- the same of the first message that waits
+pub record AsksLargeNext (s : Session) : Type 0 where
+  pub message : Message
+  pub line : Line
+  pub received : Receives s.downward message line
+  pub asks : AsksLarge (with_line s line) message
+
+-- memory ran out, or what has to be asked is above the limits
+abbrev pub IsUnheard : Session → Message → WorldError → Type 0
+IsUnheard s message TooLarge = AsksLarge s message
+IsUnheard s message NoMemory = Unit {0}
+IsUnheard s message e = ⊥
+
+abbrev pub IsUnheardNext : Session → WorldError → Type 0
+IsUnheardNext s TooLarge = AsksLargeNext s
+IsUnheardNext s NoMemory = Unit {0}
+IsUnheardNext s e = ⊥

@@ -1,16 +1,18 @@
--- A world, and what becomes of it at each event.
-use Rattle.std.specs.Prelude.{◌≡◌, ◌≢◌, ◌≤◌, ◌<◌, ◌-◌, ◌⊎◌, ℕ, zero, suc, List, [], ◌∷◌, ◌++◌, Option, Some, None, Result, Ok, length, replicate, slice_get, slice_set}
-use Rattle.std.specs.List.{AllByRecursion}
+-- A world, and what becomes of it where an event happens.
+use Rattle.std.specs.Prelude.{◌≡◌, ◌≢◌, ◌≤◌, ◌<◌, ◌-◌, ◌==◌, ◌||◌, if◌then◌else◌, Bool, true, ℕ, zero, suc, List, [], ◌∷◌, ◌++◌, Option, Some, None, Result, Ok, length, map, replicate, slice_get, slice_set}
+use Rattle.std.specs.List.{AllByRecursion, list_all}
 use Rattle.std.specs.FinMap.{empty}
 use Rattle.ovs_types.specs.Schema.{SchemaValue}
-use Rattle.serde_json.specs.Data.{Data}
-use Rattle.ovs_links.specs.Store.{Stored, head_of}
+use Rattle.serde_json.specs.Data.{Data, array}
+use Rattle.serde_json.specs.View.{items_of}
+use Rattle.ovs_query.specs.Answer.{only_reads, AreResults}
+use Rattle.ovs_links.specs.Store.{Stored, tables_of, head_of, rows_of}
 use Rattle.ovs_links.specs.declared.link.Link.{Link}
 use Rattle.ovs_source.specs.Transacting.{Asked, TransactsTo}
 use Rattle.ovs_source.specs.declared.error.SourceError.{SourceError}
 use Rattle.ovs_source.specs.declared.transacting.Outcome.{Outcome}
-use Rattle.ovs_world.specs.Deliveries.{scene, Delivers, IsBetween, IsHeardOut}
-use Rattle.ovs_world.specs.Nodes.{IsTier, Grow, node_at, folded_in, no_counts}
+use Rattle.ovs_world.specs.Deliveries.{scene, Delivers, IsBetween, IsQuiet}
+use Rattle.ovs_world.specs.Nodes.{IsTier, IsSettled, MergesNodes, node_at, folded_in, no_counts}
 use Rattle.ovs_world.specs.Sessions.{Opens}
 use Rattle.ovs_world.specs.declared.holding.Counts.{Counts}
 use Rattle.ovs_world.specs.declared.session.Session.{Session}
@@ -32,13 +34,17 @@ new_world schema relays = record { source = empty_store schema; fresh = 1; relay
 
 abbrev pub IsOpen : Stored → List Stored → Option Session → Type 0
 IsOpen source relays None = Unit {0}
-IsOpen source relays (Some s) = IsBetween source relays s × IsHeardOut s
+IsOpen source relays (Some s) = IsBetween source relays s × IsQuiet s
 
 pub record IsWorld (w : WorldValue) : Type 0 where
   pub tier : IsTier w.source w.relays
   pub sessions : AllByRecursion (IsOpen w.source w.relays) w.sessions
 
 -- ---- nodes and sessions by their numbers
+
+-- how many relays a world may have
+abbrev pub IsCount : ℕ → Type 0
+IsCount n = (0 < n) × (n ≤ 9)
 
 abbrev pub HasNode : WorldValue → ℕ → Type 0
 HasNode w n = n ≤ length w.relays
@@ -52,6 +58,10 @@ AreTwo w relay other = HasRelay w relay × HasNode w other × (relay ≢ other)
 
 abbrev pub node_of : WorldValue → ℕ → Stored
 node_of w n = node_at w.source w.relays n
+
+-- each node has folded the longest chain of its links
+abbrev pub AreSettled : WorldValue → Type 0
+AreSettled w = (n : ℕ) → IsSettled (node_of w n)
 
 -- sessions are counted from 1
 abbrev pub IsOpenAt : List (Option Session) → ℕ → Session → Type 0
@@ -107,13 +117,30 @@ pub record Cuts (w : WorldValue) (number : ℕ) (v : WorldValue) : Type 0 where
   pub is_open : IsOpenAt w.sessions number before
   pub world : v ≡ with_sessions w (slice_set w.sessions (number - 1) None)
 
--- the delivery stops, and the session is cut: what the relays took before stays
-pub record StopsDelivery (w : WorldValue) (number : ℕ) (v : WorldValue) : Type 0 where
-  pub before : Session
-  pub is_open : IsOpenAt w.sessions number before
-  pub grow : Grow w.relays v.relays
-  pub world : v ≡ with_relays w v.relays (slice_set w.sessions (number - 1) None)
+-- the session, unless the relay is one of its ends
+abbrev pub cut_of : ℕ → Option Session → Option Session
+cut_of relay None = None
+cut_of relay (Some s) = if s.relay == relay || s.upstream == relay then None else Some s
 
--- nothing is delivered where no session of this number is open
-abbrev pub IsUndone : WorldValue → ℕ → WorldValue → Type 0
-IsUndone w number v = (NoneIsOpenAt w.sessions number × (v ≡ w)) ⊎ StopsDelivery w number v
+-- a relay begins anew with no link, and the sessions of which it is an end are cut
+pub record Restarts (w : WorldValue) (relay : ℕ) (v : WorldValue) : Type 0 where
+  pub node : HasRelay w relay
+  pub world : v ≡ with_relays w (slice_set w.relays (relay - 1) (empty_store w.source.schema)) (map (cut_of relay) w.sessions)
+
+-- a relay gets the links of another node, and settles
+pub record Merges (w : WorldValue) (into from : ℕ) (v : WorldValue) : Type 0 where
+  pub nodes : AreTwo w into from
+  pub merges : MergesNodes w.source w.relays into from v.relays
+  pub world : v ≡ with_relays w v.relays w.sessions
+
+-- the operations only read
+abbrev pub only_read : List Data → Bool
+only_read operations = list_all only_reads operations
+
+-- a node answers operations that only read, each from its database
+pub record Reads (w : WorldValue) (node : ℕ) (operations : List Data) (results : Data) : Type 0 where
+  pub node_is : HasNode w node
+  pub reads : only_read operations ≡ true
+  pub answers : List Data
+  pub all : results ≡ array (items_of answers)
+  pub each : AreResults (tables_of (node_of w node)) (rows_of (node_of w node)) operations answers

@@ -1,8 +1,8 @@
 //! Deliveries: what a node tells reaches the relay that follows it, byte by byte.
 
-ghost use Rattle.std.specs.Prelude.{◌≡◌, true, false, List, Ok, IfOk, OnOk};
+ghost use Rattle.std.specs.Prelude.{◌≡◌, [], true, false, List, Ok, IfOk, IfErr, OnOk};
 ghost use Rattle.ovs_links.specs.declared.link.Link.{Link};
-ghost use Rattle.ovs_world.specs.Deliveries.{scene, Hear, Does, Leads, Delivers, IsHeardOut, IsScene};
+ghost use Rattle.ovs_world.specs.Deliveries.{scene, Hear, Does, Leads, Delivers, IsQuiet, IsScene, StopsHearing, StopsHearingAll, BreaksOff};
 ghost use Rattle.ovs_world.specs.Nodes.{IsTier, Grow, no_counts};
 
 use crate::error::WorldError;
@@ -24,7 +24,9 @@ fn hear_next(
     ensures grow { Grow relays.old relays.new }
     ensures scene { OnOk result (IsScene source.now relays.new session.new) }
     ensures heard { result ≡ Ok true → (links : List Link) × Does source.now (Hear links) (scene relays.old session.old counts.old) (scene relays.new session.new counts.new) }
-    ensures none { result ≡ Ok false → IsHeardOut session.old × (scene relays.new session.new counts.new ≡ scene relays.old session.old counts.old) }
+    ensures ending { OnOk result (session.new.downward.framing.ending ≡ session.old.downward.framing.ending) }
+    ensures refused { IfErr result (λ e. StopsHearing session.old relays.old e relays.new) }
+    ensures none { result ≡ Ok false → (session.old.downward.framing.waiting ≡ []) × (scene relays.new session.new counts.new ≡ scene relays.old session.old counts.old) }
 {
     let followed = node(source, relays, session.upstream);
     let Some(links) = session.hear_next(alloc, followed)? else {
@@ -48,7 +50,9 @@ fn hear_all(
     ensures grow { Grow relays.old relays.new }
     ensures scene { OnOk result (IsScene source.now relays.new session.new) }
     ensures leads { OnOk result (Leads source.now 0 (scene relays.old session.old counts.old) (scene relays.new session.new counts.new)) }
-    ensures heard { OnOk result (IsHeardOut session.new) }
+    ensures heard { OnOk result (session.new.downward.framing.waiting ≡ []) }
+    ensures ending { OnOk result (session.new.downward.framing.ending ≡ session.old.downward.framing.ending) }
+    ensures refused { IfErr result (λ e. StopsHearingAll source.now (scene relays.old session.old counts.old) e relays.new) }
 {
     loop {
         if !hear_next(alloc, source, relays, session, counts)? {
@@ -61,8 +65,8 @@ fn hear_all(
 /// told yet. How many links the relay was told that were new to it, and how many that weren't.
 ///
 /// # Errors
-/// `TooLarge` at the byte that makes a message larger than the limits, after those before it were heard; `Full` where the
-/// relay's store has no room for a link; `NoMemory`. The session can't go on then.
+/// `TooLarge` at the byte that makes a message larger than the limits, after those before it were heard, or where what the
+/// relay has to ask is larger; `NoMemory`. The session can't go on then.
 pub(crate) fn deliver(
     alloc: Global,
     source: &LinkStore,
@@ -71,11 +75,12 @@ pub(crate) fn deliver(
     n: usize,
 ) -> Result<Counts, WorldError>
     requires scene { IsScene source.now relays.old session.old }
-    requires heard { IsHeardOut session.old }
+    requires quiet { IsQuiet session.old }
     ensures tier { IsTier source.now relays.new }
     ensures grow { Grow relays.old relays.new }
     ensures scene { OnOk result (IsScene source.now relays.new session.new) }
     ensures delivers { IfOk result (λ counts. Delivers source.now n (scene relays.old session.old no_counts) (scene relays.new session.new counts)) }
+    ensures refused { IfErr result (λ e. BreaksOff source.now n (scene relays.old session.old no_counts) e relays.new) }
 {
     let mut counts = Counts::none();
     let mut left = n;

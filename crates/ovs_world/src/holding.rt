@@ -1,16 +1,18 @@
 //! Stores of the nodes: which one is meant, and what becomes of links that a relay is told.
 
-ghost use Rattle.std.specs.Prelude.{◌≡◌, ◌≤◌, ◌⊎◌, ℕ, IfOk, length};
+ghost use Rattle.std.specs.Prelude.{◌≡◌, ◌≢◌, ◌≤◌, ◌<◌, ℕ, Ok, IfOk, IfErr, OnOk, length};
 ghost use Rattle.ovs_links.specs.declared.answer.By.{By};
 ghost use Rattle.ovs_links.specs.declared.answer.TakeError.TheVariants as TakeError;
 ghost use Rattle.ovs_links.specs.declared.link.Link.{Link};
+ghost use Rattle.ovs_links.specs.Outcomes.{merge_answer, merged};
+ghost use Rattle.ovs_links.specs.Settling.{after_settle};
 ghost use Rattle.ovs_links.specs.Sets.{AllOf, Among, IsOfTables};
 ghost use Rattle.ovs_links.specs.Store.{Stored, IsStore, tables_of};
 ghost use Rattle.ovs_source.specs.Commits.{IsSource};
-ghost use Rattle.ovs_world.specs.Nodes.{IsNode, Extends, held, node_at, plus, counts_of, no_counts};
+ghost use Rattle.ovs_world.specs.Nodes.{IsNode, IsTier, Extends, Grow, LeavesMerge, MergesNodes, LeavesMergeOfNodes, held, node_at, plus, counts_of, no_counts};
 
 use crate::error::WorldError;
-use ovs_links::{Link, LinkStore, TakeError, take_all};
+use ovs_links::{Link, LinkStore, MergeError, TakeError, take_all};
 use std::alloc::Global;
 
 /// How many links a relay was told that it didn't hold, and how many that it did. Each count stays at its last value.
@@ -49,30 +51,31 @@ pub(crate) fn node<'a>(source: &'a LinkStore, relays: &'a [LinkStore], n: usize)
 
 // What is told where a link isn't taken.
 fn refusal_of(error: TakeError) -> WorldError
-    requires no_fork { (l : Link) (by : By) (p i : ℕ) → error ≡ TakeError.Fork l by p i → ⊥ }
-    ensures told { (result ≡ WorldError.Full) ⊎ (result ≡ WorldError.NoMemory) }
+    requires memory { (l : Link) (by : By) (p i : ℕ) → (error ≢ TakeError.Fork l by p i) × (error ≢ TakeError.Full l) }
+    ensures told { result ≡ WorldError.NoMemory }
 {
     match error {
-        TakeError::Full { .. } => WorldError::Full,
         TakeError::NoMemory { .. } => WorldError::NoMemory,
         TakeError::Fork { .. } => unreachable!(),
+        TakeError::Full { .. } => unreachable!(),
     }
 }
 
-/// Takes links, and settles, also where a link was refused.
+/// Takes links of the source, and settles, also where memory ran out for one.
 ///
 /// # Errors
-/// `Full` or `NoMemory`. The links before the refused one are held.
+/// `NoMemory`: some of the links are held then, and less is folded than could be.
 pub(crate) fn hold(
     alloc: Global,
     store: &mut LinkStore,
     links: Vec<Link>,
 ) -> Result<Counts, WorldError>
-    requires node { (source : Stored) × IsSource source × IsNode source store.old × AllOf (Among source.folded) links.items }
+    requires node { (source : Stored) × IsSource source × IsStore source × IsNode source store.old × AllOf (Among source.folded) links.items }
     requires of_tables { AllOf (IsOfTables (tables_of store.old)) links.items }
     ensures held { IfOk result (λ counts. (store.new ≡ held store.old links.items) × (counts ≡ counts_of store.old links.items)) }
     ensures node { (source : Stored) → IsSource source → IsNode source store.old → AllOf (Among source.folded) links.items → IsNode source store.new }
     ensures extends { Extends store.old store.new }
+    ensures memory { IfErr result (λ e. e ≡ WorldError.NoMemory) }
 {
     let before = store.len();
     let told = links.len();
@@ -91,4 +94,58 @@ pub(crate) fn hold(
         took,
         held: told.saturating_sub(took),
     })
+}
+
+/// Merges the links of another store of the same source, and settles.
+///
+/// # Errors
+/// `NoMemory`: either the store is as it was, or it has the links, and less is folded than could be.
+pub(crate) fn merge_stores(
+    alloc: Global,
+    store: &mut LinkStore,
+    other: &LinkStore,
+) -> Result<(), WorldError>
+    requires nodes { (source : Stored) × IsSource source × IsStore source × IsNode source store.old × IsNode source other.now }
+    ensures merged { OnOk result ((merge_answer store.old.links other.now.links ≡ Ok tt) × (store.new ≡ after_settle (merged store.old other.now))) }
+    ensures memory { IfErr result (λ e. (e ≡ WorldError.NoMemory) × LeavesMerge store.old other.now store.new) }
+    ensures node { (source : Stored) → IsSource source → IsStore source → IsNode source store.old → IsNode source other.now → IsNode source store.new }
+    ensures extends { Extends store.old store.new }
+{
+    match store.merge(other) {
+        Ok(()) => {}
+        Err(MergeError::NoMemory) => return Err(WorldError::NoMemory),
+        Err(MergeError::Fork { .. }) => unreachable!(),
+        Err(MergeError::Full) => unreachable!(),
+    }
+    store.settle(alloc)?;
+    Ok(())
+}
+
+/// Merges the links of a node into the store of a relay, which is another, and settles. Their numbers are those of the world.
+///
+/// # Errors
+/// `NoMemory`, as of [`merge_stores`].
+pub(crate) fn merge_nodes(
+    alloc: Global,
+    source: &LinkStore,
+    relays: &mut [LinkStore],
+    into: usize,
+    from: usize,
+) -> Result<(), WorldError>
+    requires places { (0 < into) × (into ≤ length relays.old) × (from ≤ length relays.old) × (into ≢ from) }
+    requires tier { IsTier source.now relays.old }
+    ensures merged { OnOk result (MergesNodes source.now relays.old into from relays.new) }
+    ensures memory { IfErr result (λ e. (e ≡ WorldError.NoMemory) × LeavesMergeOfNodes source.now relays.old into from relays.new) }
+    ensures tier { IsTier source.now relays.new }
+    ensures grow { Grow relays.old relays.new }
+{
+    if from == 0 {
+        merge_stores(alloc, &mut relays[into - 1], source)
+    } else if into < from {
+        let (low, high) = relays.split_at_mut(from - 1);
+        merge_stores(alloc, &mut low[into - 1], &high[0])
+    } else {
+        let (low, high) = relays.split_at_mut(into - 1);
+        merge_stores(alloc, &mut high[0], &low[from - 1])
+    }
 }

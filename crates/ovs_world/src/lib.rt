@@ -4,6 +4,7 @@
 mod channel;
 mod delivering;
 mod error;
+mod event;
 mod holding;
 mod laws;
 mod session;
@@ -11,6 +12,7 @@ mod world;
 
 pub use channel::Channel;
 pub use error::WorldError;
+pub use event::{Event, Operations, Reply};
 pub use holding::Counts;
 pub use laws::{a_relay_is_answered, a_relay_is_told_links};
 pub use world::{MAX_RELAYS, World};

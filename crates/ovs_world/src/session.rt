@@ -1,16 +1,16 @@
 //! A session between a relay and the node that it follows: both ends, and what passes between them.
 
-ghost use Rattle.std.specs.Prelude.{◌≡◌, [], List, length, min, None, Some, Ok, Err, IfOk, IfSome, OnOk};
+ghost use Rattle.std.specs.Prelude.{◌≡◌, ◌==◌, ◌||◌, [], List, length, min, None, Some, Ok, Err, IfOk, IfErr, IfSome, OnOk};
 ghost use Rattle.ovs_types.specs.SchemaReading.{read_description};
 ghost use Rattle.ovs_reader.specs.Telling.{AreToldReadably};
 ghost use Rattle.ovs_source.specs.Commits.{IsSource};
 ghost use Rattle.ovs_wire.specs.declared.message.Message.{Message};
-ghost use Rattle.ovs_world.specs.Carrying.{IsIdle, Moves, Carries};
+ghost use Rattle.ovs_world.specs.Carrying.{IsIdle, IsWhole, Moves, Carries};
 ghost use Rattle.ovs_world.specs.Leading.{IsLed};
 ghost use Rattle.ovs_world.specs.Nodes.{IsNode, folded_in};
-ghost use Rattle.ovs_world.specs.Sessions.{Opens, Asks, Goes, PumpsIdle, Hears, HearsNext, with_line};
+ghost use Rattle.ovs_world.specs.Sessions.{Opens, Asks, Goes, PumpsIdle, Hears, HearsNext, IsNotPassed, IsNotSent, IsNotFed, IsUnheard, IsUnheardNext, with_line};
 ghost use Rattle.ovs_upstream.specs.Hearing.{hears, links_in};
-ghost use Rattle.ovs_upstream.specs.Requests.{CanBeAsked};
+ghost use Rattle.ovs_upstream.specs.Requests.{CanBeAsked, schema_request};
 ghost use Rattle.ovs_upstream.specs.declared.up_session.Heard.{Heard};
 ghost use Rattle.ovs_upstream.specs.declared.up_session.Stage.TheVariants as Stage;
 ghost use Rattle.ovs_links.specs.Sets.{AllOf, Among, IsOfTables};
@@ -60,6 +60,7 @@ impl Session {
         ensures opened { IfOk result (Opens (folded_in node.now) relay upstream asked) }
         ensures shown { IfOk result (λ s. MayBeShown s.reader (folded_in node.now)) }
         ensures says { IfOk result (λ s. read_description s.up.schema.json ≡ Ok s.up.schema.description) }
+        ensures refused { IfErr result (IsNotPassed (schema_request node.now.schema)) }
     {
         let up = UpSession::open(alloc, node.schema(), asked)?;
         let request = up.first_requests(alloc)?.remove(0);
@@ -81,6 +82,7 @@ impl Session {
         requires idle { IsIdle self.old.upward }
         ensures asks { OnOk result (Asks (folded_in node.now) self.old request.now self.new) }
         ensures shown { OnOk result (MayBeShown self.new.reader (folded_in node.now)) }
+        ensures refused { IfErr result (IsNotPassed request.now) }
     {
         let request = self.upward.pass(alloc, request)?;
         let turn = self.reader.take_message(alloc, &request, node.folded())?;
@@ -97,6 +99,7 @@ impl Session {
         ensures pumps { OnOk result (PumpsIdle (folded_in node.now) self.old self.new) }
         ensures shown { OnOk result (MayBeShown self.new.reader (folded_in node.now)) }
         ensures readable { OnOk result (self.old.downward.flight ≡ [] → AreToldReadably self.old.reader.monitors (folded_in node.now).steps) }
+        ensures memory { IfErr result (λ e. e ≡ WorldError.NoMemory) }
     {
         if self.downward.in_flight() > 0 {
             return Ok(());
@@ -104,6 +107,13 @@ impl Session {
         let messages = self.reader.pump(alloc, node.folded())?;
         self.downward.send_all(alloc, &messages)?;
         Ok(())
+    }
+
+    /// Whether the relay or the node that it follows is this one.
+    pub(crate) fn has_end(&self, node: usize) -> bool
+        ensures value { result ≡ (self.now.relay == node || self.now.upstream == node) }
+    {
+        self.relay == node || self.upstream == node
     }
 
     /// How many bytes are on their way to the relay.
@@ -119,6 +129,8 @@ impl Session {
     /// `TooLarge` where they make a message larger than the limits, or `NoMemory`.
     pub(crate) fn feed(&mut self, n: usize) -> Result<usize, WorldError>
         ensures fed { IfOk result (λ fed. (fed ≡ min n (length self.old.downward.flight)) × Moves self.old.downward fed self.new.downward) }
+        ensures whole { OnOk result (IsWhole self.new.downward.framing.ending) }
+        ensures refused { IfErr result (λ e. IsNotFed self.old n e self.new) }
         ensures rest { self.new ≡ with_line self.old self.new.downward }
         ensures carried { (messages : List Message) → Carries self.old.downward messages → Carries self.new.downward messages }
     {
@@ -138,6 +150,7 @@ impl Session {
         requires led { (source : Stored) × IsSource source × IsLed source node.now self.old }
         ensures heard { IfOk result (λ heard. IfSome heard (λ links. HearsNext (folded_in node.now) self.old links.items self.new)) }
         ensures none { result ≡ Ok None → (self.new ≡ self.old) × (self.old.downward.framing.waiting ≡ []) }
+        ensures refused { IfErr result (IsUnheardNext self.old) }
         ensures tables { IfOk result (λ heard. IfSome heard (λ links. AllOf (IsOfTables self.old.up.schema.description.tables) links.items)) }
         ensures led { (source : Stored) → IsSource source → IsNode source node.now → IsLed source node.now self.old
             → IfOk result (λ heard. IfSome heard (λ links. AllOf (Among source.folded) links.items × IsLed source node.now self.new)) }
@@ -163,6 +176,7 @@ impl Session {
         requires shown { MayBeShown self.old.reader (folded_in node.now) }
         requires idle { IsIdle self.old.upward }
         ensures heard { IfOk result (λ links. Hears (folded_in node.now) self.old message links.items self.new) }
+        ensures refused { IfErr result (IsUnheard self.old message) }
         ensures tables { IfOk result (λ links. AllOf (IsOfTables self.old.up.schema.description.tables) links.items) }
         ensures asked { OnOk result (self.old.up.stage ≡ Stage.Opening → self.new.up.stage ≡ Stage.Asking → CanBeAsked self.old.up.schema self.old.up.asked) }
         ensures shown { OnOk result (MayBeShown self.new.reader (folded_in node.now)) }
@@ -185,6 +199,7 @@ impl Session {
         requires shown { MayBeShown self.old.reader (folded_in node.now) }
         requires idle { IsIdle self.old.upward }
         ensures goes { IfOk result (λ links. Goes (folded_in node.now) self.old event self.new × (links.items ≡ links_in event)) }
+        ensures refused { IfErr result (IsNotSent event) }
         ensures up { OnOk result (self.new.up ≡ self.old.up) }
         ensures shown { OnOk result (MayBeShown self.new.reader (folded_in node.now)) }
     {

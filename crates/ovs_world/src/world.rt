@@ -2,19 +2,20 @@
 
 ghost use Rattle.std.specs.Prelude.{◌≡◌, [], ◌++◌, ◌∷◌, ◌-◌, List, Option, Some, None, Ok, Err, IfOk, IfErr, IfSome, map, OnOk, OnErr, replicate, slice_set};
 ghost use Rattle.serde_json.specs.View.{view};
-ghost use Rattle.ovs_source.specs.declared.error.SourceError.{SourceError};
-ghost use Rattle.ovs_world.specs.Refusals.{refusal_of_source};
 ghost use Rattle.ovs_world.specs.Headline.{IsFaithful};
-ghost use Rattle.ovs_world.specs.Nodes.{node_at};
-ghost use Rattle.ovs_world.specs.Worlds.{empty_store, new_world, IsOpenAt, NoneIsOpenAt, AreTwo, Commits, CommitsTo, Connects, Brings, Cuts, IsUndone};
+ghost use Rattle.ovs_world.specs.Nodes.{folded_in};
+ghost use Rattle.ovs_world.specs.Steps.{RefusesCommit, RefusesConnect, RefusesDelivery, RefusesCut, RefusesRestart, RefusesMerge, RefusesRead, RefusesNew, RefusesRun, Steps, IsRun};
+ghost use Rattle.ovs_world.specs.Worlds.{empty_store, new_world, HasNode, IsOpenAt, NoneIsOpenAt, AreSettled, CommitsTo, Connects, Brings, Cuts, Restarts, Merges, Reads, cut_of, node_of};
 
 use crate::delivering::deliver;
 use crate::error::WorldError;
-use crate::holding::{Counts, node};
+use crate::event::{Event, Reply};
+use crate::holding::{Counts, merge_nodes, node};
 use crate::session::Session;
 use ovs_json::Json;
-use ovs_links::LinkStore;
+use ovs_links::{Folded, LinkStore};
 use ovs_locks::LockTable;
+use ovs_query::{read_only, transact_read};
 use ovs_source::{FreshRows, Source};
 use ovs_types::{NoMemory, RowId, Schema, TxnId};
 use serde_json::Value;
@@ -52,6 +53,26 @@ fn push_session(sessions: &mut Vec<Option<Session>>, session: Session) -> Result
 {
     sessions.push(Some(session))?;
     Ok(())
+}
+
+// Cuts a session, if it is open and the relay is one of its ends.
+fn cut_if_end(session: &mut Option<Session>, relay: usize)
+    ensures cut { session.new ≡ cut_of relay session.old }
+{
+    if let Some(open) = session
+        && open.has_end(relay)
+    {
+        *session = None;
+    }
+}
+
+// Cuts each session of which the relay is an end.
+fn cut_sessions_of(sessions: &mut [Option<Session>], relay: usize)
+    ensures cut { sessions.new ≡ map (cut_of relay) sessions.old }
+{
+    for session in sessions.iter_mut() {
+        cut_if_end(session, relay);
+    }
 }
 
 /// A source, relays that follow it or one another, and what is on its way between them. Node 0 is the source, and relays are
@@ -93,6 +114,7 @@ impl World {
     /// `BadCount` unless there are one to nine relays, or `NoMemory`.
     pub fn new(alloc: Global, schema: &Schema, relays: usize) -> Result<World, WorldError>
         ensures value { IfOk result (λ w. w ≡ new_world schema.now relays) }
+        ensures refused { IfErr result (RefusesNew relays) }
     {
         if relays == 0 || relays > MAX_RELAYS {
             return Err(WorldError::BadCount);
@@ -105,16 +127,92 @@ impl World {
         })
     }
 
-    /// The source's store, whose chain is its history.
+    /// A whole story: a new world, to which these events happen, one after another. Each node is settled then, so it has the
+    /// source's database after the longest unbroken chain of the source's links that it holds, and nodes with the same links
+    /// have the same database.
+    ///
+    /// # Errors
+    /// `BadCount` and `NoMemory` as of [`World::new`], and what the first event that is refused is refused for.
+    pub fn run(
+        alloc: Global,
+        schema: &Schema,
+        relays: usize,
+        events: &[Event],
+    ) -> Result<World, WorldError>
+        ensures run { IfOk result (λ w. IsRun (new_world schema.now relays) events.now w) }
+        ensures faithful { IfOk result (λ w. IsFaithful w.source w.relays) }
+        ensures settled { IfOk result AreSettled }
+        ensures refused { IfErr result (RefusesRun schema.now relays events.now) }
+    {
+        let mut world = World::new(alloc, schema, relays)?;
+        for event in events {
+            world.step(alloc, event)?;
+        }
+        Ok(world)
+    }
+
+    /// What the source has folded: its history.
     ///
     /// The links of each node are links of this history. A node that is settled has the source's database after the longest
     /// unbroken chain of the source's links that it holds, and settled nodes with the same links have the same database.
-    pub fn history(&self) -> &LinkStore
-        ensures value { result.now ≡ self.now.source }
+    pub fn history(&self) -> &Folded
+        ensures value { result.now ≡ folded_in self.now.source }
         ensures faithful { IsFaithful self.now.source self.now.relays }
     {
         let _ = &self.relays;
-        self.source.store()
+        self.source.store().folded()
+    }
+
+    /// The store of a node: 0 is the source. `None` where there is no node of this number.
+    pub fn store(&self, node: usize) -> Option<&LinkStore>
+        ensures some { IfSome result (λ store. HasNode self.now node × (store.now ≡ node_of self.now node)) }
+        ensures none { result ≡ None → ¬ (HasNode self.now node) }
+    {
+        if node > self.relays.len() {
+            return None;
+        }
+        Some(crate::holding::node(self.source.store(), &self.relays, node))
+    }
+
+    /// What becomes of an event: the call of its name.
+    ///
+    /// # Errors
+    /// Those of that call.
+    pub fn step(&mut self, alloc: Global, event: &Event) -> Result<Reply, WorldError>
+        ensures steps { Steps self.old event.now result self.new }
+        ensures settled { OnOk result (AreSettled self.old → AreSettled self.new) }
+    {
+        match event {
+            Event::Commit { id, operations } => Ok(Reply::Results(self.commit(
+                alloc,
+                *id,
+                operations.as_slice(),
+            )?)),
+            Event::Connect { relay, upstream } => {
+                Ok(Reply::Session(self.connect(alloc, *relay, *upstream)?))
+            }
+            Event::Deliver { session, bytes } => {
+                let Counts { took, held } = self.deliver(alloc, *session, *bytes)?;
+                Ok(Reply::Took { took, held })
+            }
+            Event::Cut { session } => {
+                self.cut(*session)?;
+                Ok(Reply::Done)
+            }
+            Event::Restart { relay } => {
+                self.restart(alloc, *relay)?;
+                Ok(Reply::Done)
+            }
+            Event::MergeFrom { into, from } => {
+                self.merge(alloc, *into, *from)?;
+                Ok(Reply::Done)
+            }
+            Event::Read { node, operations } => Ok(Reply::Results(self.read(
+                alloc,
+                *node,
+                operations.as_slice(),
+            )?)),
+        }
     }
 
     /// The source carries out operations (RFC 7047 section 4.1.3), for a session that owns no lock. The commit that they make,
@@ -129,7 +227,8 @@ impl World {
         operations: &[Value],
     ) -> Result<Json, WorldError>
         ensures commits { IfOk result (λ results. CommitsTo self.old id (map view operations.now) results self.new) }
-        ensures refused { IfErr result (λ e. (fault : SourceError) × (e ≡ refusal_of_source fault) × Commits self.old id (map view operations.now) (Err fault) self.new) }
+        ensures settled { OnOk result (AreSettled self.old → AreSettled self.new) }
+        ensures refused { IfErr result (λ e. RefusesCommit self.old id (map view operations.now) e self.new) }
     {
         let locks = LockTable::new(alloc);
         let outcome = self
@@ -146,7 +245,8 @@ impl World {
     /// `NoSession` where none of this number is open; nothing is changed then.
     pub fn cut(&mut self, session: usize) -> Result<(), WorldError>
         ensures cuts { OnOk result (Cuts self.old session self.new) }
-        ensures refused { OnErr result (NoneIsOpenAt self.old.sessions session × (self.new ≡ self.old)) }
+        ensures settled { OnOk result (AreSettled self.old → AreSettled self.new) }
+        ensures refused { IfErr result (λ e. RefusesCut self.old session e × (self.new ≡ self.old)) }
     {
         let Some(_open) = take_session(&mut self.sessions, session) else {
             return Err(WorldError::NoSession);
@@ -168,8 +268,8 @@ impl World {
         upstream: usize,
     ) -> Result<usize, WorldError>
         ensures connects { IfOk result (λ number. Connects self.old relay upstream number self.new) }
-        ensures unchanged { OnErr result (self.new ≡ self.old) }
-        ensures nodes { ¬ (AreTwo self.old relay upstream) → result ≡ Err WorldError.NoSuchNode }
+        ensures settled { OnOk result (AreSettled self.old → AreSettled self.new) }
+        ensures refused { IfErr result (λ e. RefusesConnect self.old relay upstream e × (self.new ≡ self.old)) }
     {
         let count = self.relays.len();
         if relay == 0 || relay > count || upstream > count || relay == upstream {
@@ -188,8 +288,8 @@ impl World {
     /// # Errors
     /// `NoSession` where none of this number is open; nothing is changed then. By the others the session is cut, and what
     /// the relay took before stays:
-    /// - `TooLarge`: these bytes make a message above the limits; those before it were heard.
-    /// - `Full`: the relay's store has no room for another link.
+    /// - `TooLarge`: these bytes make a message above the limits, and those before it were heard; or what the relay has to ask
+    ///   then is above them.
     /// - `NoMemory`.
     pub fn deliver(
         &mut self,
@@ -198,8 +298,8 @@ impl World {
         bytes: usize,
     ) -> Result<Counts, WorldError>
         ensures brings { IfOk result (λ counts. Brings self.old session bytes counts self.new) }
-        ensures stopped { OnErr result (IsUndone self.old session self.new) }
-        ensures none { NoneIsOpenAt self.old.sessions session → result ≡ Err WorldError.NoSession }
+        ensures settled { OnOk result (AreSettled self.old → AreSettled self.new) }
+        ensures refused { IfErr result (λ e. RefusesDelivery self.old session bytes e self.new) }
     {
         let Some(mut open) = take_session(&mut self.sessions, session) else {
             return Err(WorldError::NoSession);
@@ -213,5 +313,59 @@ impl World {
         )?;
         self.sessions[session - 1] = Some(open);
         Ok(counts)
+    }
+
+    /// A relay begins anew, with no link, and each session of which it is an end is cut.
+    ///
+    /// # Errors
+    /// `NoSuchNode` where there is no relay of this number, or `NoMemory`. Nothing is changed then.
+    pub fn restart(&mut self, alloc: Global, relay: usize) -> Result<(), WorldError>
+        ensures restarts { OnOk result (Restarts self.old relay self.new) }
+        ensures settled { OnOk result (AreSettled self.old → AreSettled self.new) }
+        ensures refused { IfErr result (λ e. RefusesRestart self.old relay e × (self.new ≡ self.old)) }
+    {
+        if relay == 0 || relay > self.relays.len() {
+            return Err(WorldError::NoSuchNode);
+        }
+        let store = LinkStore::new(alloc, self.source.store().schema())?;
+        cut_sessions_of(&mut self.sessions, relay);
+        self.relays[relay - 1] = store;
+        Ok(())
+    }
+
+    /// A relay gets all links that another node holds, and settles. They are of one history, so none contradicts another.
+    ///
+    /// # Errors
+    /// - `NoSuchNode`: there is no relay of this number, or no other node of that; nothing is changed then.
+    /// - `NoMemory`: either nothing is changed, or the relay has the links, and less is folded than could be.
+    pub fn merge(&mut self, alloc: Global, into: usize, from: usize) -> Result<(), WorldError>
+        ensures merges { OnOk result (Merges self.old into from self.new) }
+        ensures settled { OnOk result (AreSettled self.old → AreSettled self.new) }
+        ensures refused { IfErr result (λ e. RefusesMerge self.old into from e self.new) }
+    {
+        let count = self.relays.len();
+        if into == 0 || into > count || from > count || into == from {
+            return Err(WorldError::NoSuchNode);
+        }
+        merge_nodes(alloc, self.source.store(), &mut self.relays, into, from)
+    }
+
+    /// A node carries out operations that only read, all from the database that it has. The results, one for each operation.
+    ///
+    /// # Errors
+    /// - `NoSuchNode`: there is no node of this number.
+    /// - `NotReadOnly`: an operation is neither a "select" nor a "comment".
+    /// - `NoMemory`.
+    pub fn read(&self, alloc: Global, node: usize, operations: &[Value]) -> Result<Json, WorldError>
+        ensures reads { IfOk result (Reads self.now node (map view operations.now)) }
+        ensures refused { IfErr result (RefusesRead self.now node (map view operations.now)) }
+    {
+        let Some(store) = self.store(node) else {
+            return Err(WorldError::NoSuchNode);
+        };
+        if !read_only(operations) {
+            return Err(WorldError::NotReadOnly);
+        }
+        Ok(Json::new(transact_read(alloc, store.database(), operations)?))
     }
 }

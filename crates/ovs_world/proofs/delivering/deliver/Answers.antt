@@ -1,9 +1,10 @@
-use Rattle.std.proofs.Common.{◌+◌, inl, inr, sym, ◌∙◌, ap, subst, arith}
-use Rattle.ovs_wire.specs.Framing.{Framing}
-use Rattle.ovs_world.specs.Deliveries.{scene, Leads}
+use Rattle.std.proofs.Common.{◌+◌, inl, inr, sym, subst, arith}
+use Rattle.ovs_world.specs.Carrying.{IsWhole}
+use Rattle.ovs_world.specs.Deliveries.{scene, Leads, BreaksOff}
 use Rattle.ovs_world.specs.Nodes.{no_counts}
 use Rattle.ovs_world.specs.declared.holding.Counts.{Counts}
-use Rattle.ovs_world.proofs.Delivered.{pumped_framing, after_pumping, did_pump, told_out, after_feeding, did_feed}
+use Rattle.ovs_world.proofs.Delivered.{pumped_framing, quiet_framing, after_pumping, did_pump, told_out, after_feeding, did_feed}
+use Rattle.ovs_world.proofs.Broken.{err_by, breaks_hearing, feed_leads, breaks_feeding}
 use Rattle.ovs_world.proofs.Moving.{leads_none, leads_on}
 use Rattle.ovs_world.proofs.Scenes.{grow_itself, grow_on}
 use Rattle.ovs_world.proofs.delivering.deliver.Goals as goal
@@ -14,7 +15,7 @@ turns-init c =
     let begun = scene c.args.relays.now c.args.session.now no_counts in
     record {
       stands = c.requires.scene;
-      heard = c.requires.heard;
+      quiet = c.requires.quiet;
       grow = grow_itself source c.args.relays.now c.requires.scene.tier;
       leads = (
         0,
@@ -45,7 +46,7 @@ returns-then-in_flight-eq0-clause-delivers c =
       within = omega (arith, all);
       moves = leads_on source fed 0 (scene c.args.relays.now c.args.session.now no_counts) (scene at.relays at.session at.counts) (scene at.relays t at.counts) at.invariant.leads.2
           (did_pump source node at.relays at.session t stands c.node.ensures.value pumps at.counts);
-      heard = ap (λ (x : Framing). x.waiting) (pumped_framing _ at.session t pumps) ∙ at.invariant.heard;
+      quiet = quiet_framing at.session t (pumped_framing _ at.session t pumps) at.invariant.quiet;
       ends = inr (told_out source node at.relays at.session t stands c.node.ensures.value pumps (omega (arith, long, none)) at.counts);
     }
 
@@ -81,7 +82,10 @@ turns-preserved c =
     (did_feed source at.relays t u at.counts k (omega (arith, least)) c.feed-fed.ensures.rest c.in_ok-left.ensures.fed.1) in
     record {
       stands = c.in_ok-hear_all.ensures.scene;
-      heard = c.in_ok-hear_all.ensures.heard;
+      quiet = record {
+        heard = c.in_ok-hear_all.ensures.heard;
+        whole = subst IsWhole (sym c.in_ok-hear_all.ensures.ending) c.in_ok-left.ensures.whole;
+      };
       grow = grow_on c.args.relays.now at.relays c.hear_all.new.relays at.invariant.grow c.hear_all.ensures.grow;
       leads = (
         fed + 0 + k + 0,
@@ -98,6 +102,42 @@ returns-clause-delivers c =
       fed = c.turns.invariant.leads.0;
       within = omega (arith, all);
       moves = c.turns.invariant.leads.2;
-      heard = c.turns.invariant.heard;
+      quiet = c.turns.invariant.quiet;
       ends = inl (omega (arith, all, none));
     }
+
+pub returns-in_err-hear_all-clause-refused : goal.returns-in_err-hear_all-clause-refused
+returns-in_err-hear_all-clause-refused c =
+    let source = c.args.source.now in
+    let at = c.turns in
+    let t = c.pump.new.self in
+    let u = c.feed-fed.new.self in
+    let e = c.in_err-hear_all.field-0.0 in
+    let fed = at.invariant.leads.0 in
+    let all = at.invariant.leads.1 in
+    let begun = scene c.args.relays.now c.args.session.now no_counts in
+    let told = leads_on source fed 0 begun (scene at.relays at.session at.counts) (scene at.relays t at.counts) at.invariant.leads.2
+    (did_pump source c.node.result.now at.relays at.session t at.invariant.stands c.node.ensures.value c.in_ok-pump.ensures.pumps at.counts) in
+    let came = feed_leads source at.relays t u at.counts at.left c.feed-fed.result c.feed-fed.ensures.rest c.feed-fed.ensures.fed c.feed-fed.ensures.refused in
+    let some = came.1 in
+    err_by c.from_residual-in_err-hear_all.result e (λ x. BreaksOff source c.args.n begun x c.hear_all.new.relays) c.from_residual-in_err-hear_all.ensures.1
+    (breaks_hearing source c.args.n (fed + 0 + came.0) begun (scene at.relays u at.counts) e c.hear_all.new.relays (omega (arith, all, some))
+    (leads_on source (fed + 0) came.0 begun (scene at.relays t at.counts) (scene at.relays u at.counts) told came.2)
+    (grow_on c.args.relays.now at.relays c.hear_all.new.relays at.invariant.grow c.hear_all.ensures.grow) c.in_err-hear_all.ensures.refused)
+
+pub returns-in_err-left-clause-refused : goal.returns-in_err-left-clause-refused
+returns-in_err-left-clause-refused c =
+    let source = c.args.source.now in
+    let at = c.turns in
+    let t = c.pump.new.self in
+    let u = c.feed-fed.new.self in
+    let e = c.in_err-left.field-0.0 in
+    let fed = at.invariant.leads.0 in
+    let all = at.invariant.leads.1 in
+    let begun = scene c.args.relays.now c.args.session.now no_counts in
+    let told = leads_on source fed 0 begun (scene at.relays at.session at.counts) (scene at.relays t at.counts) at.invariant.leads.2
+    (did_pump source c.node.result.now at.relays at.session t at.invariant.stands c.node.ensures.value c.in_ok-pump.ensures.pumps at.counts) in
+    err_by c.from_residual-in_err-left.result e (λ x. BreaksOff source c.args.n begun x c.hear_all.new.relays) c.from_residual-in_err-left.ensures.1
+    (breaks_feeding source c.args.n (fed + 0) at.left begun at.relays c.hear_all.new.relays t u c.hear_all.new.session at.counts c.hear_all.new.counts e (omega (arith, all)) told
+    c.feed-fed.ensures.rest c.in_ok-hear_all.ensures.leads c.in_ok-hear_all.ensures.scene c.in_ok-hear_all.ensures.heard c.in_ok-hear_all.ensures.ending
+    (grow_on c.args.relays.now at.relays c.hear_all.new.relays at.invariant.grow c.hear_all.ensures.grow) c.in_err-left.ensures.refused)

@@ -1,5 +1,5 @@
 use Rattle.std.proofs.Common.{◌≡◌, ◌+◌, ℕ}
-use Rattle.ovs_world.specs.Deliveries.{scene, Leads, IsHeardOut, IsScene}
+use Rattle.ovs_world.specs.Deliveries.{scene, Leads, IsQuiet, IsScene}
 use Rattle.ovs_world.specs.Nodes.{Grow, no_counts}
 use Rattle.ovs_world.proofs.delivering.deliver.Given as goal
 
@@ -7,7 +7,7 @@ use Rattle.ovs_world.proofs.delivering.deliver.Given as goal
 abbrev pub invariant-turns : goal.invariant-turns
 invariant-turns l = record {
   stands : IsScene l.source l.relays l.session;
-  heard : IsHeardOut l.session;
+  quiet : IsQuiet l.session;
   grow : Grow l.fn.relays l.relays;
   leads : (fed : ℕ) × (fed + l.left ≡ l.n) × Leads l.source fed (scene l.fn.relays l.fn.session no_counts) (scene l.relays l.session l.counts);
 }

@@ -1,4 +1,4 @@
-use Rattle.std.proofs.Common.{Ok, refl, ap}
+use Rattle.std.proofs.Common.{◌∙◌, Ok, refl, ap}
 use Rattle.ovs_world.specs.Deliveries.{scene, Hear}
 use Rattle.ovs_world.proofs.Delivered.{hears_fewer}
 use Rattle.ovs_world.proofs.Moving.{leads_none, leads_one, leads_on}
@@ -9,6 +9,7 @@ pub loop-init : goal.loop-init
 loop-init c = record {
   stands = c.requires.scene;
   grow = grow_itself c.args.source.now c.args.relays.now c.requires.scene.tier;
+  ending = refl;
   leads = leads_none c.args.source.now (scene c.args.relays.now c.args.session.now c.args.counts.now);
 }
 
@@ -29,5 +30,9 @@ loop-preserved c =
     record {
       stands = c.in_ok-hear_next.ensures.scene;
       grow = grow_on c.args.relays.now c.loop.relays c.hear_next.new.relays c.loop.invariant.grow c.hear_next.ensures.grow;
+      ending = c.in_ok-hear_next.ensures.ending ∙ c.loop.invariant.ending;
       leads = leads_on c.args.source.now 0 0 begun before after c.loop.invariant.leads (leads_one c.args.source.now (Hear h.0) before after 0 refl h.1);
     }
+
+pub returns-then-not-branch-clause-ending : goal.returns-then-not-branch-clause-ending
+returns-then-not-branch-clause-ending c = c.in_ok-hear_next.ensures.ending ∙ c.loop.invariant.ending

@@ -4,7 +4,7 @@ use Rattle.ovs_links.specs.Store.{Stored}
 use Rattle.ovs_world.specs.Leading.{IsLed}
 use Rattle.ovs_world.specs.Nodes.{IsNode, folded_in}
 use Rattle.ovs_world.specs.Sessions.{HearsNext}
-use Rattle.ovs_world.proofs.Delivered.{hears_ends, at_is_node, after_hearing, did_hear}
+use Rattle.ovs_world.proofs.Delivered.{hears_ends, hears_ending, at_is_node, after_hearing, did_hear}
 use Rattle.ovs_world.proofs.Scenes.{node_of, grow_itself, grow_set, tier_set}
 use Rattle.ovs_world.proofs.delivering.hear_next.Goals as goal
 
@@ -33,7 +33,7 @@ hold-requires-clause-node c =
     (c.in_ok-links.ensures.led source stands.tier.is_source is_node led) in
     let same = (hears_ends (folded_in c.node-followed.result.now) s t c.in-Some.links.items next).0 in
     let relay = at_is_node source c.args.relays.now s t stands same c.index-relays-session.result in
-    (source, stands.tier.is_source, relay, leads.0)
+    (source, stands.tier.is_source, stands.tier.store, relay, leads.0)
 
 pub returns-in_err-told-clause-tier : goal.returns-in_err-told-clause-tier
 returns-in_err-told-clause-tier c =
@@ -113,3 +113,10 @@ returns-clause-heard c done =
     let relay = at_is_node source c.args.relays.now s t stands same c.index-relays-session.result in
     did_hear source c.node-followed.result.now c.args.relays.now s t c.in-Some.links.items c.index-relays-session.result c.hold.new.store c.args.counts.now c.in_ok-told.told c.plus.result stands node_is next
     c.in_ok-told.ensures.held.0 c.in_ok-told.ensures.held.1 c.plus.ensures.value
+
+pub returns-clause-ending : goal.returns-clause-ending
+returns-clause-ending c =
+    let s = c.args.session.now in
+    let t = c.hear_next.new.self in
+    let f = folded_in c.node-followed.result.now in
+    hears_ending f s t c.in-Some.links.items (subst (λ x. IfSome x (λ links. HearsNext f s links.items t)) c.in-Some.is c.in_ok-links.ensures.heard)

@@ -1,7 +1,9 @@
-use Rattle.std.proofs.Common.{◌≡◌, Result, Err, IfErr, subst}
+use Rattle.std.proofs.Common.{◌≡◌, ◌∙◌, List, Result, Err, IfErr, subst}
+use Rattle.ovs_links.specs.Chains.{IsPrefixOf}
 use Rattle.ovs_links.specs.Sets.{Holds}
+use Rattle.ovs_links.specs.declared.link.Link.{Link}
 use Rattle.ovs_links.specs.declared.answer.TakeError.{TakeError}
-use Rattle.ovs_world.proofs.Held.{node_stopped, node_taken, never_fork}
+use Rattle.ovs_world.proofs.Held.{node_stopped, node_taken, never_fork, never_full, keeps_taken}
 use Rattle.ovs_world.proofs.holding.hold.Goals as goal
 
 refused_by : (r : Result (Unit {0}) TakeError) (e : TakeError) (P : TakeError → Type 0) → r ≡ Err e → IfErr r P → P e
@@ -9,10 +11,12 @@ refused_by r e P is all = subst (λ (x : Result (Unit {0}) TakeError). IfErr x P
 
 pub refusal_of-requires : goal.refusal_of-requires
 refusal_of-requires c = record {
-  no_fork = λ l by p i is.
+  memory = λ l by p i.
       (let taken = c.take_all-taken in
-      let n = c.requires.node in
-      never_fork n.0 n.1 (Holds c.args.store.now.links) taken.new.store.links c.args.links.items c.in-Err.error l by p i n.2.within n.3 c.in-Err.ensures.refused is);
+      let n = c.requires.node in (
+        λ is. never_fork n.0 n.1 (Holds c.args.store.now.links) taken.new.store.links c.args.links.items c.in-Err.error l by p i n.3.within n.4 c.in-Err.ensures.refused is,
+        λ is. never_full n.0 n.1 n.2 (Holds c.args.store.now.links) taken.new.store.links c.args.links.items c.in-Err.error l n.3.within n.4 c.in-Err.ensures.refused is,
+      ));
 }
 
 pub returns-in-Err-clause-node : goal.returns-in-Err-clause-node
@@ -30,3 +34,11 @@ pub returns-clause-node : goal.returns-clause-node
 returns-clause-node c source is node among =
     node_taken source is c.args.store.now c.take_all-taken.new.store c.settle-settled.new.self c.args.links.items node among c.in-Ok.ensures.links
     c.take_all-taken.ensures.schema c.settle-settled.ensures.links c.settle-settled.ensures.store c.settle-settled.ensures.whole
+
+pub returns-in-Err-clause-extends : goal.returns-in-Err-clause-extends
+returns-in-Err-clause-extends c = record {
+  schema = c.settle-settled.ensures.links.schema ∙ c.take_all-taken.ensures.schema;
+  store = c.settle-settled.ensures.store;
+  keeps = keeps_taken c.args.store.now c.take_all-taken.new.store c.settle-settled.new.self c.in-Err.ensures.refused.before c.in-Err.ensures.refused.held c.settle-settled.ensures.links;
+  prefix = subst (λ (ls : List Link). IsPrefixOf ls c.settle-settled.new.self.folded) c.take_all-taken.ensures.folded c.settle-settled.ensures.links.prefix;
+}

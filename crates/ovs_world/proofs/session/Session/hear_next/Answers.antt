@@ -3,6 +3,8 @@ use Rattle.ovs_wire.specs.declared.error.MessageError.TheVariants as reading
 use Rattle.ovs_wire.specs.declared.message.Message.{Message}
 use Rattle.ovs_world.specs.Carrying.{Line, Carries, Receives}
 use Rattle.ovs_world.specs.Leading.{Awaits}
+use Rattle.ovs_world.specs.Sessions.{IsUnheardNext}
+use Rattle.ovs_world.proofs.Broken.{err_by, unheard_next}
 use Rattle.ovs_world.proofs.Heard.{first_heard}
 use Rattle.ovs_world.proofs.Led.{led_next}
 use Rattle.ovs_world.proofs.session.Session.hear_next.Goals as goal
@@ -50,3 +52,11 @@ returns-clause-led c source is_source is_node led =
     let first = given s.downward c.receive.new.self c.in-Ok-Some.field-0 c.in-Ok-Some.message c.in-Ok-Some.field-0-is c.in-Ok-Some.ensures.some led.messages led.carried in
     led_next source c.args.node.now is_source is_node s c.hear.new.self c.in-Ok-Some.message c.receive.new.self first.0 c.in_ok-hear.field-0.items led first.1 first.2
     c.in_ok-hear.ensures.heard c.in_ok-hear.ensures.asked c.in_ok-hear.ensures.shown
+
+pub returns-in_err-hear-clause-refused : goal.returns-in_err-hear-clause-refused
+returns-in_err-hear-clause-refused c =
+    let s = c.args.self.now in
+    let m = c.in-Ok-Some.message in
+    let line = c.receive.new.self in
+    err_by c.from_residual.result c.in_err-hear.field-0.0 (IsUnheardNext s) c.from_residual.ensures.1
+    (unheard_next s m line c.in_err-hear.field-0.0 (received s.downward line c.in-Ok-Some.field-0 m c.in-Ok-Some.field-0-is c.in-Ok-Some.ensures.received) c.in_err-hear.ensures.refused)

@@ -4,6 +4,7 @@ use Rattle.ovs_locks.specs.LockTable.{Locks}
 use Rattle.ovs_links.specs.Store.{Stored, IsStore}
 use Rattle.ovs_source.specs.Transacting.{TransactsTo}
 use Rattle.ovs_world.proofs.Longer.{transacted, refused_same, world_committed, world_same}
+use Rattle.ovs_world.proofs.Settled.{settled_beside}
 use Rattle.ovs_world.proofs.world.World.commit.Goals as goal
 
 pub invariant_of-self : goal.invariant_of-self
@@ -32,3 +33,8 @@ returns-clause-commits c =
         sessions = refl;
       },
     )
+
+pub returns-clause-settled : goal.returns-clause-settled
+returns-clause-settled c =
+    let w = c.self.inside in
+    rw (← c.self.view_is) (λ all. settled_beside w.source c.transact.new.self w.relays.items c.store.ensures.source (subst (λ (s : Stored). IsStore s) c.store.ensures.value c.head.ensures.store) all)

@@ -1,8 +1,12 @@
-use Rattle.std.proofs.Common.{◌≡◌, ℕ, List, ◌∙◌, ap, subst, arith}
+use Rattle.std.proofs.Common.{◌≡◌, ℕ, List, refl, ◌∙◌, ap, subst, arith}
 use Rattle.ovs_links.specs.Store.{Stored, head_of}
 use Rattle.ovs_world.specs.Nodes.{node_at, folded_in}
 use Rattle.ovs_world.specs.Sessions.{Opens}
 use Rattle.ovs_world.specs.Worlds.{WorldValue, AreTwo, with_sessions}
+use Rattle.ovs_world.specs.Steps.{RefusesConnect}
+use Rattle.ovs_world.proofs.Broken.{err_both}
+use Rattle.ovs_world.proofs.Refused.{unopened}
+use Rattle.ovs_world.proofs.Scenes.{node_of}
 use Rattle.ovs_world.proofs.Opened.{world_opened, opened_between, opened_quiet, relay_at}
 use Rattle.ovs_world.proofs.world.World.connect.Goals as goal
 
@@ -25,8 +29,8 @@ invariant_of-self-2 c =
     (omega (arith, c.if-relay-eq0.false), omega (arith, c.if-relay-count.false, long, ok)) (omega (arith, c.if-upstream-count.false, long, ok)) opens c.in_ok-session.ensures.shown c.in_ok-session.ensures.says)
     (opened_quiet (folded_in node) c.args.relay c.args.upstream c.head-asked.result s opens) c.in_ok-push_session.ensures.pushed
 
-pub returns-in_err-session-clause-nodes : goal.returns-in_err-session-clause-nodes
-returns-in_err-session-clause-nodes c not_two =
+pub returns-in_err-session-clause-refused : goal.returns-in_err-session-clause-refused
+returns-in_err-session-clause-refused c =
     let w = c.self.inside in
     let long = c.len-count.ensures in
     let ok = w.relays.ok.0 in
@@ -35,31 +39,16 @@ returns-in_err-session-clause-nodes c not_two =
       omega (arith, c.if-upstream-count.false, long, ok),
       λ e. omega (arith, e, c.if-relay-upstream.false),
     ) in
-    absurd (not_two (subst (λ (v : WorldValue). AreTwo v c.args.relay c.args.upstream) c.self.view_is two))
+    let old : WorldValue = record { source = w.source; fresh = w.fresh; relays = w.relays.items; sessions = w.sessions.items } in
+    let node = c.node-followed.result.now in
+    let is = node_is w.source c.store.result.now w.relays.items c.deref.result.now c.args.upstream node c.store.ensures.value c.deref.ensures.value c.node-followed.ensures.value in
+    let schema = ap (λ (n : Stored). n.schema) is ∙ (node_of w.source w.relays.items c.self.invariant.tier c.args.upstream).schema in
+    let e = c.in_err-session.field-0.0 in
+    err_both c.from_residual.result e (RefusesConnect c.args.self.now c.args.relay c.args.upstream) c.from_residual.ensures.1
+    (subst (λ (v : WorldValue). RefusesConnect v c.args.relay c.args.upstream e) c.self.view_is (unopened old c.args.relay c.args.upstream node.schema e two schema c.in_err-session.ensures.refused)) refl
 
-pub returns-in_err-push_session-clause-nodes : goal.returns-in_err-push_session-clause-nodes
-returns-in_err-push_session-clause-nodes c not_two =
-    let w = c.self.inside in
-    let long = c.len-count.ensures in
-    let ok = w.relays.ok.0 in
-    let two : AreTwo (record { source = w.source; fresh = w.fresh; relays = w.relays.items; sessions = w.sessions.items }) c.args.relay c.args.upstream = (
-      (omega (arith, c.if-relay-eq0.false), omega (arith, c.if-relay-count.false, long, ok)),
-      omega (arith, c.if-upstream-count.false, long, ok),
-      λ e. omega (arith, e, c.if-relay-upstream.false),
-    ) in
-    absurd (not_two (subst (λ (v : WorldValue). AreTwo v c.args.relay c.args.upstream) c.self.view_is two))
-
-pub returns-clause-nodes : goal.returns-clause-nodes
-returns-clause-nodes c not_two =
-    let w = c.self.inside in
-    let long = c.len-count.ensures in
-    let ok = w.relays.ok.0 in
-    let two : AreTwo (record { source = w.source; fresh = w.fresh; relays = w.relays.items; sessions = w.sessions.items }) c.args.relay c.args.upstream = (
-      (omega (arith, c.if-relay-eq0.false), omega (arith, c.if-relay-count.false, long, ok)),
-      omega (arith, c.if-upstream-count.false, long, ok),
-      λ e. omega (arith, e, c.if-relay-upstream.false),
-    ) in
-    absurd (not_two (subst (λ (v : WorldValue). AreTwo v c.args.relay c.args.upstream) c.self.view_is two))
+pub returns-clause-settled : goal.returns-clause-settled
+returns-clause-settled c = rw (← c.self.view_is) (λ all. all)
 
 pub returns-clause-connects : goal.returns-clause-connects
 returns-clause-connects c =
