@@ -6,8 +6,8 @@
 Each script has a schema with all four kinds of column (a string, a set of integers, a map of strings, an
 optional boolean) and N links: one in three inserts a row, the others modify one. The loop parses the same
 lines with `json.loads` and applies them to a dict, with no check of its input. Both run as processes of
-their own, three times each; the least time counts. Printed are seconds, the peak of memory in MiB of one run
-more, and the ratios of the program to the loop.
+their own, three times each; the least time counts. Printed are processor seconds, the peak of memory in MiB
+of one run more, and the ratios of the program to the loop.
 """
 import argparse
 import json
@@ -17,6 +17,8 @@ import subprocess
 import sys
 import tempfile
 import time
+
+from timing import processor_seconds
 
 ROOT = os.path.join(os.path.dirname(os.path.abspath(__file__)), "..")
 ZERO = "00000000-0000-0000-0000-000000000000"
@@ -79,26 +81,34 @@ def modified(row, update):
     return new
 
 
-def plain_loop(path):
+def apply_changes(database, this, changes):
+    for table, rows in changes.items():
+        for row, update in rows.items():
+            place = (table, row)
+            if "insert" in update:
+                made = dict(update["insert"])
+                made["tags"] = elements(made["tags"])
+                made["opts"] = dict(made["opts"][1])
+                database[place] = made
+            elif "modify" in update:
+                database[place] = modified(database[place], update["modify"])
+            else:
+                del database[place]
+                continue
+            database[place]["_version"] = this
+
+
+def links_of(path):
     with open(path, encoding="utf-8") as file:
         json.loads(file.readline())
-        database = {}
         for line in file:
-            _prev, this, changes = json.loads(line)
-            for table, rows in changes.items():
-                for row, update in rows.items():
-                    place = (table, row)
-                    if "insert" in update:
-                        made = dict(update["insert"])
-                        made["tags"] = elements(made["tags"])
-                        made["opts"] = dict(made["opts"][1])
-                        database[place] = made
-                    elif "modify" in update:
-                        database[place] = modified(database[place], update["modify"])
-                    else:
-                        del database[place]
-                        continue
-                    database[place]["_version"] = this
+            yield json.loads(line)
+
+
+def plain_loop(path):
+    database = {}
+    for _prev, this, changes in links_of(path):
+        apply_changes(database, this, changes)
     print(len(database))
 
 
@@ -112,13 +122,13 @@ def checked(command, process):
 
 
 def least_seconds(command, path):
-    """Least seconds of three runs."""
+    """The processor seconds of the shortest of three runs."""
     seconds = []
     for _ in range(3):
         with open(path, "rb") as source:
-            start = time.monotonic()
+            begun = processor_seconds()
             checked(command, started(command, source))
-            seconds.append(time.monotonic() - start)
+            seconds.append(processor_seconds() - begun)
     return min(seconds)
 
 
@@ -150,21 +160,35 @@ def measured(command, path):
     return least_seconds(command, path), peak_memory(command, path)
 
 
+def heading():
+    print(f"{'links':24}{'program s':>12}{'MiB':>8}{'loop s':>10}{'MiB':>8}{'time':>8}{'memory':>8}")
+
+
+def compare(label, program, text, loop):
+    """Runs the program and a loop on a script, prints a line, and gives the seconds of the program. A loop is a Python file with its first argument."""
+    with tempfile.NamedTemporaryFile("w", suffix=".script") as file:
+        file.write(text)
+        file.flush()
+        ours, ours_peak = measured([program, "fold"], file.name)
+        theirs, their_peak = measured([sys.executable, *loop, file.name], os.devnull)
+    print(f"{label:24}{ours:12.3f}{ours_peak:8.1f}{theirs:10.3f}{their_peak:8.1f}{ours / theirs:8.2f}{ours_peak / their_peak:8.2f}", flush=True)
+    return ours
+
+
+PROGRAM = os.path.join(ROOT, "crates/ovs_relay/out/ovs_relay")
+PLAIN_LOOP = [os.path.abspath(__file__), "--plain-loop"]
+
+
 def main():
     if len(sys.argv) == 3 and sys.argv[1] == "--plain-loop":
         return plain_loop(sys.argv[2])
     parser = argparse.ArgumentParser()
-    parser.add_argument("--program", default=os.path.join(ROOT, "crates/ovs_relay/out/ovs_relay"))
+    parser.add_argument("--program", default=PROGRAM)
     parser.add_argument("--links", type=int, nargs="+", default=[1000, 4000])
     options = parser.parse_args()
-    print(f"{'links':>8}{'program s':>12}{'MiB':>8}{'loop s':>10}{'MiB':>8}{'time':>8}{'memory':>8}")
+    heading()
     for links in options.links:
-        with tempfile.NamedTemporaryFile("w", suffix=".script") as file:
-            file.write(script(links))
-            file.flush()
-            ours, ours_peak = measured([options.program, "fold"], file.name)
-            loop, loop_peak = measured([sys.executable, os.path.abspath(__file__), "--plain-loop", file.name], os.devnull)
-        print(f"{links:8}{ours:12.3f}{ours_peak:8.1f}{loop:10.3f}{loop_peak:8.1f}{ours / loop:8.2f}{ours_peak / loop_peak:8.2f}")
+        compare(f"{links:,}", options.program, script(links), PLAIN_LOOP)
     return 0
 
 

@@ -4,6 +4,8 @@
 mod command;
 mod complaint;
 #[cfg(test)]
+mod full_store;
+#[cfg(test)]
 mod tests;
 
 use command::{Task, command};

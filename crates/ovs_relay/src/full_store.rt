@@ -1,0 +1,152 @@
+//! A store with as many links as it takes.
+
+ghost use Rattle.std.specs.Prelude.{◌≡◌, IfOk};
+ghost use Rattle.ovs_links.specs.Sets.{IsOfTables};
+ghost use Rattle.ovs_links.specs.Store.{tables_of};
+
+use ovs_links::{By, Link, LinkStore, MergeError, Settled, TakeError, Took};
+use ovs_rows::Change;
+use ovs_types::{NoMemory, Schema, TxnId};
+use serde_json::Value;
+use std::alloc::Global;
+
+// What a call answered, and two ids: at a fork those of the held link, of a link that is handed back its own, else zeros.
+type Told = (&'static str, u128, u128);
+
+const OUT_OF_MEMORY: Told = ("out of memory", 0, 0);
+
+// The id of the k-th link of the chain.
+fn along(k: u32) -> u128 {
+    (1 << 64) + u128::from(k)
+}
+
+fn json(alloc: Global, text: &str) -> Result<Value, NoMemory> {
+    match Value::from_str(alloc, text) {
+        Ok(value) => Ok(value),
+        Err(_) => Err(NoMemory),
+    }
+}
+
+fn empty_store(alloc: Global) -> Result<LinkStore, NoMemory> {
+    let value = json(alloc, "{\"name\":\"net\",\"version\":\"\",\"tables\":{}}")?;
+    match Schema::read(alloc, &value) {
+        Ok(schema) => LinkStore::new(alloc, &schema),
+        Err(_) => Err(NoMemory),
+    }
+}
+
+// A link that changes nothing.
+fn link(alloc: Global, schema: &Schema, prev: u128, id: u128) -> Result<Link, NoMemory>
+    ensures tables { IfOk result (IsOfTables schema.now.description.tables) }
+{
+    let nothing = json(alloc, "{}")?;
+    let Ok(change) = Change::read(alloc, &nothing, schema) else {
+        return Err(NoMemory);
+    };
+    match Link::new(TxnId::from_value(prev), TxnId::from_value(id), change) {
+        Ok(link) => Ok(link),
+        Err(_) => Err(NoMemory),
+    }
+}
+
+fn fork_told(by: By, prev: TxnId, id: TxnId) -> Told {
+    match by {
+        By::Prev => ("fork by prev", prev.value(), id.value()),
+        By::Id => ("fork by id", prev.value(), id.value()),
+    }
+}
+
+fn refusal_told(error: &TakeError) -> Told {
+    match error {
+        TakeError::Fork {
+            by,
+            held_prev,
+            held_id,
+            ..
+        } => fork_told(*by, *held_prev, *held_id),
+        TakeError::Full { link } => ("full", link.prev().value(), link.id().value()),
+        TakeError::NoMemory { .. } => OUT_OF_MEMORY,
+    }
+}
+
+fn take(alloc: Global, store: &mut LinkStore, prev: u128, id: u128) -> Told
+    ensures tables { tables_of store.new ≡ tables_of store.old }
+{
+    let Ok(link) = link(alloc, store.schema(), prev, id) else {
+        return OUT_OF_MEMORY;
+    };
+    match store.take(link) {
+        Ok(Took::New) => ("new", 0, 0),
+        Ok(Took::Held) => ("held", 0, 0),
+        Err(error) => refusal_told(&error),
+    }
+}
+
+// A store of one link.
+fn store_of(alloc: Global, schema: &Schema, prev: u128, id: u128) -> Result<LinkStore, NoMemory>
+    ensures tables { IfOk result (λ store. tables_of store ≡ schema.now.description.tables) }
+{
+    let mut store = LinkStore::new(alloc, schema)?;
+    let _ = take(alloc, &mut store, prev, id);
+    Ok(store)
+}
+
+fn merge_refusal_told(error: &MergeError) -> Told {
+    match error {
+        MergeError::Fork {
+            by,
+            held_prev,
+            held_id,
+        } => fork_told(*by, *held_prev, *held_id),
+        MergeError::Full => ("full", 0, 0),
+        MergeError::NoMemory => OUT_OF_MEMORY,
+    }
+}
+
+// Merges a store of one link.
+fn merge(alloc: Global, store: &mut LinkStore, prev: u128, id: u128) -> Told {
+    let Ok(other) = store_of(alloc, store.schema(), prev, id) else {
+        return OUT_OF_MEMORY;
+    };
+    match store.merge(&other) {
+        Ok(()) => ("merged", 0, 0),
+        Err(error) => merge_refusal_told(&error),
+    }
+}
+
+// Settles the store, and tells how many links are folded then, and how many aren't.
+fn settle(alloc: Global, store: &mut LinkStore) -> (&'static str, usize, usize) {
+    let told = match store.settle(alloc) {
+        Ok(Settled::Done) => "done",
+        Ok(Settled::Stuck(_)) => "stuck",
+        Err(NoMemory) => "out of memory",
+    };
+    (told, store.chain_len(), store.parked())
+}
+
+#[test]
+fn a_full_store(rt: HostRuntime) {
+    let alloc = rt.alloc();
+    let Ok(mut store) = empty_store(alloc) else {
+        panic!(&rt; "out of memory");
+    };
+    let mut prev = 0;
+    for k in 1..=1_000_000 {
+        assert_eq!(&rt; take(alloc, &mut store, prev, along(k)), ("new", 0, 0));
+        prev = along(k);
+    }
+    assert_eq!(&rt; settle(alloc, &mut store), ("done", 1_000_000, 0));
+    // the ids of two commits that aren't on the chain
+    let (y, z) = (along(2_000_000), along(2_000_001));
+    let fork = ("fork by prev", 0, along(1));
+    for (prev, id, taken, merged) in [
+        (0, along(1), ("held", 0, 0), ("merged", 0, 0)),
+        (0, y, fork, fork),
+        (y, z, ("full", y, z), ("full", 0, 0)),
+    ] {
+        assert_eq!(&rt; take(alloc, &mut store, prev, id), taken);
+        assert_eq!(&rt; store.len(), 1_000_000);
+        assert_eq!(&rt; merge(alloc, &mut store, prev, id), merged);
+        assert_eq!(&rt; store.len(), 1_000_000);
+    }
+}
