@@ -160,8 +160,14 @@ def measured(command, path):
     return least_seconds(command, path), peak_memory(command, path)
 
 
-def heading():
-    print(f"{'links':24}{'program s':>12}{'MiB':>8}{'loop s':>10}{'MiB':>8}{'time':>8}{'memory':>8}")
+def heading(what="links", other="loop"):
+    print(f"{what:24}{'program s':>12}{'MiB':>8}{other + ' s':>10}{'MiB':>8}{'time':>8}{'memory':>8}")
+
+
+def print_ratios(label, ours, theirs):
+    """Prints what was measured of the program and of what it is held against."""
+    (spent, peak), (their_spent, their_peak) = ours, theirs
+    print(f"{label:24}{spent:12.3f}{peak:8.1f}{their_spent:10.3f}{their_peak:8.1f}{spent / their_spent:8.2f}{peak / their_peak:8.2f}", flush=True)
 
 
 def compare(label, program, text, loop):
@@ -169,10 +175,10 @@ def compare(label, program, text, loop):
     with tempfile.NamedTemporaryFile("w", suffix=".script") as file:
         file.write(text)
         file.flush()
-        ours, ours_peak = measured([program, "fold"], file.name)
-        theirs, their_peak = measured([sys.executable, *loop, file.name], os.devnull)
-    print(f"{label:24}{ours:12.3f}{ours_peak:8.1f}{theirs:10.3f}{their_peak:8.1f}{ours / theirs:8.2f}{ours_peak / their_peak:8.2f}", flush=True)
-    return ours
+        ours = measured([program, "fold"], file.name)
+        theirs = measured([sys.executable, *loop, file.name], os.devnull)
+    print_ratios(label, ours, theirs)
+    return ours[0]
 
 
 PROGRAM = os.path.join(ROOT, "crates/ovs_relay/out/ovs_relay")
