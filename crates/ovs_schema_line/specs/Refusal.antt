@@ -1,0 +1,21 @@
+-- How a refused schema is told.
+use Rattle.std.specs.Prelude.{ℕ, List, [], ◌++◌, Result, Ok, Err, codes}
+use Rattle.ovs_types.specs.Schema.{SchemaValue}
+use Rattle.ovs_types.specs.SchemaFaults as schemas
+use Rattle.ovs_schema_line.specs.declared.refusal.SchemaRefusal.{SchemaRefusal}
+use Rattle.ovs_schema_line.specs.declared.refusal.SchemaRefusal.TheVariants.{TooLong, BadJson, BadSchema}
+
+-- why a schema's line is refused
+abbrev pub schema_word : SchemaRefusal → List ℕ
+schema_word TooLong = codes "too-long"
+schema_word BadJson = codes "bad-json"
+schema_word (BadSchema fault) = schemas.schema_word fault
+
+-- the line that is all there is of a refused schema
+abbrev pub schema_line : SchemaRefusal → List ℕ
+schema_line refusal = codes "schema refused " ++ (schema_word refusal ++ codes "\n")
+
+-- what is said of a schema's line: nothing where it gives a schema
+abbrev pub schema_answer : Result SchemaValue SchemaRefusal → List ℕ
+schema_answer (Ok schema) = []
+schema_answer (Err refusal) = schema_line refusal
