@@ -1,5 +1,8 @@
 //! Why an event is refused.
 
+ghost use Rattle.std.specs.Prelude.{◌≡◌};
+ghost use Rattle.ovs_world.specs.Refusals.{world_word};
+
 use ovs_source::SourceError;
 use ovs_types::NoMemory;
 use ovs_wire::FrameError;
@@ -35,6 +38,25 @@ pub enum WorldError {
     /// Memory ran out.
     #[error("out of memory")]
     NoMemory,
+}
+
+impl WorldError {
+    /// The word for it.
+    pub fn word(self) -> &'static str
+        ensures text { result.now ≡ world_word self }
+    {
+        match self {
+            WorldError::BadCount => "bad-count",
+            WorldError::NoSuchNode => "no-such-node",
+            WorldError::NoSession => "no-session",
+            WorldError::IdTaken => "id-taken",
+            WorldError::RowIdsSpent => "row-ids-spent",
+            WorldError::Full => "full",
+            WorldError::NotReadOnly => "not-read-only",
+            WorldError::TooLarge => "too-large",
+            WorldError::NoMemory => "no-memory",
+        }
+    }
 }
 
 impl From<NoMemory> for WorldError {

@@ -5,7 +5,7 @@ ghost use Rattle.serde_json.specs.View.{view};
 ghost use Rattle.ovs_world.specs.Headline.{IsFaithful};
 ghost use Rattle.ovs_world.specs.Nodes.{folded_in};
 ghost use Rattle.ovs_world.specs.Steps.{RefusesCommit, RefusesConnect, RefusesDelivery, RefusesCut, RefusesRestart, RefusesMerge, RefusesRead, RefusesNew, RefusesRun, Steps, IsRun};
-ghost use Rattle.ovs_world.specs.Worlds.{empty_store, new_world, HasNode, IsOpenAt, NoneIsOpenAt, AreSettled, CommitsTo, Connects, Brings, Cuts, Restarts, Merges, Reads, cut_of, node_of};
+ghost use Rattle.ovs_world.specs.Worlds.{empty_store, new_world, HasNode, IsCount, IsOpenAt, NoneIsOpenAt, AreSettled, CommitsTo, Connects, Brings, Cuts, Restarts, Merges, Reads, cut_of, node_of};
 
 use crate::delivering::deliver;
 use crate::error::WorldError;
@@ -114,6 +114,7 @@ impl World {
     /// `BadCount` unless there are one to nine relays, or `NoMemory`.
     pub fn new(alloc: Global, schema: &Schema, relays: usize) -> Result<World, WorldError>
         ensures value { IfOk result (λ w. w ≡ new_world schema.now relays) }
+        ensures count { OnOk result (IsCount relays) }
         ensures refused { IfErr result (RefusesNew relays) }
     {
         if relays == 0 || relays > MAX_RELAYS {
@@ -140,6 +141,7 @@ impl World {
         events: &[Event],
     ) -> Result<World, WorldError>
         ensures run { IfOk result (λ w. IsRun (new_world schema.now relays) events.now w) }
+        ensures count { OnOk result (IsCount relays) }
         ensures faithful { IfOk result (λ w. IsFaithful w.source w.relays) }
         ensures settled { IfOk result AreSettled }
         ensures refused { IfErr result (RefusesRun schema.now relays events.now) }
