@@ -6,22 +6,20 @@ use Rattle.ovs_script.specs.Lines.{kept}
 use Rattle.ovs_script.specs.Rules.{Rules}
 use Rattle.ovs_script.specs.Texts.{Texts}
 use Rattle.ovs_script.specs.Functions.{Functions, rules_of, script_output, is_content_with}
-use Rattle.ovs_fold.specs.declared.words.SchemaRefusal.{SchemaRefusal}
-use Rattle.ovs_fold.specs.declared.words.SchemaRefusal.TheVariants.{BadJson}
+use Rattle.ovs_schema_line.specs.declared.refusal.SchemaRefusal.{SchemaRefusal}
+use Rattle.ovs_schema_line.specs.declared.refusal.SchemaRefusal.TheVariants.{BadJson}
+use Rattle.ovs_schema_line.specs.Reading.{schema_of_line}
+use Rattle.ovs_schema_line.specs.Refusal.{schema_line, schema_answer}
 use Rattle.ovs_fold.specs.declared.fold.Stage.{Stage}
 use Rattle.ovs_fold.specs.declared.fold.Stage.TheVariants.{Schema, Links, Both, Missing, Over}
 use Rattle.ovs_fold.specs.declared.fold.Fold.{Fold}
-use Rattle.ovs_fold.specs.Reading.{schema_of_line, link_of_line}
+use Rattle.ovs_fold.specs.Reading.{link_of_line}
 use Rattle.ovs_fold.specs.Intake.{line_outcome, is_refused, store_after_line}
 use Rattle.ovs_fold.specs.Closing.{end_text, is_whole_chain}
-use Rattle.ovs_fold.specs.Words.{schema_line, outcome_line}
+use Rattle.ovs_fold.specs.Words.{outcome_line}
 use Rattle.ovs_fold.specs.Stores.{no_links, second_answer, stores_after_line, stores_closing, is_merged_whole}
 
 -- ---- the schema's line
-
-abbrev pub schema_answer : Result SchemaValue SchemaRefusal → List ℕ
-schema_answer (Ok schema) = []
-schema_answer (Err refusal) = schema_line refusal
 
 -- links are taken into a store of no link
 abbrev pub stage_after_schema : Result SchemaValue SchemaRefusal → Stage

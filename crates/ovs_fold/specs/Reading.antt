@@ -1,4 +1,4 @@
--- What the lines of the script `fold` say: a schema, and links.
+-- What a link's line says.
 use Rattle.std.specs.Prelude.{ℕ, List, Bool, not, ◌&&◌, ◌==◌, ◌^◌, Option, Some, None, Result, Ok, Err, nat_le, if◌then◌else◌, option_map, option_and_then}
 use Rattle.std.specs.Option.{ok_or}
 use Rattle.serde_json.specs.Data.{Data}
@@ -6,35 +6,13 @@ use Rattle.serde_json.specs.Find.{as_str, as_object}
 use Rattle.ovs_json.specs.Parts.{json_of, three_items}
 use Rattle.ovs_types.specs.Id.{read_id}
 use Rattle.ovs_types.specs.Results.{◌>>=◌}
-use Rattle.ovs_types.specs.Schema.{SchemaValue}
-use Rattle.ovs_types.specs.SchemaReading.{read_description}
 use Rattle.ovs_types.specs.declared.schema.Table.{Table}
-use Rattle.ovs_types.specs.declared.schema.Description.{Description}
-use Rattle.ovs_types.specs.declared.schema.error.SchemaError.{SchemaError}
 use Rattle.ovs_rows.specs.declared.error.ChangeError.{ChangeError}
 use Rattle.ovs_rows.specs.Change.{Actions}
 use Rattle.ovs_rows.specs.ChangeReading.{read_change}
 use Rattle.ovs_links.specs.Link.{LinkValue}
 use Rattle.ovs_fold.specs.declared.words.Refusal.{Refusal}
 use Rattle.ovs_fold.specs.declared.words.Refusal.TheVariants as link
-use Rattle.ovs_fold.specs.declared.words.SchemaRefusal.{SchemaRefusal}
-use Rattle.ovs_fold.specs.declared.words.SchemaRefusal.TheVariants as schema
-
--- ---- the schema's line
-
-abbrev pub schema_with : Data → Result Description SchemaError → Result SchemaValue SchemaRefusal
-schema_with d (Ok description) = Ok (record { description = description; json = d })
-schema_with d (Err fault) = Err (schema.BadSchema fault)
-
-abbrev pub schema_of_json : Data → Result SchemaValue SchemaRefusal
-schema_of_json d = schema_with d (read_description d)
-
--- the schema that a line gives, or why it is refused; None is a line above the limit
-abbrev pub schema_of_line : Option (List ℕ) → Result SchemaValue SchemaRefusal
-schema_of_line None = Err schema.TooLong
-schema_of_line (Some line) = ok_or (json_of line) schema.BadJson >>= schema_of_json
-
--- ---- a link's line
 
 -- two texts and an object
 abbrev pub texts_and_object : Data × Data × Data → Option (List ℕ × List ℕ × Data)

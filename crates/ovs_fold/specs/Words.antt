@@ -1,13 +1,10 @@
--- The words for what becomes of a line.
+-- The words for what becomes of a link's line.
 use Rattle.std.specs.Prelude.{ℕ, List, ◌++◌, Result, Ok, Err, codes}
 use Rattle.std.specs.Fmt.{decimal}
 use Rattle.ovs_types.specs.Id.{id_text}
-use Rattle.ovs_types.specs.SchemaFaults as schemas
 use Rattle.ovs_rows.specs.Faults.{change_word}
 use Rattle.ovs_fold.specs.declared.words.Refusal.{Refusal}
 use Rattle.ovs_fold.specs.declared.words.Refusal.TheVariants as link
-use Rattle.ovs_fold.specs.declared.words.SchemaRefusal.{SchemaRefusal}
-use Rattle.ovs_fold.specs.declared.words.SchemaRefusal.TheVariants as schema
 use Rattle.ovs_fold.specs.declared.words.Outcome.{Outcome}
 use Rattle.ovs_fold.specs.declared.words.Outcome.TheVariants.{Took, Held, Refused}
 
@@ -20,16 +17,6 @@ link_word link.BadId = codes "bad-id"
 link_word (link.BadChange fault) = change_word fault
 link_word (link.Fork prev id) = codes "fork " ++ (id_text prev ++ (codes " " ++ id_text id))
 link_word link.Full = codes "full"
-
--- why a schema's line is refused
-abbrev pub schema_word : SchemaRefusal → List ℕ
-schema_word schema.TooLong = codes "too-long"
-schema_word schema.BadJson = codes "bad-json"
-schema_word (schema.BadSchema fault) = schemas.schema_word fault
-
--- the line that is all there is of a refused schema
-abbrev pub schema_line : SchemaRefusal → List ℕ
-schema_line refusal = codes "schema refused " ++ (schema_word refusal ++ codes "\n")
 
 -- the line for link line n
 abbrev pub outcome_line : ℕ → Outcome → List ℕ

@@ -1,54 +1,18 @@
-//! What the lines of the script `fold` say.
+//! What a link's line says.
 
 ghost use Rattle.std.specs.Prelude.{◌≡◌, ◌≢◌, IfOk, OnOk, option_map};
 ghost use Rattle.serde_json.specs.View.{view};
 ghost use Rattle.ovs_rows.specs.ChangeReading.{read_change};
 ghost use Rattle.ovs_rows.specs.Change.{IsChangeOf};
-ghost use Rattle.ovs_fold.specs.Reading.{schema_of_json, schema_of_line, parts_of, change_or_refusal, link_between, link_of_parts, link_of_json, link_of_line};
+ghost use Rattle.ovs_fold.specs.Reading.{parts_of, change_or_refusal, link_between, link_of_parts, link_of_json, link_of_line};
 
-use crate::words::{Refusal, SchemaRefusal};
+use crate::words::Refusal;
 use ovs_json::{read_json, three_items};
 use ovs_links::Link;
 use ovs_rows::{Change, ChangeError};
-use ovs_types::{DatumError, NoMemory, Schema, SchemaError, TxnId};
+use ovs_types::{DatumError, NoMemory, Schema, TxnId};
 use serde_json::Value;
 use std::alloc::Global;
-
-// A fault of a schema as a refusal, but for want of memory.
-fn schema_refusal(fault: SchemaError) -> Result<SchemaRefusal, NoMemory>
-    ensures value { IfOk result (λ refusal. refusal ≡ SchemaRefusal.BadSchema fault) }
-    ensures fault { OnOk result (fault ≢ SchemaError.NoMemory) }
-{
-    match fault {
-        SchemaError::NoMemory => Err(NoMemory),
-        _ => Ok(SchemaRefusal::BadSchema(fault)),
-    }
-}
-
-fn schema_of_json(alloc: Global, value: &Value) -> Result<Result<Schema, SchemaRefusal>, NoMemory>
-    ensures value { IfOk result (λ schema. schema ≡ schema_of_json (view value.now)) }
-{
-    match Schema::read(alloc, value) {
-        Ok(schema) => Ok(Ok(schema)),
-        Err(fault) => Ok(Err(schema_refusal(fault)?)),
-    }
-}
-
-/// The schema that a line gives, or why it is refused. `None` is a line above the limit.
-pub(crate) fn schema_of_line(
-    alloc: Global,
-    line: Option<&[u8]>,
-) -> Result<Result<Schema, SchemaRefusal>, NoMemory>
-    ensures value { IfOk result (λ schema. schema ≡ schema_of_line (option_map (λ l. l.now) line.entry)) }
-{
-    let Some(line) = line else {
-        return Ok(Err(SchemaRefusal::TooLong));
-    };
-    match read_json(alloc, line)? {
-        None => Ok(Err(SchemaRefusal::BadJson)),
-        Some(value) => schema_of_json(alloc, &value),
-    }
-}
 
 // The texts of two ids, and a change's JSON.
 fn parts_of(value: &Value) -> Option<(&str, &str, &Value)>

@@ -1,12 +1,12 @@
-//! The words for what becomes of a line.
+//! The words for what becomes of a link's line.
 
 ghost use Rattle.std.specs.Prelude.{◌≡◌, ◌++◌, IfOk, codes, string_bytes};
 ghost use Rattle.std.specs.Fmt.{decimal};
 ghost use Rattle.ovs_types.specs.Id.{id_text};
-ghost use Rattle.ovs_fold.specs.Words.{link_word, schema_word, schema_line, outcome_line, merge_line};
+ghost use Rattle.ovs_fold.specs.Words.{link_word, outcome_line, merge_line};
 
 use ovs_rows::ChangeError;
-use ovs_types::{NoMemory, SchemaError, TxnId};
+use ovs_types::{NoMemory, TxnId};
 use std::alloc::{AllocError, Global};
 
 /// Why a line with a link is refused, in the order of checking.
@@ -26,17 +26,6 @@ pub(crate) enum Refusal {
     Fork { prev: TxnId, id: TxnId },
     /// The store has no room for another link.
     Full,
-}
-
-/// Why a line with a schema is refused, in the order of checking.
-#[derive(Debug, Clone, Copy, PartialEq, Eq)]
-pub(crate) enum SchemaRefusal {
-    /// More than 16,777,216 bytes.
-    TooLong,
-    /// No JSON of UTF-8, nested too deeply, or no line at all.
-    BadJson,
-    /// No schema, for this fault, which is never want of memory.
-    BadSchema(SchemaError),
 }
 
 /// What becomes of a line with a link.
@@ -84,27 +73,6 @@ impl Refusal {
             Refusal::Fork { prev, id } => fork_word(alloc, *prev, *id),
             Refusal::Full => word(alloc, "full"),
         }
-    }
-}
-
-impl SchemaRefusal {
-    /// The word for it.
-    pub(crate) fn word(self) -> &'static str
-        ensures text { result.now ≡ schema_word self }
-    {
-        match self {
-            SchemaRefusal::TooLong => "too-long",
-            SchemaRefusal::BadJson => "bad-json",
-            SchemaRefusal::BadSchema(fault) => fault.word(),
-        }
-    }
-
-    /// The line that is all there is of a refused schema.
-    pub(crate) fn line(self, alloc: Global) -> Result<String, AllocError>
-        ensures text { IfOk result (λ line. string_bytes line ≡ schema_line self) }
-    {
-        let word = self.word();
-        format!(in alloc; "schema refused {word}\n")
     }
 }
 
