@@ -3,7 +3,7 @@
 use crate::fault::Fault;
 use crate::{
     changes, data, desks, devices, folds, forwards, ids, locks, messages, queries, readers,
-    schemas, scripts, sources, stores, streams, upstreams,
+    schemas, scripts, sources, stores, stories, streams, upstreams,
 };
 use ovs_types::Schema;
 use serde_json::Value;
@@ -48,6 +48,7 @@ fn of_schema(alloc: Global, schema: &Schema, what: &str, parts: &[Value]) -> Res
         "difference of databases" => changes::difference(alloc, schema, parts),
         "store" => stores::store(alloc, schema, parts),
         "fold" => folds::fold(alloc, schema, parts),
+        "world" => stories::world(alloc, schema, parts),
         "transact" => queries::transact(alloc, schema, parts),
         "monitor" => queries::monitor(alloc, schema, parts),
         "initial" => queries::initial(alloc, schema, parts),
@@ -85,6 +86,7 @@ fn alone(alloc: Global, what: &str, parts: &[Value]) -> Result<Option<String>, F
         "forwards" => forwards::forwards(alloc, parts)?,
         "counted" => devices::counted(alloc, parts)?,
         "fold bytes" => folds::fold_bytes(alloc, parts)?,
+        "world bytes" => stories::world_bytes(alloc, parts)?,
         "script" => scripts::script(alloc, parts)?,
         "silent script" => scripts::over_silence(alloc)?,
         _ => return Ok(None),

@@ -1,7 +1,7 @@
 //! Runs of the script `fold`. In what it reads and in what it writes a letter stands for the id that is written with
 //! it, `0` for the id of zeros and `r` for a row's.
 
-use crate::case::{list, part};
+use crate::case::list;
 use crate::fault::Fault;
 use crate::streams::add_bytes_of;
 use ovs_fold::fold_run;
@@ -52,8 +52,8 @@ pub(crate) fn shortened(alloc: Global, text: &str) -> Result<String, Fault> {
     Ok(text)
 }
 
-// A text is a line as it stands, any other value its JSON.
-fn add_lines(alloc: Global, text: &mut Vec<u8>, lines: &[Value]) -> Result<(), Fault> {
+/// Adds lines: a text is one as it stands, any other value its JSON.
+pub(crate) fn add_lines(alloc: Global, text: &mut Vec<u8>, lines: &[Value]) -> Result<(), Fault> {
     for line in lines {
         match line {
             Value::String(line) => text.extend_from_slice(line.as_bytes())?,
@@ -76,31 +76,51 @@ pub(crate) fn end_word(end: RunEnd) -> &'static str {
     }
 }
 
+/// The line that gives a schema.
+pub(crate) fn schema_line(alloc: Global, schema: &Schema) -> Result<Vec<u8>, Fault> {
+    let mut line = Vec::new(alloc);
+    let schema = schema.to_json()?;
+    line.extend_from_slice(schema.to_string(alloc)?.as_bytes())?;
+    line.push(b'\n')?;
+    Ok(line)
+}
+
+/// The pieces one after another.
+pub(crate) fn bytes_of_pieces(alloc: Global, pieces: &[Value]) -> Result<Vec<u8>, Fault> {
+    let mut bytes = Vec::new(alloc);
+    for piece in pieces {
+        add_bytes_of(alloc, &mut bytes, piece)?;
+    }
+    Ok(bytes)
+}
+
+/// What a run has written, and how it ended.
+pub(crate) fn told(alloc: Global, written: Vec<u8>, end: RunEnd) -> Result<String, Fault> {
+    let Ok(text) = std::str::from_utf8(written.as_slice()) else {
+        return Err(Fault::Malformed);
+    };
+    let text = shortened(alloc, text)?;
+    let end = end_word(end);
+    Ok(format!(in alloc; "{text}{end}")?)
+}
+
 // What is written, how the run ended, and whether a second text stayed unread.
 fn run(alloc: Global, input: &[u8], second: Option<&[u8]>) -> Result<String, Fault> {
     let mut reader = Counted::new(input);
     let mut merge = second.map(Counted::new);
     let mut writer = Counted::new(Vec::new(alloc));
     let end = fold_run(alloc, &mut reader, &mut merge, &mut writer);
-    let written = writer.into_inner();
-    let Ok(text) = std::str::from_utf8(written.as_slice()) else {
-        return Err(Fault::Malformed);
-    };
-    let text = shortened(alloc, text)?;
-    let end = end_word(end);
+    let told = told(alloc, writer.into_inner(), end)?;
     let unread = match merge {
         Some(second) if second.calls() == 0 => ", file unread",
         _ => "",
     };
-    Ok(format!(in alloc; "{text}{end}{unread}")?)
+    Ok(format!(in alloc; "{told}{unread}")?)
 }
 
 /// `["fold", [LINK, ..]]`, or with the links of a file as a second list: the schema in use, and then these lines.
 pub(crate) fn fold(alloc: Global, schema: &Schema, parts: &[Value]) -> Result<String, Fault> {
-    let mut input = Vec::new(alloc);
-    let schema = schema.to_json()?;
-    input.extend_from_slice(schema.to_string(alloc)?.as_bytes())?;
-    input.push(b'\n')?;
+    let mut input = schema_line(alloc, schema)?;
     add_lines(alloc, &mut input, list(parts, 1)?)?;
     if parts.len() == 2 {
         return run(alloc, input.as_slice(), None);
@@ -112,16 +132,10 @@ pub(crate) fn fold(alloc: Global, schema: &Schema, parts: &[Value]) -> Result<St
 
 /// `["fold bytes", [PIECE, ..]]`, or with a file's as a second list: the pieces one after another are what is read.
 pub(crate) fn fold_bytes(alloc: Global, parts: &[Value]) -> Result<String, Fault> {
-    let mut input = Vec::new(alloc);
-    for piece in list(parts, 1)? {
-        add_bytes_of(alloc, &mut input, piece)?;
-    }
+    let input = bytes_of_pieces(alloc, list(parts, 1)?)?;
     if parts.len() == 2 {
         return run(alloc, input.as_slice(), None);
     }
-    let mut second = Vec::new(alloc);
-    for piece in list(parts, 2)? {
-        add_bytes_of(alloc, &mut second, piece)?;
-    }
+    let second = bytes_of_pieces(alloc, list(parts, 2)?)?;
     run(alloc, input.as_slice(), Some(second.as_slice()))
 }

@@ -22,6 +22,7 @@ mod schemas;
 mod scripts;
 mod sources;
 mod stores;
+mod stories;
 mod streams;
 mod upstreams;
 
