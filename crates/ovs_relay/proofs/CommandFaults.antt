@@ -1,6 +1,8 @@
 -- What clap finds in words in the place of a task: at most one kind, or the two of a stray word. So a call for help comes alone.
-use Rattle.std.proofs.Common.{◌≡◌, ◌&&◌, ◌==◌, ℕ, nat_lt, zero, suc, Bool, true, false, not, cond, sym, ap, refl, subst, true≢false, List, [], ◌∷◌, Option, Some, None, codes, length, find, inl, inr, is_some}
+use Rattle.std.proofs.Common.{◌≡◌, ◌&&◌, ◌==◌, ℕ, nat_lt, zero, suc, Bool, true, false, not, cond, sym, ap, refl, true≢false, List, [], ◌∷◌, Option, Some, None, codes, length, find, inl, inr, is_some}
+use Rattle.std.specs.List.{list_all}
 use Rattle.std.specs.Option.{option_map_or}
+use Rattle.std.proofs.lemmas.Bool.{and_parts}
 use Rattle.std.specs.Str.{bytes_eq}
 use Rattle.clap.specs.Lexer.{long_of, short_of}
 use Rattle.clap.specs.ValueTests.{accepts}
@@ -175,24 +177,31 @@ level_few : (s : Shape) → s.disable_help_subcommand ≡ true → (names : Name
 level_few s off names h words entered below few = few_else _ _ (walk_few s off names _ words) (few_else _ _ few
     (few_else _ _ (settle_few s.rules s.args_override_self (walk s.rules names h words).held) (few_else _ _ (defaults_few _ s.rules) (check_few _ _ _))))
 
--- below the one command of the program
-below_few : (test : Bool) (s : Shape) → s.disable_help_subcommand ≡ true → (words : List Text)
-    → Few (option_map_or (λ (t : Shape). level_fault t [] nothing_held words false []) (cond test (Some s) None) [])
-below_few true s off words = level_few s off [] nothing_held words false [] none
-below_few false s off words = none
+-- below one of the program's commands
+below_few : (test : Bool) (s : Shape) (others : Option Shape) (words : List Text) → s.disable_help_subcommand ≡ true
+    → Few (option_map_or (λ (t : Shape). level_fault t [] nothing_held words false []) others [])
+    → Few (option_map_or (λ (t : Shape). level_fault t [] nothing_held words false []) (cond test (Some s) others) [])
+below_few true s others words off few = level_few s off [] nothing_held words false [] none
+below_few false s others words off few = few
 
-entered_few : (a : App) (s : Shape) → a.subs ≡ s ∷ [] → s.disable_help_subcommand ≡ true → (stop : Option (Text × List Text)) → Few (entered_fault a stop)
-entered_few a s is off stop = few_option _ stop _ (λ p. subst (λ (subs : List Shape).
-    Few (option_map_or (λ (t : Shape). level_fault t [] nothing_held p.1 false []) (find (λ t. answers_to p.0 (label_of t)) subs) [])) (sym is) (below_few _ s off p.1)) none
+subs_few : (subs : List Shape) → list_all (λ s. s.disable_help_subcommand) subs ≡ true → (name : Text) (words : List Text)
+    → Few (option_map_or (λ (t : Shape). level_fault t [] nothing_held words false []) (find (λ t. answers_to name (label_of t)) subs) [])
+subs_few [] off name words = none
+subs_few (s ∷ subs) off name words =
+    let both = and_parts s.disable_help_subcommand _ off in
+    below_few (answers_to name (label_of s)) s _ words both.0 (subs_few subs both.1 name words)
 
-built_few : (a : App) (s : Shape) → a.top.disable_help_subcommand ≡ true → a.subs ≡ s ∷ [] → s.disable_help_subcommand ≡ true → (h : Held) (words : List Text)
+entered_few : (a : App) → list_all (λ s. s.disable_help_subcommand) a.subs ≡ true → (stop : Option (Text × List Text)) → Few (entered_fault a stop)
+entered_few a off stop = few_option _ stop _ (λ p. subs_few a.subs off p.0 p.1) none
+
+built_few : (a : App) → a.top.disable_help_subcommand ≡ true → list_all (λ s. s.disable_help_subcommand) a.subs ≡ true → (h : Held) (words : List Text)
     → Few (built_fault a h words)
-built_few a s off is below_off h words =
+built_few a off below_off h words =
     let stop = (walk a.top.rules (names_of a) h words).stopped in
-    level_few a.top off (names_of a) h words (is_some (entered a stop)) (entered_fault a stop) (entered_few a s is below_off stop)
+    level_few a.top off (names_of a) h words (is_some (entered a stop)) (entered_fault a stop) (entered_few a below_off stop)
 
 few_faults : (words : List Text) → Few (fault_of program words)
-few_faults words = built_few (built program) _ refl refl refl nothing_held (argument_words program words)
+few_faults words = built_few (built program) refl refl nothing_held (argument_words program words)
 
 -- ---- help
 

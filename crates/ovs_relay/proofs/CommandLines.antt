@@ -1,24 +1,14 @@
--- What is found of the option `--merge`.
-use Rattle.std.proofs.Common.{◌≡◌, ◌≢◌, ◌∙◌, ap, sym, subst, codes, refl, List, [], Option, None, Some, option_map, Result, Ok, Err, IfOk, IsTrue, inl, inr, ⊎_elim, is_ok, true≢false}
-use Rattle.std.specs.Prelude.{option_and_then, IfErr}
-use Rattle.clap.specs.Words.{App, HasKind, IsAmong, Row, Text, fault_of, first_of, kind_of}
+-- What `clap`'s error says of an answer that was made from it.
+use Rattle.std.proofs.Common.{◌≡◌, ◌≢◌, ◌∙◌, ap, sym, subst, refl, List, [], Result, Ok, Err, IfOk, IsTrue, inl, inr, ⊎_elim, is_ok, false, true≢false}
+use Rattle.std.specs.Prelude.{IfErr}
+use Rattle.clap.specs.Words.{App, HasKind, IsAmong, Text, fault_of, kind_of}
 use Rattle.clap.specs.declared.error.Error.{Error}
 use Rattle.clap.specs.declared.error.kind.ErrorKind.TheVariants.{DisplayHelp, OutOfMemory}
 use Rattle.ovs_relay.specs.declared.command.Task.{Task}
-use Rattle.ovs_relay.specs.declared.command.Task.TheVariants.{Fold, Help}
 use Rattle.ovs_relay.specs.declared.command.CommandFault.{CommandFault}
 use Rattle.ovs_relay.specs.declared.command.CommandFault.TheVariants.{NoMemory, Usage}
-use Rattle.ovs_relay.specs.CommandLine.{AskForHelp, AsksToFold, HaveFault, is_help, is_usage, merge_of, program}
+use Rattle.ovs_relay.specs.CommandLine.{AskForHelp, HaveFault, is_help, is_usage, program}
 use Rattle.ovs_relay.proofs.CommandFaults.{help_is_all}
-
--- from the matches of the subcommand, without its name
-pub merge_by_rows : (found : Option (Text × List Row)) (rows : Option (List Row)) → rows ≡ option_map (λ p. p.1) found
-    → option_and_then (first_of (codes "merge")) rows ≡ merge_of found
-merge_by_rows found rows is = ap (option_and_then (first_of (codes "merge"))) is ∙ by_found found
-  where
-    by_found : (o : Option (Text × List Row)) → option_and_then (first_of (codes "merge")) (option_map (λ p. p.1) o) ≡ merge_of o
-    by_found None = refl
-    by_found (Some p) = refl
 
 -- want of memory, and nothing else
 pub no_memory : (r : Result Task CommandFault) (P : Task → Type 0) → r ≡ Err NoMemory → IfOk r P × IfErr r (λ fault. fault ≡ NoMemory)
@@ -56,7 +46,7 @@ module _ (e : Error) (a : App) (words : List Text) (is : a ≡ program) (has : H
   ]
 
   pub asked_of_error : AskForHelp words → (r : Result Task CommandFault) → (kind_of e ≡ OutOfMemory → r ≡ Err NoMemory)
-      → IfOk r (λ task. (word : Option Text) → ¬ (AsksToFold word task))
+      → IfOk r (λ task. IsTrue (is_help task))
       → IfErr r (λ fault. IsTrue (is_usage fault) → (kind_of e ≢ DisplayHelp) × (kind_of e ≢ OutOfMemory))
       → IfOk r (λ task. IsTrue (is_help task)) × IfErr r (λ fault. fault ≡ NoMemory)
   asked_of_error asks r memory no_task refuses = elim (subst (λ kinds. HasKind kinds e) asks found) [
@@ -64,10 +54,14 @@ module _ (e : Error) (a : App) (words : List Text) (is : a ≡ program) (has : H
     | inr among ↦ by_kind r (⊎_elim (λ help. help) (λ none. absurd none) among) no_task refuses
   ]
     where
-      by_kind : (r : Result Task CommandFault) → kind_of e ≡ DisplayHelp → IfOk r (λ task. (word : Option Text) → ¬ (AsksToFold word task))
+      by_kind : (r : Result Task CommandFault) → kind_of e ≡ DisplayHelp → IfOk r (λ task. IsTrue (is_help task))
           → IfErr r (λ fault. IsTrue (is_usage fault) → (kind_of e ≢ DisplayHelp) × (kind_of e ≢ OutOfMemory))
           → IfOk r (λ task. IsTrue (is_help task)) × IfErr r (λ fault. fault ≡ NoMemory)
-      by_kind (Ok (Help text)) help no_task refuses = (refl, tt)
-      by_kind (Ok (Fold merge)) help no_task refuses = absurd (no_task _ refl)
+      by_kind (Ok task) help no_task refuses = (no_task, tt)
       by_kind (Err (Usage line)) help no_task refuses = absurd ((refuses refl).0 help)
       by_kind (Err NoMemory) help no_task refuses = (tt, refl)
+
+-- an answer that is help is no other
+pub no_other : (r : Result Task CommandFault) (P : Task → Type 0) → IfOk r (λ task. IsTrue (is_help task)) → IfOk r (λ task. is_help task ≡ false → P task)
+no_other (Ok task) P help = λ other. absurd (true≢false (sym help ∙ other))
+no_other (Err fault) P help = tt

@@ -6,7 +6,7 @@ use Rattle.clap.specs.declared.error.kind.ErrorKind.TheVariants.{DisplayHelp}
 use Rattle.ovs_relay.specs.declared.command.CommandFault.{CommandFault}
 use Rattle.ovs_relay.specs.declared.command.CommandFault.TheVariants.{Usage, NoMemory}
 use Rattle.ovs_relay.specs.declared.command.Task.{Task}
-use Rattle.ovs_relay.specs.declared.command.Task.TheVariants.{Fold, Help}
+use Rattle.ovs_relay.specs.declared.command.Task.TheVariants.{Fold, World, Help}
 
 -- the option `--merge`, which has one word after it
 abbrev pub merge_rule : Rule
@@ -15,25 +15,34 @@ merge_rule = record (new_rule (codes "merge")) { long = Some (codes "merge"); ac
 abbrev pub fold_app : App
 fold_app = with_rule (new_app (codes "fold")) merge_rule
 
-abbrev pub with_fold : App
-with_fold = with_subcommand (new_app (codes "ovs_relay")) fold_app.top
+-- no option of its own
+abbrev pub world_app : App
+world_app = new_app (codes "world")
 
--- the program as `clap` sees it: one command, fold, which has to be named
+abbrev pub with_commands : App
+with_commands = with_subcommand (with_subcommand (new_app (codes "ovs_relay")) fold_app.top) world_app.top
+
+-- the program as `clap` sees it: two commands, fold and world, of which one has to be named
 abbrev pub program : App
-program = record with_fold { top = record with_fold.top { subcommand_required = true; disable_help_subcommand = true } }
+program = record with_commands { top = record with_commands.top { subcommand_required = true; disable_help_subcommand = true } }
 
--- the word after `--merge` that a subcommand has, if it has one
-abbrev pub merge_of : Option (Text × List Row) → Option Text
-merge_of found = option_and_then (λ p. first_of (codes "merge") p.1) found
+-- the command that these words name, if they name one
+abbrev pub command_named : List Text → Option Text
+command_named words = option_map (λ p. p.0) (subcommand_of program words)
+
+-- the word after `--merge` in what is found of a command, if it has one
+abbrev pub merge_of : List Row → Option Text
+merge_of rows = first_of (codes "merge") rows
 
 -- the word after `--merge`, if these words have one
 abbrev pub merge_word : List Text → Option Text
-merge_word words = merge_of (subcommand_of program words)
+merge_word words = option_and_then (λ p. merge_of p.1) (subcommand_of program words)
 
--- it is asked to fold, with this word after `--merge`
-abbrev pub AsksToFold : Option Text → Task → Type 0
-AsksToFold word (Fold merge) = option_map string_bytes merge ≡ word
-AsksToFold word (Help text) = ⊥
+-- the words ask for this: they name `fold`, and this is the word after `--merge`, or there is none; or they name `world`
+abbrev pub AskToRun : List Text → Task → Type 0
+AskToRun words (Fold merge) = (command_named words ≡ Some (codes "fold")) × (option_map string_bytes merge ≡ merge_word words)
+AskToRun words World = command_named words ≡ Some (codes "world")
+AskToRun words (Help text) = ⊥
 
 -- the words ask for help: a call for help is all that `clap` finds in them in the place of a task
 abbrev pub AskForHelp : List Text → Type 0
@@ -47,6 +56,7 @@ HaveFault words = (fault_of program words ≢ []) × ¬ (AskForHelp words)
 abbrev pub is_help : Task → Bool
 is_help (Help text) = true
 is_help (Fold merge) = false
+is_help World = false
 
 -- the answer is a line that says what is off
 abbrev pub is_usage : CommandFault → Bool

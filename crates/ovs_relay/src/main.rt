@@ -11,6 +11,8 @@ mod tests;
 use command::{Task, command};
 use complaint::{Complaint, complaint_of};
 use ovs_fold::fold_run;
+use ovs_script::RunEnd;
+use ovs_story::world_run;
 use ovs_wire::Counted;
 use std::fmt::Display;
 use std::fs::File;
@@ -27,6 +29,14 @@ fn complains<R: Eprint>(rt: &R, complaint: Complaint<'_>) -> ExitCode {
     fails(rt, &complaint, complaint.status())
 }
 
+// Ends as a run ended that read standard input and perhaps a file.
+fn ends<R: Eprint>(rt: &R, end: RunEnd, file: Option<&str>, input_failures: u64) -> ExitCode {
+    match complaint_of(end, file, input_failures) {
+        None => ExitCode::from(end.status()),
+        Some(complaint) => complains(rt, complaint),
+    }
+}
+
 // Folds from standard input, with the links of a file where one is named. The file is opened before anything is read.
 fn run_fold(rt: &HostRuntime, merge: Option<&str>) -> ExitCode {
     let mut second = None;
@@ -39,10 +49,15 @@ fn run_fold(rt: &HostRuntime, merge: Option<&str>) -> ExitCode {
     let mut reader = Counted::new(rt.stdin());
     let mut writer = Counted::new(rt.stdout());
     let end = fold_run(rt.alloc(), &mut reader, &mut second, &mut writer);
-    match complaint_of(end, merge, reader.failures()) {
-        None => ExitCode::from(end.status()),
-        Some(complaint) => complains(rt, complaint),
-    }
+    ends(rt, end, merge, reader.failures())
+}
+
+// Tells what becomes of a source and its relays, whose events are read from standard input.
+fn run_world(rt: &HostRuntime) -> ExitCode {
+    let mut reader = Counted::new(rt.stdin());
+    let mut writer = Counted::new(rt.stdout());
+    let end = world_run(rt.alloc(), &mut reader, &mut writer);
+    ends(rt, end, None, reader.failures())
 }
 
 fn main(rt: HostRuntime) -> ExitCode {
@@ -62,6 +77,7 @@ fn main(rt: HostRuntime) -> ExitCode {
             let merge = merge.as_ref().map(|path| path.as_str());
             run_fold(&rt, merge)
         }
+        Ok(Task::World) => run_world(&rt),
         Ok(Task::Help(text)) => match print!(rt; "{text}") {
             Ok(()) => ExitCode::SUCCESS,
             Err(_) => complains(&rt, Complaint::Unwritten),

@@ -12,6 +12,7 @@ fn asked(alloc: Global, line: &str) -> Result<String, AllocError> {
     match command(alloc, words.as_slice()) {
         Ok(Task::Fold { merge: None }) => String::from_str(alloc, "fold"),
         Ok(Task::Fold { merge: Some(file) }) => format!(in alloc; "fold and merge {file}"),
+        Ok(Task::World) => String::from_str(alloc, "world"),
         Ok(Task::Help(text)) => Ok(text),
         Err(fault) => {
             let status = fault.status();
@@ -43,6 +44,7 @@ fn command_lines(rt: HostRuntime) {
         ("ovs_relay fold", "fold"),
         ("ovs_relay fold --merge F", "fold and merge F"),
         ("ovs_relay fold --merge=F", "fold and merge F"),
+        ("ovs_relay world", "world"),
         // no command, and an unknown one
         (
             "ovs_relay",
@@ -59,6 +61,10 @@ fn command_lines(rt: HostRuntime) {
             "ovs_relay fold --join F",
             "2: unexpected argument '--join' found",
         ),
+        (
+            "ovs_relay world --merge F",
+            "2: unexpected argument '--merge' found",
+        ),
         // no word behind the option, the option twice, and a word too many
         (
             "ovs_relay fold --merge",
@@ -69,6 +75,16 @@ fn command_lines(rt: HostRuntime) {
             "2: the argument '--merge <FILE>' cannot be used multiple times",
         ),
         ("ovs_relay fold F", "2: unexpected argument 'F' found"),
+        ("ovs_relay world x", "2: unexpected argument 'x' found"),
+        // two commands
+        (
+            "ovs_relay fold world",
+            "2: unexpected argument 'world' found",
+        ),
+        (
+            "ovs_relay world fold",
+            "2: unexpected argument 'fold' found",
+        ),
     ] {
         let found = asked(rt.alloc(), line);
         let is_asked = matches!(&found, Ok(text) if text.as_str() == want);
@@ -79,6 +95,8 @@ fn command_lines(rt: HostRuntime) {
         ("ovs_relay -h", "Usage: ovs_relay <COMMAND>\n"),
         ("ovs_relay fold --help", "Usage: ovs_relay fold [OPTIONS]\n"),
         ("ovs_relay fold -h", "Usage: ovs_relay fold [OPTIONS]\n"),
+        ("ovs_relay world --help", "Usage: ovs_relay world\n"),
+        ("ovs_relay world -h", "Usage: ovs_relay world\n"),
     ] {
         let found = asked(rt.alloc(), line);
         let is_asked = matches!(&found, Ok(text) if text.as_str().contains(want));
