@@ -1,5 +1,5 @@
 -- Runs over one text alone.
-use Rattle.std.proofs.Common.{◌≡◌, ℕ, List, Option, Some, None, true, false, refl, IfSome, is_some, inl, inr}
+use Rattle.std.proofs.Common.{◌≡◌, ℕ, List, Option, Some, None, true, false, refl, IfSome, inl, inr}
 use Rattle.ovs_wire.specs.Counted.{Counting}
 use Rattle.ovs_script.specs.declared.run_end.RunEnd.{RunEnd}
 use Rattle.ovs_script.specs.declared.run_end.RunEnd.TheVariants.{Clean, Refused, ReadFault, WriteFault, TurnsSpent, NoMemory}

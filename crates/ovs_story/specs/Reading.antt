@@ -1,5 +1,5 @@
 -- What the lines of the script `world` say behind the schema's: how many relays there are, and events.
-use Rattle.std.specs.Prelude.{ℕ, List, Bool, ◌&&◌, nat_le, Option, Some, None, Result, Ok, Err, if◌then◌else◌, codes, option_map, option_and_then}
+use Rattle.std.specs.Prelude.{ℕ, List, Option, Some, None, Result, Ok, Err, if◌then◌else◌, codes, option_map, option_and_then}
 use Rattle.std.specs.Option.{ok_or}
 use Rattle.serde_json.specs.Data.{Data}
 use Rattle.serde_json.specs.Find.{as_str, as_array, as_number, as_u64}
@@ -56,17 +56,17 @@ abbrev pub event_of_two : Data × Data → Result Event Refusal
 event_of_two p = do
   number ← ok_or (number_of p.1) BadShape
   if is_word (codes "cut") p.0 then Ok (Cut number)
-    else if is_word (codes "restart") p.0 then Ok (Restart number)
-    else Err BadShape
+      else if is_word (codes "restart") p.0 then Ok (Restart number)
+      else Err BadShape
 
 -- a name and two numbers
 abbrev pub event_of_numbers : Data → Data → Data → Result Event Refusal
 event_of_numbers name a b = do
   p ← numbers_of a b
   if is_word (codes "connect") name then Ok (Connect p.0 p.1)
-    else if is_word (codes "deliver") name then Ok (Deliver p.0 p.1)
-    else if is_word (codes "merge") name then Ok (MergeFrom p.0 p.1)
-    else Err BadShape
+      else if is_word (codes "deliver") name then Ok (Deliver p.0 p.1)
+      else if is_word (codes "merge") name then Ok (MergeFrom p.0 p.1)
+      else Err BadShape
 
 -- a name and two values
 abbrev pub event_of_three : Data × Data × Data → Result Event Refusal

@@ -22,10 +22,7 @@ fn number_of(value: &Value) -> Option<usize>
 }
 
 /// How many relays a line asks for, if it is a number. `None` is a line above the limit.
-pub(crate) fn relays_of_line(
-    alloc: Global,
-    line: Option<&[u8]>,
-) -> Result<Option<usize>, NoMemory>
+pub(crate) fn relays_of_line(alloc: Global, line: Option<&[u8]>) -> Result<Option<usize>, NoMemory>
     ensures value { IfOk result (λ count. count ≡ relays_of_line (option_map (λ l. l.now) line.entry)) }
 {
     let Some(line) = line else {

@@ -54,7 +54,11 @@ fn hear_schema(alloc: Global, line: Option<&[u8]>) -> Result<(Stage, String), No
 }
 
 // A world of so many relays, if it may have so many.
-fn world_of(alloc: Global, schema: &Schema, relays: Option<usize>) -> Result<Option<World>, NoMemory>
+fn world_of(
+    alloc: Global,
+    schema: &Schema,
+    relays: Option<usize>,
+) -> Result<Option<World>, NoMemory>
     ensures value { IfOk result (λ w. w ≡ world_of schema.now relays) }
 {
     let Some(relays) = relays else {

@@ -1,4 +1,4 @@
-use Rattle.std.proofs.Common.{◌≡◌, ◌∷◌, ◌++◌, sym, ap, ap₂, subst, ◌∙◌, length, ℕ, string_bytes, List, Some, None, arith, take}
+use Rattle.std.proofs.Common.{◌≡◌, ◌∷◌, ap, ◌∙◌, arith, take}
 use Rattle.std.proofs.Math.Nat.{lt_of_not-le}
 use Rattle.ovs_story.specs.Closing.{node_line, node_lines}
 use Rattle.ovs_story.proofs.Lines.{one_more, no_more}
@@ -16,7 +16,7 @@ returns c =
     let all = c.args.world.now.source ∷ c.args.world.now.relays in
     elim c.loop-node-test.branch [
       | else-loop-node-test w ↦ (
-        let is : c.loop-node.node ≡ 10 = omega (arith, w.loop-node-test.false, c.loop-node.auto.node-end) in
-        record { text = c.loop-node.invariant ∙ ap (λ k. node_lines 0 (take k all)) is })
+          let is : c.loop-node.node ≡ 10 = omega (arith, w.loop-node-test.false, c.loop-node.auto.node-end) in
+          record { text = c.loop-node.invariant ∙ ap (λ k. node_lines 0 (take k all)) is })
       | then-loop-node-test+in_default w ↦ record { text = c.loop-node.invariant ∙ no_more c.loop-node.node 10 all (lt_of_not-le (w.store.ensures.none w.in_default.is)) c.loop-node.auto.node-end }
     ]

@@ -1,7 +1,5 @@
-use Rattle.std.proofs.Common.{◌≡◌, Some, map, option_map, sym, ap, ◌∙◌}
-use Rattle.serde_json.specs.Data.{Items}
-use Rattle.serde_json.specs.View.{view, items_view}
-use Rattle.serde_json.specs.declared.value.Value.{Value}
+use Rattle.std.proofs.Common.{Some, map, option_map, sym, ap, ◌∙◌}
+use Rattle.serde_json.specs.View.{view}
 use Rattle.ovs_wire.specs.Reading.{list_of}
 use Rattle.ovs_wire.proofs.Lists.{list_again, copies_view}
 use Rattle.ovs_story.proofs.reading.operations_of.Goals as goal

@@ -32,7 +32,7 @@ returns-clause-said g c =
     let now = g.W.Write.contents c.run_script.new.writer.device in
     let last = c.run_script.new.script in
     let said : Option (List ℕ) → Story → Type 0 = λ second f. IfSome (input_known input) (λ (t : Texts). WritesSaid c.run_script.result
-        (HearsAllRead story_rules f last t left second) (AreFirstAnswers story_rules f t) before now) in
+    (HearsAllRead story_rules f last t left second) (AreFirstAnswers story_rules f t) before now) in
     (last, all_said_alone story_rules beginning last input left _ before now c.run_script.result (subst (said _) c.new.ensures.value c.run_script.ensures.said))
 
 pub returns-clause-counted : goal.returns-clause-counted
