@@ -1,3 +1,5 @@
+use Rattle.std.proofs.lemmas.Grind.{common_steps}
+use Rattle.std.proofs.Common.{arith}
 use Rattle.std.specs.Prelude.{not, ◌&&◌}
 use Rattle.ovs_data.proofs.Ascends.{IsAscending-exchanged, AreExchanged-exchange}
 use Rattle.ovs_data.proofs.Exchanges.{ends_left, ends_right, all_out}
@@ -25,3 +27,9 @@ pub returns-clause-exchange : goal.returns-clause-exchange
 returns-clause-exchange g c =
     AreExchanged-exchange g.E.Entry.order g.met.E.Entry.total (λ x y. not c.args.same_too && g.E.Entry.is_same x y) c.args.old.now c.args.other.now c.loop-y.out.items c.requires.old c.requires.other
     (all_out g.E.Entry.order (λ x y. not c.args.same_too && g.E.Entry.is_same x y) c.loop-y.out.items c.loop-left.right.now _ c.loop-y.y-index c.loop-y-test.false c.loop-y.invariant)
+
+pub loop-left-preserved-in_ok-push-in-Equal : goal.loop-left-preserved-in_ok-push-in-Equal
+loop-left-preserved-in_ok-push-in-Equal c = grind (arith, common_steps)
+
+pub loop-left-preserved : goal.loop-left-preserved
+loop-left-preserved c = grind (arith, common_steps)
