@@ -13,10 +13,8 @@ ghost use Rattle.ovs_schema_line.specs.Refusal.{schema_answer};
 ghost use Rattle.ovs_fold.specs.declared.fold.Fold.{Fold};
 ghost use Rattle.ovs_fold.specs.Folding.{fold_rules, beginning, fold_output, is_clean, has_schema, stage_after_schema};
 
-use crate::closing::close_store;
 use crate::intake::answer_line;
-use crate::stores::TwoStores;
-use ovs_links::LinkStore;
+use crate::stores::{OneStore, TwoStores};
 use ovs_schema_line::{SchemaRefusal, schema_of_line};
 use ovs_script::{Closing, RunEnd, Script, run_script};
 use ovs_types::NoMemory;
@@ -31,7 +29,7 @@ pub(crate) enum Stage {
     /// The schema.
     Schema,
     /// A link of the input, for this store.
-    Links(LinkStore),
+    Links(OneStore),
     /// A link of the second text, for the second of these stores.
     Both(TwoStores),
     /// Nothing that is looked at: the input ended before its schema.
@@ -65,7 +63,7 @@ impl Fold {
     {
         match schema_of_line(alloc, line)? {
             Ok(schema) => {
-                self.stage = Stage::Links(LinkStore::new(alloc, &schema)?);
+                self.stage = Stage::Links(OneStore::new(alloc, &schema)?);
                 Ok(String::new(alloc))
             }
             Err(refusal) => {
@@ -87,7 +85,7 @@ impl Script for Fold {
     ) -> Result<String, NoMemory> {
         let answer = match &mut self.stage {
             Stage::Schema => return self.take_schema(alloc, line),
-            Stage::Links(store) => answer_line(alloc, store, number, line)?,
+            Stage::Links(store) => answer_line(alloc, &mut store.store, number, line)?,
             Stage::Both(stores) => stores.answer_line(alloc, number, line)?,
             Stage::Missing | Stage::Over => return Ok(String::new(alloc)),
         };
@@ -115,7 +113,7 @@ impl Script for Fold {
                 text: SchemaRefusal::BadJson.line(alloc)?,
                 is_content: false,
             }),
-            Stage::Links(store) => close_store(alloc, store, self.refused),
+            Stage::Links(store) => store.close(alloc, self.refused),
             Stage::Both(stores) => stores.close(alloc, self.refused),
             Stage::Over => Ok(Closing {
                 text: String::new(alloc),

@@ -1,9 +1,10 @@
-//! Two stores, of which the second is merged into the first at the end.
+//! A store on the heap, and two of them, of which the second is merged into the first at the end.
 
 ghost use Rattle.std.specs.Prelude.{◌≡◌, ◌⊎◌, ◌<◌, ◌+◌, ◌++◌, ◌^◌, ◌&&◌, not, IfOk, OnOk, OnErr, codes, option_map, string_bytes};
 ghost use Rattle.ovs_links.specs.Store.{tables_of};
 ghost use Rattle.ovs_links.specs.Outcomes.{merge_answer, merged};
 ghost use Rattle.ovs_fold.specs.Intake.{line_outcome, is_refused};
+ghost use Rattle.ovs_fold.specs.Closing.{end_text, is_whole_chain};
 ghost use Rattle.ovs_fold.specs.Stores.{no_links, merge_refusal_of, merging_of, second_answer, stores_after_line, stores_closing, is_merged_whole};
 
 use crate::closing::close_store;
@@ -11,15 +12,51 @@ use crate::intake::{Answer, answer_line};
 use crate::words::{Refusal, merge_line};
 use ovs_links::{LinkStore, MergeError};
 use ovs_script::Closing;
-use ovs_types::NoMemory;
+use ovs_types::{NoMemory, Schema};
 use std::alloc::{AllocError, Global};
 use std::marker::Model;
+
+/// A store on the heap: a stage stays small, and what holds one drops it by a call.
+#[derive(Drop)]
+pub(crate) struct OneStore {
+    pub(crate) store: Box<LinkStore>,
+}
+
+impl Model for OneStore {
+    ghost use Rattle.ovs_links.specs.contracts.store.LinkStore as store_row;
+    ghost use Rattle.ovs_links.specs.Store.{Stored};
+
+    ghost Value = { Stored };
+
+    ghost coded = { store_row.the_row.coded };
+
+    ghost view = { λ s. s.store.value };
+}
+
+impl OneStore {
+    /// A store of this schema with no link.
+    pub(crate) fn new(alloc: Global, schema: &Schema) -> Result<OneStore, NoMemory>
+        ensures value { IfOk result (λ one. one ≡ no_links schema.now) }
+    {
+        Ok(OneStore {
+            store: Box::new(alloc, LinkStore::new(alloc, schema)?)?,
+        })
+    }
+
+    /// Folds the longest chain and tells of it; content where no line was refused and the chain isn't stuck.
+    pub(crate) fn close(&mut self, alloc: Global, refused: bool) -> Result<Closing, NoMemory>
+        ensures text { IfOk result (λ closing. string_bytes closing.text ≡ end_text self.old) }
+        ensures content { IfOk result (λ closing. closing.is_content ≡ (not refused && is_whole_chain self.old)) }
+    {
+        close_store(alloc, &mut self.store, refused)
+    }
+}
 
 /// The store of the input, and one of the same schema for a second text.
 #[derive(Drop)]
 pub(crate) struct TwoStores {
-    first: LinkStore,
-    second: LinkStore,
+    first: OneStore,
+    second: OneStore,
 }
 
 impl Model for TwoStores {
@@ -82,10 +119,10 @@ fn with_m(alloc: Global, line: &str) -> Result<String, AllocError>
 
 impl TwoStores {
     /// A store, and beside it one of the same schema with no link.
-    pub(crate) fn new(alloc: Global, first: LinkStore) -> Result<TwoStores, NoMemory>
+    pub(crate) fn new(alloc: Global, first: OneStore) -> Result<TwoStores, NoMemory>
         ensures value { IfOk result (λ stores. stores ≡ record { first = first; second = no_links first.schema }) }
     {
-        let second = LinkStore::new(alloc, first.schema())?;
+        let second = OneStore::new(alloc, first.store.schema())?;
         Ok(TwoStores { first, second })
     }
 
@@ -103,7 +140,7 @@ impl TwoStores {
         ensures after { OnOk result (self.new ≡ stores_after_line self.old (option_map (λ l. l.now) line.entry)) }
         ensures err { OnErr result ((self.new ≡ self.old) ⊎ (self.new ≡ stores_after_line self.old (option_map (λ l. l.now) line.entry))) }
     {
-        let answer = answer_line(alloc, &mut self.second, number + 1, line)?;
+        let answer = answer_line(alloc, &mut self.second.store, number + 1, line)?;
         Ok(Answer {
             text: with_m(alloc, answer.text.as_str())?,
             is_refused: answer.is_refused,
@@ -118,10 +155,10 @@ impl TwoStores {
         ensures text { IfOk result (λ closing. string_bytes closing.text ≡ stores_closing self.old) }
         ensures content { IfOk result (λ closing. closing.is_content ≡ (not refused && is_merged_whole self.old)) }
     {
-        let merged = merge_stores(&mut self.first, &self.second)?;
+        let merged = merge_stores(&mut self.first.store, &self.second.store)?;
         let is_merged = merged.is_ok();
         let mut text = merge_line(alloc, merged)?;
-        let end = close_store(alloc, &mut self.first, false)?;
+        let end = close_store(alloc, &mut self.first.store, false)?;
         text.push_str(end.text.as_str())?;
         Ok(Closing {
             text,
