@@ -21,10 +21,17 @@ use crate::channel::Channel;
 use crate::error::WorldError;
 use ovs_links::{Link, LinkStore};
 use ovs_reader::ReaderSession;
-use ovs_types::TxnId;
+use ovs_types::{NoMemory, TxnId};
 use ovs_upstream::{UpError, UpEvent, UpSession};
 use ovs_wire::{Message, MessageError};
 use std::alloc::Global;
+
+// On the heap: each way out of what holds it drops it by a call.
+fn boxed<T: Drop>(alloc: Global, value: T) -> Result<Box<T>, NoMemory>
+    ensures value { IfOk result (λ boxed. boxed.value ≡ value) }
+{
+    Ok(Box::new(alloc, value)?)
+}
 
 /// A session between a relay and the node that it follows.
 #[derive(Drop)]
@@ -84,8 +91,11 @@ impl Session {
         ensures shown { OnOk result (MayBeShown self.new.reader (folded_in node.now)) }
         ensures refused { IfErr result (IsNotPassed request.now) }
     {
-        let request = self.upward.pass(alloc, request)?;
-        let turn = self.reader.take_message(alloc, &request, node.folded())?;
+        let request = boxed(alloc, self.upward.pass(alloc, request)?)?;
+        let turn = boxed(
+            alloc,
+            self.reader.take_message(alloc, &request, node.folded())?,
+        )?;
         self.downward.send_any(alloc, turn.out.as_ref())?;
         Ok(())
     }

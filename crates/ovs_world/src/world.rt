@@ -21,6 +21,7 @@ use ovs_types::{NoMemory, RowId, Schema, TxnId};
 use serde_json::Value;
 use std::alloc::Global;
 use std::marker::Model;
+use std::mem;
 
 /// The most relays of a world.
 pub const MAX_RELAYS: usize = 9;
@@ -62,7 +63,8 @@ fn cut_if_end(session: &mut Option<Session>, relay: usize)
     if let Some(open) = session
         && open.has_end(relay)
     {
-        *session = None;
+        // by a call, which spares this function's proof the drop of each part
+        mem::drop(session.take());
     }
 }
 

@@ -1,4 +1,4 @@
-use Rattle.std.proofs.Common.{◌≡◌, ◌<◌, ℕ, Option, Result, Vec, Ok, Err, IfOk, length, arith}
+use Rattle.std.proofs.Common.{rules, ◌≡◌, ◌<◌, ℕ, Option, Result, Vec, Ok, Err, IfOk, length, arith}
 use Rattle.std.specs.declared.alloc.Global.{Global}
 use Rattle.serde_json.specs.View.{view}
 use Rattle.ovs_json.specs.FirstFault.{items_of}
@@ -22,3 +22,6 @@ with_table-so_far-requires c =
       within = place c.loop-name.so_far c.in_ok-one.one (length tables) c.loop-name.invariant.count
           (table_within c.args.notation tables c.as_str.result.now (view c.in-Some.value.now) c.in_ok-one.one c.in_ok-one.ensures.exact);
     }
+
+pub returns-in-Err : goal.returns-in-Err
+returns-in-Err c = search rules
