@@ -97,13 +97,12 @@ fn alone(alloc: Global, what: &str, parts: &[Value]) -> Result<Option<String>, F
 /// What a case answers.
 pub(crate) fn answer(
     alloc: Global,
-    schema: &mut Option<Schema>,
+    schema: &mut Option<Box<Schema>>,
     parts: &[Value],
 ) -> Result<String, Fault> {
     let what = text(parts, 0)?;
     if what == "use" {
-        let read = Schema::read(alloc, part(parts, 1)?).map_err(|_| Fault::Malformed)?;
-        *schema = Some(read);
+        *schema = Some(schemas::read(alloc, parts, 1)?);
         return word(alloc, "ok");
     }
     match alone(alloc, what, parts)? {

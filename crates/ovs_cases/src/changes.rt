@@ -149,10 +149,14 @@ fn steps(alloc: Global, database: &mut Database, changes: &[Value]) -> Result<()
 }
 
 /// The database after the changes that fit, one after the other.
-pub(crate) fn after(alloc: Global, schema: &Schema, changes: &[Value]) -> Result<Database, Fault>
-    ensures schema { IfOk result (λ database. database.schema ≡ schema.now) }
+pub(crate) fn after(
+    alloc: Global,
+    schema: &Schema,
+    changes: &[Value],
+) -> Result<Box<Database>, Fault>
+    ensures schema { IfOk result (λ database. database.value.schema ≡ schema.now) }
 {
-    let mut database = Database::empty(alloc, schema)?;
+    let mut database = Box::new(alloc, Database::empty(alloc, schema)?)?;
     steps(alloc, &mut database, changes)?;
     Ok(database)
 }
@@ -166,8 +170,9 @@ pub(crate) fn database(alloc: Global, schema: &Schema, parts: &[Value]) -> Resul
 /// `["told", [CHANGE, ..], CHANGE]`: what applying the last one tells, or why it doesn't fit.
 pub(crate) fn told(alloc: Global, schema: &Schema, parts: &[Value]) -> Result<String, Fault> {
     let changes = list(parts, 1)?;
+    let last = part(parts, 2)?;
     let mut database = after(alloc, schema, changes)?;
-    step(alloc, &mut database, part(parts, 2)?, changes.len())
+    step(alloc, &mut database, last, changes.len())
 }
 
 // What the difference of two databases is written as.
@@ -194,6 +199,7 @@ fn difference_by(
 /// the one after it.
 pub(crate) fn difference(alloc: Global, schema: &Schema, parts: &[Value]) -> Result<String, Fault> {
     let changes = list(parts, 1)?;
+    let last = part(parts, 2)?;
     let old = after(alloc, schema, changes)?;
-    difference_by(alloc, &old, changes, part(parts, 2)?)
+    difference_by(alloc, &old, changes, last)
 }

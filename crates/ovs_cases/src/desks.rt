@@ -89,19 +89,25 @@ fn opened(alloc: Global, schema: &Schema, parts: &[Value]) -> Result<SourceDesk,
     Ok(SourceDesk::new(alloc, source, FreshRows::new(row), commit))
 }
 
-/// `["desk", ROW-ID, COMMIT-ID, [EVENT, ..]]`, where an event is `["transact", SESSION, [OPERATION, ..]]`, `["lock", SESSION,
-/// NAME]`, `["steal", SESSION, NAME]`, `["unlock", SESSION, NAME]`, `["told", SESSION]`, `["end", SESSION]` or `["link"]`: the
-/// message that each answers, or the ids of the link. Rows and commits get ids from the first ones on.
-pub(crate) fn desk(alloc: Global, schema: &Schema, parts: &[Value]) -> Result<String, Fault> {
-    let mut desk = opened(alloc, schema, parts)?;
+// What the desk answers to the events, one after another.
+fn answers(alloc: Global, desk: &mut SourceDesk, events: &[Value]) -> Result<String, Fault> {
     let mut answers = String::new(alloc);
-    for one in list(parts, 3)? {
+    for one in events {
         let parts = one.as_array().ok_or(Fault::Malformed)?;
-        let answer = event(alloc, &mut desk, parts.as_slice())?;
+        let answer = event(alloc, desk, parts.as_slice())?;
         if !answers.is_empty() {
             answers.push_str(" | ")?;
         }
         answers.push_str(answer.as_str())?;
     }
     Ok(answers)
+}
+
+/// `["desk", ROW-ID, COMMIT-ID, [EVENT, ..]]`, where an event is `["transact", SESSION, [OPERATION, ..]]`, `["lock", SESSION,
+/// NAME]`, `["steal", SESSION, NAME]`, `["unlock", SESSION, NAME]`, `["told", SESSION]`, `["end", SESSION]` or `["link"]`: the
+/// message that each answers, or the ids of the link. Rows and commits get ids from the first ones on.
+pub(crate) fn desk(alloc: Global, schema: &Schema, parts: &[Value]) -> Result<String, Fault> {
+    let events = list(parts, 3)?;
+    let mut desk = opened(alloc, schema, parts)?;
+    answers(alloc, &mut desk, events)
 }

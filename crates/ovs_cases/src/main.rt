@@ -33,14 +33,14 @@ use std::alloc::Global;
 use std::io::{self, BufRead, BufReader};
 
 // What a case answers.
-fn answer_of(alloc: Global, schema: &mut Option<Schema>, case: &str) -> Result<String, Fault> {
+fn answer_of(alloc: Global, schema: &mut Option<Box<Schema>>, case: &str) -> Result<String, Fault> {
     let case = Value::from_str(alloc, case)?;
     let parts = case.as_array().ok_or(Fault::Malformed)?;
     case::answer(alloc, schema, parts.as_slice())
 }
 
 // The same, with a fault as text.
-fn told(alloc: Global, schema: &mut Option<Schema>, case: &str) -> Result<String, Fault> {
+fn told(alloc: Global, schema: &mut Option<Box<Schema>>, case: &str) -> Result<String, Fault> {
     match answer_of(alloc, schema, case) {
         Ok(answer) => Ok(answer),
         Err(fault) => Ok(String::from_str(alloc, fault.word())?),

@@ -51,12 +51,17 @@ fn read(alloc: Global, schema: &Schema, parts: &[Value]) -> Result<Monitor, Faul
     }
 }
 
+fn shown(alloc: Global, monitor: &Monitor, database: &Database) -> Result<String, Fault>
+    requires monitor { IsMonitorOf database.now.schema.description.tables monitor.now.watches }
+{
+    Ok(monitor.initial(alloc, database)?.to_string(alloc)?)
+}
+
 /// `["initial", NOTATION, REQUESTS, [CHANGE, ..]]`: what a monitor shows at first of the database after the changes.
 pub(crate) fn initial(alloc: Global, schema: &Schema, parts: &[Value]) -> Result<String, Fault> {
     let monitor = read(alloc, schema, parts)?;
     let database = after(alloc, schema, list(parts, 3)?)?;
-    let rows = monitor.initial(alloc, &database)?;
-    Ok(rows.to_string(alloc)?)
+    shown(alloc, &monitor, &database)
 }
 
 // What the monitor tells of a step in its notation.
@@ -92,20 +97,42 @@ fn step(
     told(alloc, database.schema(), monitor, notation, &done)
 }
 
-/// `["updates", NOTATION, REQUESTS, [CHANGE, ..], [CHANGE, ..]]`: what a monitor tells of each of the last changes.
-pub(crate) fn updates(alloc: Global, schema: &Schema, parts: &[Value]) -> Result<String, Fault> {
-    let notation = notation(parts)?;
-    let monitor = read(alloc, schema, parts)?;
-    let before = list(parts, 3)?;
-    let mut database = after(alloc, schema, before)?;
+// What the monitor tells of each of the changes, the first of which is the one of this number.
+fn steps(
+    alloc: Global,
+    database: &mut Database,
+    monitor: &Monitor,
+    notation: Notation,
+    changes: &[Value],
+    first: usize,
+) -> Result<String, Fault>
+    requires monitor { IsMonitorOf database.old.schema.description.tables monitor.now.watches }
+{
     let mut lines = String::new(alloc);
-    for (number, change) in list(parts, 4)?.iter().enumerate() {
-        let number = before.len().saturating_add(number);
-        let line = step(alloc, &mut database, &monitor, notation, change, number)?;
+    for (number, change) in changes.iter().enumerate() {
+        let number = first.saturating_add(number);
+        let line = step(alloc, database, monitor, notation, change, number)?;
         if !lines.is_empty() {
             lines.push_str(" | ")?;
         }
         lines.push_str(line.as_str())?;
     }
     Ok(lines)
+}
+
+/// `["updates", NOTATION, REQUESTS, [CHANGE, ..], [CHANGE, ..]]`: what a monitor tells of each of the last changes.
+pub(crate) fn updates(alloc: Global, schema: &Schema, parts: &[Value]) -> Result<String, Fault> {
+    let notation = notation(parts)?;
+    let before = list(parts, 3)?;
+    let changes = list(parts, 4)?;
+    let monitor = read(alloc, schema, parts)?;
+    let mut database = after(alloc, schema, before)?;
+    steps(
+        alloc,
+        &mut database,
+        &monitor,
+        notation,
+        changes,
+        before.len(),
+    )
 }

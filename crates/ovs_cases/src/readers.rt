@@ -136,17 +136,30 @@ fn new_store(alloc: Global, schema: &Schema) -> Result<(LinkStore, ReaderSession
     Ok((store, ReaderSession::new(alloc)))
 }
 
-/// `["reader", [EVENT, ..]]`, where an event is a link as `[ID, ID, CHANGE]`, `["pump"]`, `["end"]`, or a message of the client:
-/// how the link was taken; the notifications; and the reply, or what the source is asked.
-pub(crate) fn reader(alloc: Global, schema: &Schema, parts: &[Value]) -> Result<String, Fault> {
-    let (mut store, mut session) = new_store(alloc, schema)?;
+// The answers to the events, one after another.
+fn answers(
+    alloc: Global,
+    store: &mut LinkStore,
+    session: &mut ReaderSession,
+    events: &[Value],
+) -> Result<String, Fault>
+    requires shown { MayBeShown session.old (folded_of store.old.schema store.old.folded) }
+{
     let mut answers = String::new(alloc);
-    for one in list(parts, 1)? {
-        let answer = event(alloc, &mut store, &mut session, one)?;
+    for one in events {
+        let answer = event(alloc, store, session, one)?;
         if !answers.is_empty() {
             answers.push_str(" | ")?;
         }
         answers.push_str(answer.as_str())?;
     }
     shortened(alloc, answers.as_str())
+}
+
+/// `["reader", [EVENT, ..]]`, where an event is a link as `[ID, ID, CHANGE]`, `["pump"]`, `["end"]`, or a message of the client:
+/// how the link was taken; the notifications; and the reply, or what the source is asked.
+pub(crate) fn reader(alloc: Global, schema: &Schema, parts: &[Value]) -> Result<String, Fault> {
+    let events = list(parts, 1)?;
+    let (mut store, mut session) = new_store(alloc, schema)?;
+    answers(alloc, &mut store, &mut session, events)
 }

@@ -38,8 +38,12 @@ pub(crate) fn schema(alloc: Global, parts: &[Value]) -> Result<String, Fault> {
     }
 }
 
-fn read(alloc: Global, parts: &[Value], at: usize) -> Result<Schema, Fault> {
-    Schema::read(alloc, part(parts, at)?).map_err(|_| Fault::Malformed)
+/// The schema that an argument is.
+pub(crate) fn read(alloc: Global, parts: &[Value], at: usize) -> Result<Box<Schema>, Fault> {
+    match Schema::read(alloc, part(parts, at)?) {
+        Ok(schema) => Ok(Box::new(alloc, schema)?),
+        Err(_) => Err(Fault::Malformed),
+    }
 }
 
 fn json_text(alloc: Global, schema: &Schema) -> Result<String, Fault> {
@@ -49,7 +53,7 @@ fn json_text(alloc: Global, schema: &Schema) -> Result<String, Fault> {
 /// `["schema as JSON", JSON]`: what a copy of the schema is written as.
 pub(crate) fn json(alloc: Global, parts: &[Value]) -> Result<String, Fault> {
     let schema = read(alloc, parts, 1)?;
-    json_text(alloc, &schema.copy(alloc)?)
+    json_text(alloc, &*Box::new(alloc, schema.copy(alloc)?)?)
 }
 
 /// `["same schema", JSON, JSON]`.

@@ -93,20 +93,32 @@ fn transaction(
     }
 }
 
-/// `["source", ROW-ID, [[SESSION, LOCK], ..], [[ID, SESSION, [OPERATION, ..]], ..]]`: what each transaction answers, with the link that
-/// it makes, if it makes one. Rows get ids from the first on.
-pub(crate) fn source(alloc: Global, schema: &Schema, parts: &[Value]) -> Result<String, Fault> {
-    let mut source = Source::new(alloc, schema)?;
-    let mut fresh = FreshRows::new(row_id(parts)?);
-    let locks = locks_of(alloc, list(parts, 2)?)?;
+// What each transaction answers, one after another.
+fn transactions(
+    alloc: Global,
+    source: &mut Source,
+    fresh: &mut FreshRows,
+    locks: &LockTable,
+    asked: &[Value],
+) -> Result<String, Fault> {
     let mut told = String::new(alloc);
-    for one in list(parts, 3)? {
+    for one in asked {
         let parts = one.as_array().ok_or(Fault::Malformed)?;
         if !told.is_empty() {
             told.push_str(" | ")?;
         }
-        let answer = transaction(alloc, &mut source, &mut fresh, &locks, parts)?;
+        let answer = transaction(alloc, source, fresh, locks, parts)?;
         told.push_str(answer.as_str())?;
     }
     Ok(told)
+}
+
+/// `["source", ROW-ID, [[SESSION, LOCK], ..], [[ID, SESSION, [OPERATION, ..]], ..]]`: what each transaction answers, with the link that
+/// it makes, if it makes one. Rows get ids from the first on.
+pub(crate) fn source(alloc: Global, schema: &Schema, parts: &[Value]) -> Result<String, Fault> {
+    let asked = list(parts, 3)?;
+    let mut fresh = FreshRows::new(row_id(parts)?);
+    let locks = locks_of(alloc, list(parts, 2)?)?;
+    let mut source = Source::new(alloc, schema)?;
+    transactions(alloc, &mut source, &mut fresh, &locks, asked)
 }

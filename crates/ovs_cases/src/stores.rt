@@ -115,10 +115,14 @@ fn take_all(alloc: Global, store: &mut LinkStore, links: &[Value]) -> Result<(),
 }
 
 /// A settled store of these links.
-pub(crate) fn settled(alloc: Global, schema: &Schema, links: &[Value]) -> Result<LinkStore, Fault>
-    ensures tables { IfOk result (λ store. tables_of store ≡ schema.now.description.tables) }
+pub(crate) fn settled(
+    alloc: Global,
+    schema: &Schema,
+    links: &[Value],
+) -> Result<Box<LinkStore>, Fault>
+    ensures tables { IfOk result (λ store. tables_of store.value ≡ schema.now.description.tables) }
 {
-    let mut store = LinkStore::new(alloc, schema)?;
+    let mut store = Box::new(alloc, LinkStore::new(alloc, schema)?)?;
     take_all(alloc, &mut store, links)?;
     let _ = store.settle(alloc)?;
     Ok(store)
@@ -225,6 +229,7 @@ fn events(alloc: Global, store: &mut LinkStore, events: &[Value]) -> Result<Stri
 /// PREV, ID, CHANGE]`, the same with `append`, `["settle"]`, `["merge", [[PREV, ID, CHANGE], ..]]`, or a question:
 /// `["position", ID]`, `["link at", NUMBER]`, `["holds", [PREV, ID, CHANGE]]`.
 pub(crate) fn store(alloc: Global, schema: &Schema, parts: &[Value]) -> Result<String, Fault> {
+    let asked = list(parts, 1)?;
     let mut store = LinkStore::new(alloc, schema)?;
-    events(alloc, &mut store, list(parts, 1)?)
+    events(alloc, &mut store, asked)
 }

@@ -27,10 +27,17 @@ fn json(alloc: Global, text: &str) -> Result<Value, NoMemory> {
     }
 }
 
-fn empty_store(alloc: Global) -> Result<LinkStore, NoMemory> {
+// A store on the heap: each way out of what holds it drops it by a call.
+fn new_store(alloc: Global, schema: &Schema) -> Result<Box<LinkStore>, NoMemory>
+    ensures tables { IfOk result (λ store. tables_of store.value ≡ schema.now.description.tables) }
+{
+    Ok(Box::new(alloc, LinkStore::new(alloc, schema)?)?)
+}
+
+fn empty_store(alloc: Global) -> Result<Box<LinkStore>, NoMemory> {
     let value = json(alloc, "{\"name\":\"net\",\"version\":\"\",\"tables\":{}}")?;
     match Schema::read(alloc, &value) {
-        Ok(schema) => LinkStore::new(alloc, &schema),
+        Ok(schema) => new_store(alloc, &schema),
         Err(_) => Err(NoMemory),
     }
 }
@@ -83,10 +90,15 @@ fn take(alloc: Global, store: &mut LinkStore, prev: u128, id: u128) -> Told
 }
 
 // A store of one link.
-fn store_of(alloc: Global, schema: &Schema, prev: u128, id: u128) -> Result<LinkStore, NoMemory>
-    ensures tables { IfOk result (λ store. tables_of store ≡ schema.now.description.tables) }
+fn store_of(
+    alloc: Global,
+    schema: &Schema,
+    prev: u128,
+    id: u128,
+) -> Result<Box<LinkStore>, NoMemory>
+    ensures tables { IfOk result (λ store. tables_of store.value ≡ schema.now.description.tables) }
 {
-    let mut store = LinkStore::new(alloc, schema)?;
+    let mut store = new_store(alloc, schema)?;
     let _ = take(alloc, &mut store, prev, id);
     Ok(store)
 }
@@ -124,17 +136,27 @@ fn settle(alloc: Global, store: &mut LinkStore) -> (&'static str, usize, usize) 
     (told, store.chain_len(), store.parked())
 }
 
+// Takes the links of a chain of so many, and tells the first answer that isn't "new", or the last one.
+fn fill(alloc: Global, store: &mut LinkStore, links: u32) -> Told {
+    let mut prev = 0;
+    let mut told = ("new", 0, 0);
+    for k in 1..=links {
+        told = take(alloc, store, prev, along(k));
+        if told.0 != "new" {
+            return told;
+        }
+        prev = along(k);
+    }
+    told
+}
+
 #[test]
 fn a_full_store(rt: HostRuntime) {
     let alloc = rt.alloc();
     let Ok(mut store) = empty_store(alloc) else {
         panic!(&rt; "out of memory");
     };
-    let mut prev = 0;
-    for k in 1..=1_000_000 {
-        assert_eq!(&rt; take(alloc, &mut store, prev, along(k)), ("new", 0, 0));
-        prev = along(k);
-    }
+    assert_eq!(&rt; fill(alloc, &mut store, 1_000_000), ("new", 0, 0));
     assert_eq!(&rt; settle(alloc, &mut store), ("done", 1_000_000, 0));
     // the ids of two commits that aren't on the chain
     let (y, z) = (along(2_000_000), along(2_000_001));
