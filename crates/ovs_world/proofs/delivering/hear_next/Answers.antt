@@ -1,4 +1,4 @@
-use Rattle.std.proofs.Common.{◌-◌, IfSome, sym, subst}
+use Rattle.std.proofs.Common.{rules, ◌-◌, IfSome, sym, subst}
 use Rattle.ovs_links.specs.Sets.{AllOf, Among}
 use Rattle.ovs_links.specs.Store.{Stored}
 use Rattle.ovs_world.specs.Leading.{IsLed}
@@ -120,3 +120,6 @@ returns-clause-ending c =
     let t = c.hear_next.new.self in
     let f = folded_in c.node-followed.result.now in
     hears_ending f s t c.in-Some.links.items (subst (λ x. IfSome x (λ links. HearsNext f s links.items t)) c.in-Some.is c.in_ok-links.ensures.heard)
+
+pub returns-clause-none : goal.returns-clause-none
+returns-clause-none c = search rules

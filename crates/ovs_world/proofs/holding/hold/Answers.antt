@@ -1,4 +1,4 @@
-use Rattle.std.proofs.Common.{◌≡◌, ◌∙◌, List, Result, Err, IfErr, subst}
+use Rattle.std.proofs.Common.{rules, ◌≡◌, ◌∙◌, List, Result, Err, IfErr, subst}
 use Rattle.ovs_links.specs.Chains.{IsPrefixOf}
 use Rattle.ovs_links.specs.Sets.{Holds}
 use Rattle.ovs_links.specs.declared.link.Link.{Link}
@@ -42,3 +42,6 @@ returns-in-Err-clause-extends c = record {
   keeps = keeps_taken c.args.store.now c.take_all-taken.new.store c.settle-settled.new.self c.in-Err.ensures.refused.before c.in-Err.ensures.refused.held c.settle-settled.ensures.links;
   prefix = subst (λ (ls : List Link). IsPrefixOf ls c.settle-settled.new.self.folded) c.take_all-taken.ensures.folded c.settle-settled.ensures.links.prefix;
 }
+
+pub returns-clause-held : goal.returns-clause-held
+returns-clause-held c = search rules

@@ -1,3 +1,4 @@
+use Rattle.std.proofs.lemmas.Grind.{common_steps}
 use Rattle.std.proofs.Common.{◌≡◌, ◌+◌, ◌-◌, ℕ, List, [], take, drop, drop-drop, drop_of_length-le, length-drop, sym, ◌∙◌, ap, subst, arith}
 use Rattle.std.proofs.lemmas.List.{take-append-drop}
 use Rattle.ovs_wire.specs.Framing.{Feeds}
@@ -42,3 +43,9 @@ returns-else-end-len-clause-carried c messages carries =
     (subst (λ (l : Line). Carries l messages) (sym c.self.view_is) carries) (sym (take-append-drop n (drop from items)))
     (subst (λ (l : List ℕ). Feeds c.self.inside.framer l c.feed.new.self) (piece_is items c.deref.result.now from n c.deref.ensures.value) (c.in_ok-feed.ensures.fed (λ e. cc))) in
     subst (λ (l : List ℕ). Carries (record { framing = c.feed.new.self; flight = l }) messages) (drop-drop n from items) fed
+
+pub returns-then-end-len-clause-moved : goal.returns-then-end-len-clause-moved
+returns-then-end-len-clause-moved c = grind (arith, common_steps)
+
+pub returns-else-end-len-clause-moved : goal.returns-else-end-len-clause-moved
+returns-else-end-len-clause-moved c = grind (arith, common_steps)

@@ -1,4 +1,4 @@
-use Rattle.std.proofs.Common.{List, Option, sym, subst}
+use Rattle.std.proofs.Common.{rules, List, Option, sym, subst}
 use Rattle.std.specs.List.{AllByRecursion}
 use Rattle.ovs_links.specs.Store.{Stored}
 use Rattle.ovs_world.specs.Nodes.{IsTier}
@@ -16,3 +16,15 @@ invariant_of-result c =
           (subst (IsTier (empty_store c.args.schema.now)) (sym c.in_ok-empty_stores.ensures.value) (empty_tier c.args.schema.now c.args.relays));
       sessions = subst (λ (os : List (Option Session)). AllByRecursion (IsOpen source relays) os) (sym c.new-3.ensures.items) tt;
     }
+
+pub returns-clause-value : goal.returns-clause-value
+returns-clause-value c = search rules
+
+pub returns-in_err-new-clause-refused : goal.returns-in_err-new-clause-refused
+returns-in_err-new-clause-refused c = search rules
+
+pub returns-in_err-empty_stores-clause-refused : goal.returns-in_err-empty_stores-clause-refused
+returns-in_err-empty_stores-clause-refused c = search rules
+
+pub returns-clause-count : goal.returns-clause-count
+returns-clause-count c = search rules
