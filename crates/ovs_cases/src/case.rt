@@ -32,6 +32,15 @@ pub(crate) fn word(alloc: Global, word: &str) -> Result<String, Fault> {
     Ok(String::from_str(alloc, word)?)
 }
 
+/// Puts an answer behind those before it.
+pub(crate) fn add(answers: &mut String, answer: &str) -> Result<(), Fault> {
+    if !answers.is_empty() {
+        answers.push_str(" | ")?;
+    }
+    answers.push_str(answer)?;
+    Ok(())
+}
+
 /// `true` or `false`.
 pub(crate) fn truth(alloc: Global, truth: bool) -> Result<String, Fault> {
     word(alloc, if truth { "true" } else { "false" })

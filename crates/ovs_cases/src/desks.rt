@@ -1,6 +1,6 @@
 //! A source's desk, and what it answers to sessions.
 
-use crate::case::{list, part, text, word};
+use crate::case::{add, list, part, text, word};
 use crate::fault::Fault;
 use crate::messages::text_of;
 use ovs_source::{Ask, Authority, FreshRows, Source, SourceDesk, Verb};
@@ -95,10 +95,7 @@ fn answers(alloc: Global, desk: &mut SourceDesk, events: &[Value]) -> Result<Str
     for one in events {
         let parts = one.as_array().ok_or(Fault::Malformed)?;
         let answer = event(alloc, desk, parts.as_slice())?;
-        if !answers.is_empty() {
-            answers.push_str(" | ")?;
-        }
-        answers.push_str(answer.as_str())?;
+        add(&mut answers, answer.as_str())?;
     }
     Ok(answers)
 }

@@ -1,6 +1,6 @@
 //! Requests that are passed on, and their answers.
 
-use crate::case::{list, part, text, word};
+use crate::case::{add, list, part, text, word};
 use crate::fault::Fault;
 use crate::messages::text_of;
 use ovs_json::Json;
@@ -90,10 +90,7 @@ pub(crate) fn forwards(alloc: Global, parts: &[Value]) -> Result<String, Fault> 
     for one in list(parts, 1)? {
         let parts = one.as_array().ok_or(Fault::Malformed)?;
         let answer = event(alloc, &mut forwards, parts.as_slice())?;
-        if !answers.is_empty() {
-            answers.push_str(" | ")?;
-        }
-        answers.push_str(answer.as_str())?;
+        add(&mut answers, answer.as_str())?;
     }
     Ok(answers)
 }

@@ -1,6 +1,6 @@
 //! Locks of a server, asked for one after the other.
 
-use crate::case::{list, part, text, word};
+use crate::case::{add, list, part, text, word};
 use crate::fault::Fault;
 use ovs_locks::{LockError, LockNotice, LockTable};
 use ovs_types::Text;
@@ -84,10 +84,7 @@ pub(crate) fn locks(alloc: Global, parts: &[Value]) -> Result<String, Fault> {
     for one in list(parts, 1)? {
         let parts = one.as_array().ok_or(Fault::Malformed)?;
         let answer = event(alloc, &mut locks, parts.as_slice())?;
-        if !answers.is_empty() {
-            answers.push_str(" | ")?;
-        }
-        answers.push_str(answer.as_str())?;
+        add(&mut answers, answer.as_str())?;
     }
     Ok(answers)
 }

@@ -4,7 +4,7 @@ ghost use Rattle.std.specs.Prelude.{◌≡◌, IfOk};
 ghost use Rattle.ovs_query.specs.Updates.{AreTouchedOf};
 ghost use Rattle.ovs_query.specs.View.{IsMonitorOf};
 
-use crate::case::{list, part, text, word};
+use crate::case::{add, list, part, text, word};
 use crate::changes::{after, applied};
 use crate::fault::Fault;
 use ovs_query::{Monitor, Notation, QueryError, read_only, transact_read};
@@ -112,10 +112,7 @@ fn steps(
     for (number, change) in changes.iter().enumerate() {
         let number = first.saturating_add(number);
         let line = step(alloc, database, monitor, notation, change, number)?;
-        if !lines.is_empty() {
-            lines.push_str(" | ")?;
-        }
-        lines.push_str(line.as_str())?;
+        add(&mut lines, line.as_str())?;
     }
     Ok(lines)
 }

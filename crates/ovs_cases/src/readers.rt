@@ -5,7 +5,7 @@ ghost use Rattle.ovs_links.specs.Steps.{folded_of};
 ghost use Rattle.ovs_links.specs.Store.{IsStore};
 ghost use Rattle.ovs_reader.specs.Session.{MayBeShown};
 
-use crate::case::{list, text, word};
+use crate::case::{add, list, text, word};
 use crate::fault::Fault;
 use crate::folds::{shortened, spelled_out};
 use crate::messages::text_of;
@@ -148,10 +148,7 @@ fn answers(
     let mut answers = String::new(alloc);
     for one in events {
         let answer = event(alloc, store, session, one)?;
-        if !answers.is_empty() {
-            answers.push_str(" | ")?;
-        }
-        answers.push_str(answer.as_str())?;
+        add(&mut answers, answer.as_str())?;
     }
     shortened(alloc, answers.as_str())
 }

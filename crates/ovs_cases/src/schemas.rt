@@ -53,7 +53,8 @@ fn json_text(alloc: Global, schema: &Schema) -> Result<String, Fault> {
 /// `["schema as JSON", JSON]`: what a copy of the schema is written as.
 pub(crate) fn json(alloc: Global, parts: &[Value]) -> Result<String, Fault> {
     let schema = read(alloc, parts, 1)?;
-    json_text(alloc, &*Box::new(alloc, schema.copy(alloc)?)?)
+    let copy = Box::new(alloc, schema.copy(alloc)?)?;
+    json_text(alloc, &copy)
 }
 
 /// `["same schema", JSON, JSON]`.

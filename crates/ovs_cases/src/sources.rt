@@ -3,7 +3,7 @@
 ghost use Rattle.std.specs.Prelude.{IfSome};
 ghost use Rattle.ovs_rows.specs.Change.{IsChangeOf};
 
-use crate::case::{list, part, text};
+use crate::case::{add, list, part, text};
 use crate::fault::Fault;
 use ovs_links::Link;
 use ovs_locks::LockTable;
@@ -104,11 +104,8 @@ fn transactions(
     let mut told = String::new(alloc);
     for one in asked {
         let parts = one.as_array().ok_or(Fault::Malformed)?;
-        if !told.is_empty() {
-            told.push_str(" | ")?;
-        }
         let answer = transaction(alloc, source, fresh, locks, parts)?;
-        told.push_str(answer.as_str())?;
+        add(&mut told, answer.as_str())?;
     }
     Ok(told)
 }
