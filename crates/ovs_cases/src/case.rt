@@ -2,8 +2,8 @@
 
 use crate::fault::Fault;
 use crate::{
-    changes, data, desks, devices, folds, forwards, ids, locks, messages, queries, readers,
-    schemas, scripts, sources, stores, stories, streams, upstreams,
+    changes, commands, data, desks, devices, folds, forwards, full_stores, ids, locks, messages,
+    queries, readers, schemas, scripts, sources, stores, stories, streams, upstreams,
 };
 use ovs_types::Schema;
 use serde_json::Value;
@@ -98,6 +98,11 @@ fn alone(alloc: Global, what: &str, parts: &[Value]) -> Result<Option<String>, F
         "world bytes" => stories::world_bytes(alloc, parts)?,
         "script" => scripts::script(alloc, parts)?,
         "silent script" => scripts::over_silence(alloc)?,
+        "command line" => commands::command_line(alloc, parts)?,
+        "run end" => commands::run_end(alloc, parts)?,
+        "unopened" => commands::unopened(alloc, parts)?,
+        "not UTF-8" => commands::not_utf8(alloc)?,
+        "full store" => full_stores::full_store(alloc)?,
         _ => return Ok(None),
     };
     Ok(Some(answer))

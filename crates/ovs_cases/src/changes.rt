@@ -18,7 +18,7 @@ const IDS: [&str; 4] = ["a", "b", "c", "d"];
 fn commit_at(number: usize) -> Result<TxnId, Fault> {
     match IDS.get(number) {
         Some(letter) => commit(letter),
-        None => Ok(TxnId::from_value(u128::MAX - number as u128)),
+        None => Ok(TxnId::from(u128::MAX - number as u128)),
     }
 }
 

@@ -23,7 +23,7 @@ pub(crate) fn row_id(alloc: Global, parts: &[Value]) -> Result<String, Fault> {
     match RowId::read(text(parts, 1)?) {
         Ok(id) => {
             let text = id.to_text(alloc)?;
-            let number = id.value();
+            let number = u128::from(id);
             Ok(format!(in alloc; "{text} {number:x}")?)
         }
         Err(_) => word(alloc, "bad-id"),
@@ -45,17 +45,17 @@ pub(crate) fn name(alloc: Global, parts: &[Value]) -> Result<String, Fault> {
 pub(crate) fn commit(text: &str) -> Result<TxnId, Fault> {
     Ok(match text {
         "0" => TxnId::zero(),
-        "a" => TxnId::from_value(0xaaaaaaaa_aaaa_4aaa_8aaa_aaaaaaaaaaaa),
-        "b" => TxnId::from_value(0xbbbbbbbb_bbbb_4bbb_8bbb_bbbbbbbbbbbb),
-        "c" => TxnId::from_value(0xcccccccc_cccc_4ccc_8ccc_cccccccccccc),
-        "d" => TxnId::from_value(0xdddddddd_dddd_4ddd_8ddd_dddddddddddd),
+        "a" => TxnId::from(0xaaaaaaaa_aaaa_4aaa_8aaa_aaaaaaaaaaaa),
+        "b" => TxnId::from(0xbbbbbbbb_bbbb_4bbb_8bbb_bbbbbbbbbbbb),
+        "c" => TxnId::from(0xcccccccc_cccc_4ccc_8ccc_cccccccccccc),
+        "d" => TxnId::from(0xdddddddd_dddd_4ddd_8ddd_dddddddddddd),
         _ => TxnId::read(text).map_err(|_| Fault::Malformed)?,
     })
 }
 
 /// The letter of an id, where it has one.
 pub(crate) fn letter(id: TxnId) -> &'static str {
-    match id.value() {
+    match u128::from(id) {
         0 => "0",
         0xaaaaaaaa_aaaa_4aaa_8aaa_aaaaaaaaaaaa => "a",
         0xbbbbbbbb_bbbb_4bbb_8bbb_bbbbbbbbbbbb => "b",

@@ -7,12 +7,14 @@
 mod case;
 mod changes;
 mod columns;
+mod commands;
 mod data;
 mod desks;
 mod devices;
 mod fault;
 mod folds;
 mod forwards;
+mod full_stores;
 mod ids;
 mod locks;
 mod messages;

@@ -73,7 +73,7 @@ impl Atom {
             AtomKind::Integer => Atom::Integer(0),
             AtomKind::Boolean => Atom::Boolean(false),
             AtomKind::String => Atom::String(Text::empty(alloc)),
-            AtomKind::Uuid => Atom::Uuid(RowId::zero()),
+            AtomKind::Uuid => Atom::Uuid(RowId::from(0)),
         }
     }
 

@@ -15,10 +15,7 @@ pub use atom::{Atom, AtomKind};
 pub use column::Column;
 pub use datum::Datum;
 pub use datum::atoms::Atoms;
-pub use datum::delta::{
-    applied_difference_gives_the_other, apply_difference, difference,
-    empty_exactly_where_nothing_changed,
-};
+pub use datum::delta::{apply_difference, difference, difference_laws};
 pub use datum::pairs::{Pair, Pairs};
 pub use datum::writing::what_is_written_reads_back;
 pub use error::{BadId, DatumError};

@@ -24,28 +24,25 @@ impl Model for RowId {
     ghost inverse = { λ n. record { value = n } };
 }
 
-impl RowId {
-    /// The id of zeros, the default of a column of ids.
-    pub fn zero() -> RowId
-        ensures zero { result ≡ 0 }
-    {
-        RowId { value: 0 }
-    }
+/// The id of this number.
+impl From<u128> for RowId {
+    ghost from_gives = { λ value id. id ≡ value };
 
-    /// The id of this number.
-    pub fn from_value(value: u128) -> RowId
-        ensures value { result ≡ value }
-    {
+    fn from(value: u128) -> RowId {
         RowId { value }
     }
+}
 
-    /// Its number.
-    pub fn value(self) -> u128
-        ensures value { result ≡ self }
-    {
-        self.value
+/// Its number.
+impl From<RowId> for u128 {
+    ghost from_gives = { λ id value. value ≡ id };
+
+    fn from(id: RowId) -> u128 {
+        id.value
     }
+}
 
+impl RowId {
     /// Reads 36 characters with hexadecimal digits in either case (RFC 7047 section 5.1).
     ///
     /// # Errors
@@ -53,7 +50,7 @@ impl RowId {
     pub fn read(text: &str) -> Result<RowId, BadId>
         ensures value { result_ok result ≡ read_id text.now }
     {
-        Ok(RowId::from_value(read_number(text)?))
+        Ok(RowId::from(read_number(text)?))
     }
 
     /// The 36 characters, in lower case.

@@ -25,26 +25,30 @@ impl Model for TxnId {
     ghost inverse = { λ n. record { value = n } };
 }
 
+/// The id of this number.
+impl From<u128> for TxnId {
+    ghost from_gives = { λ value id. id ≡ value };
+
+    fn from(value: u128) -> TxnId {
+        TxnId { value }
+    }
+}
+
+/// Its number.
+impl From<TxnId> for u128 {
+    ghost from_gives = { λ id value. value ≡ id };
+
+    fn from(id: TxnId) -> u128 {
+        id.value
+    }
+}
+
 impl TxnId {
-    /// The id of zeros.
+    /// The id of zeros, the first of the start ids.
     pub fn zero() -> TxnId
         ensures zero { result ≡ 0 }
     {
         TxnId { value: 0 }
-    }
-
-    /// The id of this number.
-    pub fn from_value(value: u128) -> TxnId
-        ensures value { result ≡ value }
-    {
-        TxnId { value }
-    }
-
-    /// Its number.
-    pub fn value(self) -> u128
-        ensures value { result ≡ self }
-    {
-        self.value
     }
 
     /// Reads 36 characters with hexadecimal digits in either case (RFC 7047 section 5.1).
@@ -54,7 +58,7 @@ impl TxnId {
     pub fn read(text: &str) -> Result<TxnId, BadId>
         ensures value { result_ok result ≡ read_id text.now }
     {
-        Ok(TxnId::from_value(read_number(text)?))
+        Ok(TxnId::from(read_number(text)?))
     }
 
     /// The 36 characters, in lower case.

@@ -147,7 +147,7 @@ impl Condition {
         match self.field {
             Field::Id => id_passes(self.test, id, &self.value),
             Field::Version => {
-                let version = RowId::from_value(row.version().value());
+                let version = RowId::from(u128::from(row.version()));
                 id_passes(self.test, version, &self.value)
             }
             Field::Column(number) => match row.get(number) {

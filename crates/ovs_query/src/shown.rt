@@ -100,7 +100,7 @@ pub(crate) fn shown_datum<'a>(
     match field {
         Field::Id => Ok(Held::Made(id_datum(alloc, id)?)),
         Field::Version => {
-            let version = RowId::from_value(row.version().value());
+            let version = RowId::from(u128::from(row.version()));
             Ok(Held::Made(id_datum(alloc, version)?))
         }
         Field::Column(number) => match row.get(number) {

@@ -1,15 +1,7 @@
 //! A relay tier for OVSDB: the program and its commands.
 #![tactic(auto)]
 
-mod command;
-mod complaint;
-#[cfg(test)]
-mod full_store;
-#[cfg(test)]
-mod tests;
-
-use command::{Task, command};
-use complaint::{Complaint, complaint_of};
+use ovs_command::{Complaint, Task, command, complaint_of};
 use ovs_fold::fold_run;
 use ovs_script::RunEnd;
 use ovs_story::world_run;

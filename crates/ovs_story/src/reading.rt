@@ -7,7 +7,8 @@ ghost use Rattle.ovs_story.specs.Reading.{number_of, relays_of_line, numbers_of,
 use crate::words::Refusal;
 use ovs_json::{is_word, read_json, three_items, two_items};
 use ovs_types::{NoMemory, TxnId};
-use ovs_world::{Event, Operations};
+use ovs_wire::Params;
+use ovs_world::Event;
 use serde_json::Value;
 use std::alloc::Global;
 
@@ -45,12 +46,12 @@ fn numbers_of(first: &Value, second: &Value) -> Result<(usize, usize), Refusal>
 }
 
 // The operations that an array holds.
-fn operations_of(value: &Value) -> Result<Option<Operations>, NoMemory>
+fn operations_of(value: &Value) -> Result<Option<Params>, NoMemory>
     ensures value { IfOk result (λ operations. operations ≡ operations_of (view value.now)) }
 {
     match value.as_array() {
         None => Ok(None),
-        Some(values) => Ok(Some(Operations::new(values.clone()?))),
+        Some(values) => Ok(Some(Params::new(values.clone()?))),
     }
 }
 

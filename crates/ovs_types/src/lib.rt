@@ -5,8 +5,7 @@ mod schema;
 
 pub use ovs_data::{
     Atom, AtomKind, Atoms, BadId, Column, Datum, DatumError, NamedIds, Pair, Pairs, RowId, TxnId,
-    applied_difference_gives_the_other, apply_difference, difference,
-    empty_exactly_where_nothing_changed, is_id, is_name, what_is_written_reads_back,
+    apply_difference, difference, difference_laws, is_id, is_name, what_is_written_reads_back,
 };
 pub use ovs_json::{NoMemory, Text};
 pub use schema::error::SchemaError;

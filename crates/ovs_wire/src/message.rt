@@ -12,10 +12,7 @@ mod reading;
 use crate::error::MessageError;
 use crate::message::reading::message_of;
 pub use id::Id;
-pub use laws::{
-    a_text_says_one_message, any_text_of_an_object_is_one_frame, messages_come_through,
-    what_is_written_is_a_frame_or_a_fault, what_is_written_is_said,
-};
+pub use laws::{text_laws, writing_laws};
 pub use method::Method;
 use ovs_json::{Json, NoMemory};
 pub use params::Params;

@@ -14,7 +14,7 @@ use std::marker::Model;
 
 /// One direction of a connection. What is sent is in flight until the receiving end is fed with it, cut anywhere.
 #[derive(Debug, Drop)]
-pub struct Channel {
+pub(crate) struct Channel {
     framer: Framer,
     // what was sent since nothing was in flight
     sent: Vec<u8>,
@@ -41,7 +41,7 @@ impl Model for Channel {
 
 impl Channel {
     /// A channel on which nothing was sent yet.
-    pub fn new(alloc: Global) -> Channel
+    pub(crate) fn new(alloc: Global) -> Channel
         ensures idle { IsIdle result }
         ensures carried { Carries result [] }
     {
@@ -53,7 +53,7 @@ impl Channel {
     }
 
     /// How many bytes are in flight.
-    pub fn in_flight(&self) -> usize
+    pub(crate) fn in_flight(&self) -> usize
         ensures value { result ≡ length self.now.flight }
     {
         self.sent.len() - self.fed
@@ -61,7 +61,7 @@ impl Channel {
 
     /// Puts the message's text behind what is in flight, above the limits too: that is found where it arrives.
     /// `NoMemory` leaves the channel as it was.
-    pub fn send(&mut self, alloc: Global, message: &Message) -> Result<(), NoMemory>
+    pub(crate) fn send(&mut self, alloc: Global, message: &Message) -> Result<(), NoMemory>
         ensures sent { OnOk result (Sends self.old message.now self.new) }
         ensures carried { OnOk result ((messages : List Message) → Carries self.old messages
             → Carries self.new (messages ++ message.now ∷ [])) }
@@ -125,7 +125,7 @@ impl Channel {
     ///
     /// - Another error than `NoMemory`: the bytes hold a message above the limits. The messages before it wait.
     /// - `NoMemory`: nothing was fed.
-    pub fn feed(&mut self, n: usize) -> Result<usize, FrameError>
+    pub(crate) fn feed(&mut self, n: usize) -> Result<usize, FrameError>
         ensures moved { IfOk result (λ fed. Moves self.old fed self.new × (fed ≡ min n (length self.old.flight))) }
         ensures fault { (f : _) → result ≡ Err f → (f ≡ FrameError.NoMemory → ⊥)
             → Feeds self.old.framing (take n self.old.flight) self.new.framing }
@@ -148,7 +148,7 @@ impl Channel {
     ///
     /// - `NotJson`, `BadShape`: it was no message, which nothing that was sent is.
     /// - `NoMemory`: the message is lost.
-    pub fn receive(&mut self, alloc: Global) -> Result<Option<Message>, MessageError>
+    pub(crate) fn receive(&mut self, alloc: Global) -> Result<Option<Message>, MessageError>
         ensures some { IfOk result (λ r. IfSome r (λ m. (messages : List Message) → Carries self.old messages
             → (more : List Message) × (messages ≡ m ∷ more) × Carries self.new more)) }
         ensures received { IfOk result (λ r. IfSome r (λ m. Receives self.old m self.new)) }

@@ -21,18 +21,13 @@ ghost use Rattle.ovs_wire.specs.declared.message.Message.{Message};
 ghost use Rattle.ovs_world.specs.Asking.{schema_reply};
 ghost use Rattle.ovs_world.specs.Awaiting.{IsRelayMonitor, TellsPlace, TellLinks};
 
-/// Where a node has folded the first links of a history, what it tells a relay's monitor are these links, one by one, from
-/// the monitor's position on.
-pub fn a_relay_is_told_links()
-    ensures law { (tables : List Table) (h : List Commit) (n : ℕ) (m : Subscription) → IsHistory tables no_rows h → n ≤ length h
-        → IsRelayMonitor tables m → m.position ≤ n → AreToldReadably (m ∷ []) (steps_of tables no_rows (take n (links_of tables 0 no_rows h)))
-        → TellLinks tables (links_of tables 0 no_rows h) m.position n (told (m ∷ []) (steps_of tables no_rows (take n (links_of tables 0 no_rows h)))) }
-{}
-
 /// A session of a relay opens: the node that it follows replies with its schema, which a relay with the same schema hears
 /// as its own, and then asks for the monitor of all columns; that monitor is made, and the reply says where the id that
 /// was asked for stands in the node's chain, or that all links will be told.
-pub fn a_relay_is_answered()
+///
+/// Where a node has folded the first links of a history, what it tells a relay's monitor are these links, one by one, from
+/// the monitor's position on.
+pub fn relay_laws()
     ensures schema { (f : FoldedValue) (s : SessionValue) → s.is_ended ≡ false
         → ((turn s f (schema_request f.database.schema)).out ≡ Some (schema_reply f.database.schema))
         × ((after_turn s f (schema_request f.database.schema)).monitors ≡ s.monitors) }
@@ -44,4 +39,7 @@ pub fn a_relay_is_answered()
         × ((turn s (folded_of schema chain) (monitor_request schema asked)).out ≡ Some reply)
         × ((after_turn s (folded_of schema chain) (monitor_request schema asked)).monitors ≡ m ∷ [])
         × TellsPlace schema.description.tables chain asked m.position (talk_of reply) }
+    ensures told { (tables : List Table) (h : List Commit) (n : ℕ) (m : Subscription) → IsHistory tables no_rows h → n ≤ length h
+        → IsRelayMonitor tables m → m.position ≤ n → AreToldReadably (m ∷ []) (steps_of tables no_rows (take n (links_of tables 0 no_rows h)))
+        → TellLinks tables (links_of tables 0 no_rows h) m.position n (told (m ∷ []) (steps_of tables no_rows (take n (links_of tables 0 no_rows h)))) }
 {}

@@ -10,9 +10,8 @@ mod laws;
 mod session;
 mod world;
 
-pub use channel::Channel;
 pub use error::WorldError;
-pub use event::{Event, Operations, Reply};
+pub use event::{Event, Reply};
 pub use holding::Counts;
-pub use laws::{a_relay_is_answered, a_relay_is_told_links};
+pub use laws::relay_laws;
 pub use world::{MAX_RELAYS, World};

@@ -124,7 +124,7 @@ impl World {
         }
         Ok(World {
             source: Source::new(alloc, schema)?,
-            fresh: FreshRows::new(RowId::from_value(1)),
+            fresh: FreshRows::new(RowId::from(1)),
             relays: empty_stores(alloc, schema, relays)?,
             sessions: Vec::new(alloc),
         })
@@ -224,7 +224,7 @@ impl World {
     ///
     /// # Errors
     /// `IdTaken`, `RowIdsSpent`, `Full` or `NoMemory`, as of [`Source::transact`]. Nothing is changed then.
-    pub fn commit(
+    pub(crate) fn commit(
         &mut self,
         alloc: Global,
         id: TxnId,
@@ -247,7 +247,7 @@ impl World {
     ///
     /// # Errors
     /// `NoSession` where none of this number is open; nothing is changed then.
-    pub fn cut(&mut self, session: usize) -> Result<(), WorldError>
+    pub(crate) fn cut(&mut self, session: usize) -> Result<(), WorldError>
         ensures cuts { OnOk result (Cuts self.old session self.new) }
         ensures settled { OnOk result (AreSettled self.old → AreSettled self.new) }
         ensures refused { IfErr result (λ e. RefusesCut self.old session e × (self.new ≡ self.old)) }
@@ -265,7 +265,7 @@ impl World {
     /// - `NoSuchNode`: there is no relay of this number, or no other node of that.
     /// - `TooLarge`: the request is above the limits, since the schema's name is too long.
     /// - `NoMemory`.
-    pub fn connect(
+    pub(crate) fn connect(
         &mut self,
         alloc: Global,
         relay: usize,
@@ -295,7 +295,7 @@ impl World {
     /// - `TooLarge`: these bytes make a message above the limits, and those before it were heard; or what the relay has to ask
     ///   then is above them.
     /// - `NoMemory`.
-    pub fn deliver(
+    pub(crate) fn deliver(
         &mut self,
         alloc: Global,
         session: usize,
@@ -323,7 +323,7 @@ impl World {
     ///
     /// # Errors
     /// `NoSuchNode` where there is no relay of this number, or `NoMemory`. Nothing is changed then.
-    pub fn restart(&mut self, alloc: Global, relay: usize) -> Result<(), WorldError>
+    pub(crate) fn restart(&mut self, alloc: Global, relay: usize) -> Result<(), WorldError>
         ensures restarts { OnOk result (Restarts self.old relay self.new) }
         ensures settled { OnOk result (AreSettled self.old → AreSettled self.new) }
         ensures refused { IfErr result (λ e. RefusesRestart self.old relay e × (self.new ≡ self.old)) }
@@ -342,7 +342,12 @@ impl World {
     /// # Errors
     /// - `NoSuchNode`: there is no relay of this number, or no other node of that; nothing is changed then.
     /// - `NoMemory`: either nothing is changed, or the relay has the links, and less is folded than could be.
-    pub fn merge(&mut self, alloc: Global, into: usize, from: usize) -> Result<(), WorldError>
+    pub(crate) fn merge(
+        &mut self,
+        alloc: Global,
+        into: usize,
+        from: usize,
+    ) -> Result<(), WorldError>
         ensures merges { OnOk result (Merges self.old into from self.new) }
         ensures settled { OnOk result (AreSettled self.old → AreSettled self.new) }
         ensures refused { IfErr result (λ e. RefusesMerge self.old into from e self.new) }
@@ -360,7 +365,12 @@ impl World {
     /// - `NoSuchNode`: there is no node of this number.
     /// - `NotReadOnly`: an operation is neither a "select" nor a "comment".
     /// - `NoMemory`.
-    pub fn read(&self, alloc: Global, node: usize, operations: &[Value]) -> Result<Json, WorldError>
+    pub(crate) fn read(
+        &self,
+        alloc: Global,
+        node: usize,
+        operations: &[Value],
+    ) -> Result<Json, WorldError>
         ensures reads { IfOk result (Reads self.now node (map view operations.now)) }
         ensures refused { IfErr result (RefusesRead self.now node (map view operations.now)) }
     {

@@ -66,13 +66,9 @@ pub fn apply_difference(old: &Datum, diff: &Datum, column: &Column) -> Result<Da
     }
 }
 
-/// The difference from one datum to another, applied to the one, gives the other.
-pub fn applied_difference_gives_the_other()
-    ensures law { AppliedDifferenceGivesTheOther }
-{}
-
-/// Of a column that isn't single, the difference of two data that are both sets or both maps is
-/// empty exactly where the two are equal.
-pub fn empty_exactly_where_nothing_changed()
-    ensures law { EmptyExactlyWhereNothingChanged }
+/// The difference from one datum to another, applied to the one, gives the other. Of a column that isn't single, the
+/// difference of two data that are both sets or both maps is empty exactly where the two are equal.
+pub fn difference_laws()
+    ensures applied { AppliedDifferenceGivesTheOther }
+    ensures empty { EmptyExactlyWhereNothingChanged }
 {}

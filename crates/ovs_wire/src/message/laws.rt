@@ -10,14 +10,13 @@ ghost use Rattle.ovs_wire.specs.Frames.{Rest, Fault, IsBalanced, IsWithinLimits,
 ghost use Rattle.ovs_wire.specs.Framing.{Framing, IsNew, Call, Leads, fed, taken};
 ghost use Rattle.ovs_wire.specs.Message.{IsText, Says, IsWritten, IsSent, ReadsBack, json};
 
-/// A text says one message at most.
-pub fn a_text_says_one_message()
-    ensures law { (bytes : List ℕ) (m n : Message) → Says bytes m → Says bytes n → m ≡ n }
-{}
-
-/// Every text of a JSON object, however it is spelled, is balanced bytes, perhaps with white space around them; and
-/// where it is within the limits it is one frame of a stream.
-pub fn any_text_of_an_object_is_one_frame()
+/// A text says one message at most. What is written for a message that nests at most 127 deep is text that says this
+/// message and no other. Every text of a JSON object, however it is spelled, is balanced bytes, perhaps with white space
+/// around them; and where it is within the limits it is one frame of a stream.
+pub fn text_laws()
+    ensures one { (bytes : List ℕ) (m n : Message) → Says bytes m → Says bytes n → m ≡ n }
+    ensures said { (m : Message) (bytes : List ℕ) → IsWritten m bytes → depth (json m) ≤ max_depth
+        → Says bytes m × ((n : Message) → Says bytes n → n ≡ m) }
     ensures balanced { (bytes : List ℕ) (ms : Members) → IsText bytes (object ms)
         → (o : List ℕ) × IsPadded bytes o × IsBalanced o }
     ensures bare { (bytes : List ℕ) (ms : Members) → IsText bytes (object ms) → IsBare bytes → IsBalanced bytes }
@@ -25,15 +24,11 @@ pub fn any_text_of_an_object_is_one_frame()
         → (o : List ℕ) × IsPadded bytes o × IsObject o × AreFrames bytes (o ∷ []) (Rest []) }
 {}
 
-/// What is written for a message that nests at most 127 deep is text that says this message and no other.
-pub fn what_is_written_is_said()
-    ensures law { (m : Message) (bytes : List ℕ) → IsWritten m bytes → depth (json m) ≤ max_depth
-        → Says bytes m × ((n : Message) → Says bytes n → n ≡ m) }
-{}
-
 /// What is written is one frame within the limits. Above one of them it is this fault and nothing else, and above both
-/// it is one of the two.
-pub fn what_is_written_is_a_frame_or_a_fault()
+/// it is one of the two. Messages come through: where what is written for them is fed to a new framer one after another,
+/// in whatever pieces, what was taken so far reads as the first messages, in order; and as all of them once all was fed
+/// and none waits.
+pub fn writing_laws()
     ensures frame { (m : Message) (bytes : List ℕ) → IsSent m bytes → AreFrames bytes (bytes ∷ []) (Rest []) }
     ensures too_deep { (m : Message) (bytes : List ℕ) → IsWritten m bytes → most_nesting < depth (json m)
         → length bytes ≤ most_bytes → AreFrames bytes [] (Fault TooDeep) }
@@ -42,12 +37,7 @@ pub fn what_is_written_is_a_frame_or_a_fault()
     ensures either { (m : Message) (bytes : List ℕ) → IsWritten m bytes → most_nesting < depth (json m)
         → most_bytes < length bytes
         → AreFrames bytes [] (Fault TooDeep) ⊎ AreFrames bytes [] (Fault TooLong) }
-{}
-
-/// Messages come through: where what is written for them is fed to a new framer one after another, in whatever pieces,
-/// what was taken so far reads as the first messages, in order; and as all of them once all was fed and none waits.
-pub fn messages_come_through()
-    ensures law { (messages : List Message) (texts : List (List ℕ)) (calls : List Call) (later : List ℕ)
+    ensures through { (messages : List Message) (texts : List (List ℕ)) (calls : List Call) (later : List ℕ)
         (new now : Framing) → AllZip IsSent messages texts → IsNew new → Leads calls new now
         → fed calls ++ later ≡ concat texts
         → (read : List Message) × (left : List Message) × (messages ≡ read ++ left)

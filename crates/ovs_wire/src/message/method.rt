@@ -34,7 +34,7 @@ impl Method {
     }
 
     /// Hands the name over.
-    pub fn into_string(self) -> String
+    pub(crate) fn into_string(self) -> String
         ensures value { string_bytes result ≡ self }
     {
         self.name

@@ -1,0 +1,12 @@
+use Rattle.ovs_wire.proofs.Over.{either}
+use Rattle.ovs_wire.proofs.Through.{come_through, sent_frame, written_deep, written_long}
+use Rattle.ovs_wire.proofs.message.laws.writing_laws.Goals as goal
+
+pub returns : goal.returns
+returns c = record {
+  frame = sent_frame;
+  too_deep = written_deep;
+  too_long = written_long;
+  either = λ m bytes is deep long. either bytes is.balanced long;
+  through = come_through;
+}

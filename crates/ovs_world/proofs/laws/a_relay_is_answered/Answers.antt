@@ -1,5 +1,0 @@
-use Rattle.ovs_world.proofs.Answering.{schema_answered, schema_heard, monitor_answered}
-use Rattle.ovs_world.proofs.laws.a_relay_is_answered.Goals as goal
-
-pub returns : goal.returns
-returns c = record { schema = schema_answered; asks = schema_heard; monitor = monitor_answered }
