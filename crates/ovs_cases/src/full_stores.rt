@@ -12,8 +12,7 @@ use ovs_types::{NoMemory, Schema, TxnId};
 use serde_json::Value;
 use std::alloc::Global;
 
-// What a call answered, and the places of two ids: at a fork those of the held link, of a link that is handed back its
-// own, else zeros.
+// What a call answered, and two ids: at a fork those of the held link, of a link that is handed back its own, else zeros.
 type Told = (&'static str, u128, u128);
 
 const OUT_OF_MEMORY: Told = ("out of memory", 0, 0);
@@ -21,11 +20,6 @@ const OUT_OF_MEMORY: Told = ("out of memory", 0, 0);
 // The id of the k-th link of the chain.
 fn along(k: u32) -> u128 {
     (1 << 64) + u128::from(k)
-}
-
-// The place of a link's id in the chain; of the id of zeros 0.
-fn place_of(id: TxnId) -> u128 {
-    u128::from(id).saturating_sub(1 << 64)
 }
 
 fn json(alloc: Global, text: &str) -> Result<Value, NoMemory> {
@@ -66,8 +60,8 @@ fn link(alloc: Global, schema: &Schema, prev: u128, id: u128) -> Result<Link, No
 
 fn fork_told(by: By, prev: TxnId, id: TxnId) -> Told {
     match by {
-        By::Prev => ("fork by prev", place_of(prev), place_of(id)),
-        By::Id => ("fork by id", place_of(prev), place_of(id)),
+        By::Prev => ("fork by prev", u128::from(prev), u128::from(id)),
+        By::Id => ("fork by id", u128::from(prev), u128::from(id)),
     }
 }
 
@@ -79,7 +73,7 @@ fn refusal_told(error: &TakeError) -> Told {
             held_id,
             ..
         } => fork_told(*by, *held_prev, *held_id),
-        TakeError::Full { link } => ("full", place_of(link.prev()), place_of(link.id())),
+        TakeError::Full { link } => ("full", u128::from(link.prev()), u128::from(link.id())),
         TakeError::NoMemory { .. } => OUT_OF_MEMORY,
     }
 }
@@ -164,7 +158,12 @@ fn add_told(alloc: Global, answers: &mut String, told: Told) -> Result<(), Fault
     add(answers, answer.as_str())
 }
 
-// What the store answers to a link, taken alone and in a store of it, and how many links it holds then.
+fn add_held(alloc: Global, answers: &mut String, store: &LinkStore) -> Result<(), Fault> {
+    let held = store.len();
+    add(answers, format!(in alloc; "holds {held}")?.as_str())
+}
+
+// What the store answers to a link, taken alone and in a store of it, and how many links it holds after each.
 fn add_asked(
     alloc: Global,
     store: &mut LinkStore,
@@ -173,11 +172,11 @@ fn add_asked(
     answers: &mut String,
 ) -> Result<(), Fault> {
     let taken = take(alloc, store, prev, id);
-    let merged = merge(alloc, store, prev, id);
-    let held = store.len();
     add_told(alloc, answers, taken)?;
+    add_held(alloc, answers, store)?;
+    let merged = merge(alloc, store, prev, id);
     add_told(alloc, answers, merged)?;
-    add_told(alloc, answers, ("holds", held as u128, 0))
+    add_held(alloc, answers, store)
 }
 
 /// Fills a store and settles it, and asks it then for a link that it holds, for one that contradicts it, and for one too
