@@ -1,6 +1,7 @@
 -- The tests of equality decide it.
-use Rattle.std.proofs.Common.{◌≡◌, List, Bool, true, false, ◌&&◌, refl, ap, subst}
+use Rattle.std.proofs.Common.{◌≡◌, List, true, refl, ap, subst}
 use Rattle.std.specs.Prelude.{◌↔◌}
+use Rattle.std.specs.Cmp.{first_so, second_so}
 use Rattle.std.specs.Cmp.Lexicographic.{pointwise_decides}
 use Rattle.ovs_data.specs.declared.atom.Atom.{Atom}
 use Rattle.ovs_data.specs.declared.datum.pairs.Pair.{Pair}
@@ -13,15 +14,10 @@ use Rattle.ovs_data.proofs.Differences.{atom_eq-true, atom_eq-self}
 pub atom_decides : (x y : Atom) → (atom_eq x y ≡ true) ↔ (x ≡ y)
 atom_decides x y = (atom_eq-true x y, λ e. subst (λ z. atom_eq x z ≡ true) e (atom_eq-self x))
 
-both_true : (a b : Bool) → (a && b) ≡ true → (a ≡ true) × (b ≡ true)
-both_true true b e = (refl, e)
-both_true false b e = absurd cc
-
 pub pair_decides : (p q : Pair) → (pair_eq p q ≡ true) ↔ (p ≡ q)
 pair_decides p q =
     let same : pair_eq p q ≡ true → p ≡ q = λ e.
-    let h = both_true (atom_eq p.key q.key) (atom_eq p.value q.value) e in
-    let both : ◌≡◌ {A = Pair} (record { key = p.key; value = p.value }) (record { key = q.key; value = q.value }) = rw (atom_eq-true p.key q.key h.0, atom_eq-true p.value q.value h.1) refl in
+    let both : ◌≡◌ {A = Pair} (record { key = p.key; value = p.value }) (record { key = q.key; value = q.value }) = rw (atom_eq-true p.key q.key (first_so (atom_eq p.key q.key) (atom_eq p.value q.value) e), atom_eq-true p.value q.value (second_so (atom_eq p.key q.key) (atom_eq p.value q.value) e)) refl in
     both in
     let itself : pair_eq p p ≡ true = rw (atom_eq-self p.key) (atom_eq-self p.value) in
     (same, λ e. subst (λ z. pair_eq p z ≡ true) e itself)

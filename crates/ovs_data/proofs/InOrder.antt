@@ -1,5 +1,5 @@
 -- The entries of a list in ascending order, and a sorted list in which no two tie.
-use Rattle.std.proofs.Common.{◌≡◌, suc, ◌+◌, ◌<◌, ◌≤◌, List, [], ◌∷◌, length, Bool, true, false, ◌||◌, ◌&&◌, refl, sym, ap, ◌∙◌, arith, Option, Some, None, eqb}
+use Rattle.std.proofs.Common.{◌≡◌, suc, ◌+◌, ◌<◌, ◌≤◌, List, [], ◌∷◌, length, true, false, ◌||◌, ◌&&◌, refl, sym, ap, ◌∙◌, arith, Option, Some, None, eqb}
 use Rattle.std.specs.Prelude.{is_some, All}
 use Rattle.std.proofs.lemmas.Bool.{eq-eqb, ne_eqb}
 use native.Mathlib.Numerals.{unary_clauses}
@@ -8,21 +8,13 @@ use Rattle.std.proofs.lemmas.List.Sorted.{list_any-IsPermutation, length_permuta
 use Rattle.std.proofs.lemmas.Cmp.{tied_itself, tied_back, alike_right}
 use Rattle.std.specs.List.{list_any, AllByRecursion}
 use Rattle.std.specs.List.Sorted.{IsPermutation, IsSorted}
-use Rattle.std.specs.Cmp.{IsTotalOrder}
+use Rattle.std.specs.Cmp.{IsTotalOrder, first_so, second_so}
 use Rattle.std.specs.declared.cmp.Ordering.{Ordering}
 use Rattle.std.specs.declared.cmp.Ordering.TheVariants.{Less, Equal, Greater}
 use Rattle.std.specs.Ordering.{match_ordering, is_eq, is_lt, ordering_reverse}
 use Rattle.ovs_data.specs.Ascending.{IsAscending, IsBefore, ascends, put_entry, in_order, distinct}
 use Rattle.ovs_data.specs.Exchange.{entry_at}
 use Rattle.ovs_data.proofs.Ascends.{IsBefore-trans, IsBefore-tied, entry_at-before, same_entries, flip_greater}
-
-pub left_true : (a b : Bool) → (a && b) ≡ true → a ≡ true
-left_true true b e = refl
-left_true false b e = e
-
-pub right_true : (a b : Bool) → (a && b) ≡ true → b ≡ true
-right_true true b e = e
-right_true false b e = absurd cc
 
 less_from : (o : Ordering) → is_lt o ≡ true → o ≡ Less
 less_from Less e = refl
@@ -52,8 +44,8 @@ module _ {K E : Type 0} (order : K → K → Ordering) (total : IsTotalOrder ord
   ascending_from [] e = tt
   ascending_from (x ∷ []) e = (tt, tt)
   ascending_from (x ∷ y ∷ ys) e =
-      let less : by_key x y ≡ Less = less_from (by_key x y) (left_true (is_lt (by_key x y)) (ascends by_key (y ∷ ys)) e) in
-      let rest : Ascends (y ∷ ys) = ascending_from (y ∷ ys) (right_true (is_lt (by_key x y)) (ascends by_key (y ∷ ys)) e) in
+      let less : by_key x y ≡ Less = less_from (by_key x y) (first_so (is_lt (by_key x y)) (ascends by_key (y ∷ ys)) e) in
+      let rest : Ascends (y ∷ ys) = ascending_from (y ∷ ys) (second_so (is_lt (by_key x y)) (ascends by_key (y ∷ ys)) e) in
       ((less, IsBefore-trans order total key (key x) (key y) ys less rest.0), rest)
 
   -- ---- putting an entry among others

@@ -1,6 +1,7 @@
 -- The tests of "includes" and "excludes" say what each element and each pair says.
 use Rattle.std.proofs.Common.{◌≡◌, List, [], ◌∷◌, Bool, true, false, cond, ◌&&◌, ◌||◌, Option, Some, None, refl, sym, ap, subst, ◌∙◌}
 use Rattle.std.specs.Prelude.{◌↔◌, not}
+use Rattle.std.specs.Cmp.{first_so, second_so}
 use Rattle.std.specs.List.{list_all}
 use Rattle.std.specs.Option.{option_eq}
 use Rattle.ovs_data.specs.declared.atom.Atom.{Atom}
@@ -12,33 +13,32 @@ use Rattle.ovs_data.specs.Ascending.{IsAscending}
 use Rattle.ovs_data.specs.Conditions.{Includes, Excludes, has_pair}
 use Rattle.ovs_data.specs.Datum.{contains, value_at, has_element, value_in}
 use Rattle.ovs_data.proofs.Differences.{atom_eq-self, atom_eq-true}
-use Rattle.ovs_data.proofs.InOrder.{left_true, right_true}
 use Rattle.ovs_data.proofs.Writings.{or_right, later}
 
-elements_hold : (q : Atom → Bool) (xs : List Atom) → list_all q xs ≡ true → (x : Atom) → contains x xs ≡ true → q x ≡ true
+pub elements_hold : (q : Atom → Bool) (xs : List Atom) → list_all q xs ≡ true → (x : Atom) → contains x xs ≡ true → q x ≡ true
 elements_hold q [] all x e = absurd cc
 elements_hold q (y ∷ ys) all x e =
     elim (atom_eq x y) as (λ b. atom_eq x y ≡ b → (b || contains x ys) ≡ true → q x ≡ true) [
-      | true ↦ λ same f. ap q (atom_eq-true x y same) ∙ left_true (q y) (list_all q ys) all
-      | false ↦ λ same f. elements_hold q ys (right_true (q y) (list_all q ys) all) x f
+      | true ↦ λ same f. ap q (atom_eq-true x y same) ∙ first_so (q y) (list_all q ys) all
+      | false ↦ λ same f. elements_hold q ys (second_so (q y) (list_all q ys) all) x f
     ] refl e
 
-hold_elements : (q : Atom → Bool) (xs : List Atom) → ((x : Atom) → contains x xs ≡ true → q x ≡ true) → list_all q xs ≡ true
+pub hold_elements : (q : Atom → Bool) (xs : List Atom) → ((x : Atom) → contains x xs ≡ true → q x ≡ true) → list_all q xs ≡ true
 hold_elements q [] h = refl
 hold_elements q (y ∷ ys) h = rw (h y (rw (atom_eq-self y) refl)) (hold_elements q ys (λ x e. h x (or_right (atom_eq x y) (contains x ys) e)))
 
-pairs_hold : (r : Pair → Bool) (ps : List Pair) → list_all r ps ≡ true → (k v : Atom) → value_at k ps ≡ Some v → r (record { key = k; value = v }) ≡ true
+pub pairs_hold : (r : Pair → Bool) (ps : List Pair) → list_all r ps ≡ true → (k v : Atom) → value_at k ps ≡ Some v → r (record { key = k; value = v }) ≡ true
 pairs_hold r [] all k v e = absurd cc
 pairs_hold r (p ∷ ps) all k v e =
     elim (atom_eq k p.key) as (λ b. atom_eq k p.key ≡ b → cond b (Some p.value) (value_at k ps) ≡ Some v → r (record { key = k; value = v }) ≡ true) [
       | true ↦ λ same f.
           let keys : p.key ≡ k = sym (atom_eq-true k p.key same) in
           let values : p.value ≡ v = cc in
-          subst (λ q. r q ≡ true) (λ i. record { key = keys i; value = values i }) (left_true (r p) (list_all r ps) all)
-      | false ↦ λ same f. pairs_hold r ps (right_true (r p) (list_all r ps) all) k v f
+          subst (λ q. r q ≡ true) (λ i. record { key = keys i; value = values i }) (first_so (r p) (list_all r ps) all)
+      | false ↦ λ same f. pairs_hold r ps (second_so (r p) (list_all r ps) all) k v f
     ] refl e
 
-hold_pairs : (r : Pair → Bool) (ps : List Pair) → IsAscending atom_cmp (λ (p : Pair). p.key) ps → ((k v : Atom) → value_at k ps ≡ Some v → r (record { key = k; value = v }) ≡ true) → list_all r ps ≡ true
+pub hold_pairs : (r : Pair → Bool) (ps : List Pair) → IsAscending atom_cmp (λ (p : Pair). p.key) ps → ((k v : Atom) → value_at k ps ≡ Some v → r (record { key = k; value = v }) ≡ true) → list_all r ps ≡ true
 hold_pairs r [] a h = refl
 hold_pairs r (p ∷ ps) a h = rw (h p.key p.value (rw (atom_eq-self p.key) refl)) (hold_pairs r ps a.1 (λ k v e. h k v (later p ps a.0 k v e)))
 

@@ -12,6 +12,8 @@ pub mod Repeats
 pub mod Duplicates
 pub mod RoundTrips
 pub mod Including
+pub mod Searches
 pub mod Equalities
 pub mod ColumnEquality
 pub mod Defaults
+pub mod Admitting

@@ -1,10 +1,10 @@
 -- The union of two sets or maps, and what is left of one.
 use Rattle.std.proofs.Common.{◌≡◌, List, [], ◌∷◌, ◌++◌, Bool, true, false, cond, ◌||◌, ◌&&◌, Option, Some, None, Result, Ok, Err, refl, sym, ap, subst, ◌∙◌, ℕ, ◌≤◌, length, drop}
 use Rattle.std.proofs.lemmas.List.{append-nil, drop_all}
-use Rattle.std.specs.Prelude.{IfOk, Vec, not, option_map}
+use Rattle.std.specs.Prelude.{IfOk, Vec, not}
 use Rattle.std.specs.List.{filter}
 use Rattle.std.specs.Option.{option_or}
-use Rattle.std.specs.Cmp.{IsTotalOrder}
+use Rattle.std.specs.Cmp.{IsTotalOrder, second_so}
 use Rattle.std.specs.declared.alloc.Global.{Global}
 use Rattle.std.specs.declared.cmp.Ordering.{Ordering}
 use Rattle.std.specs.declared.cmp.Ordering.TheVariants.{Less, Equal, Greater}
@@ -17,12 +17,11 @@ use Rattle.ovs_data.specs.declared.datum.Datum.TheVariants.{Set, Map}
 use Rattle.ovs_data.specs.Ascending.{IsAscending, IsBefore, in_order}
 use Rattle.ovs_data.specs.Atom.{atom_cmp, atom_eq, atom_total, kind_of}
 use Rattle.ovs_data.specs.Column.{may_count, loose}
-use Rattle.ovs_data.specs.Datum.{contains, value_at, has_element, value_in, datum_len, IsAlike, IsDatumOf, IsOrdered}
+use Rattle.ovs_data.specs.Datum.{contains, value_at, has_element, datum_len, IsAlike, IsDatumOf}
 use Rattle.ovs_data.specs.Exchange.{entry_at, exchanged_at, AreExchanged}
 use Rattle.ovs_data.specs.Mutation.{inserted, deletes, deleted, IsUnion}
-use Rattle.ovs_data.specs.Pairs.{key_cmp}
 use Rattle.ovs_data.proofs.Ascends.{same_entries}
-use Rattle.ovs_data.proofs.Differences.{contains-in_order, contains-append, contains-filter, value_at-in_order, atom_eq-true}
+use Rattle.ovs_data.proofs.Differences.{contains-in_order, contains-append, contains-filter, value_at-in_order}
 use Rattle.ovs_data.proofs.InOrder.{Ascends-in_order, at-in_order}
 use Rattle.ovs_data.proofs.Writings.{later}
 
@@ -134,10 +133,6 @@ left_value t k v (p ∷ ps) a e =
       ]
       | false ↦ λ f. later p ps a.0 k v (left_value t k v ps a.1 f)
     ] e
-
-second_so : (a b : Bool) → (a && b) ≡ true → b ≡ true
-second_so true b e = e
-second_so false b e = absurd cc
 
 deleted_kept : (c : Column) (a b : Datum) → IsDatumOf c a → may_count c (datum_len (deleted a b)) ≡ true → IsDatumOf c (deleted a b)
 deleted_kept c (Set xs) b of count = record {

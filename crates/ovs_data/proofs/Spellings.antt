@@ -27,7 +27,7 @@ use Rattle.ovs_json.specs.Results.{◌>>=◌}
 use Rattle.ovs_json.specs.Parts.{begins_with, two_items, under, list_under}
 use Rattle.ovs_json.specs.Items.{read_items}
 use Rattle.ovs_data.specs.Reading.{read_integer, read_uuid, read_atom, read_one, read_elements, counted, read_set, are_pairs, map_items, read_pair, read_pairs, read_map, read_shaped, read_column, read_datum}
-use Rattle.ovs_data.specs.NamedReading.{NamedIds, read_name, id_or_named, read_named_atom, SpellsName, SpellsNamedAtom, SpellsNamed}
+use Rattle.ovs_data.specs.NamedReading.{NamedIds, read_name, id_or_named, read_named_atom, SpellsName, SpellsNamedAtom}
 use Rattle.ovs_data.specs.Names.{is_id}
 use Rattle.ovs_data.specs.Spelling.{SpellsValue, SpellsAtom, SpellsPair, SpellsElements, SpellsPairs, IsSetOf, IsMapOf, SpellsDatum, Spells}
 use Rattle.ovs_json.specs.Items.{SpellsEach}

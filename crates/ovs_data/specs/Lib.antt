@@ -16,3 +16,4 @@ pub mod RoundTrip
 pub mod Faults
 pub mod Conditions
 pub mod Mutation
+pub mod Admitting

@@ -4,6 +4,8 @@ ghost use Rattle.std.specs.Prelude.{◌≡◌, IfOk, IsOk, true};
 ghost use Rattle.ovs_data.specs.Column.{is_single, may_count, loose, keys_column};
 ghost use Rattle.ovs_data.specs.Datum.{default_datum, empty_of, one_default, IsDatumOf};
 
+mod admitting;
+
 use crate::atom::{Atom, AtomKind};
 use crate::datum::Datum;
 use crate::datum::atoms::Atoms;

@@ -11,6 +11,7 @@ pub(crate) mod atoms;
 mod conditions;
 pub(crate) mod delta;
 mod exchange;
+mod keyed;
 mod map_items;
 mod mutation;
 pub(crate) mod pairs;

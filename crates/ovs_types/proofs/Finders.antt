@@ -1,19 +1,19 @@
 -- What stands in a list at a name, and its number.
-use Rattle.std.proofs.Common.{◌≡◌, ◌≢◌, ℕ, zero, suc, ◌+◌, ◌<◌, ◌≤◌, List, [], ◌∷◌, Bool, true, false, cond, Option, Some, None, Result, Ok, Err, refl, sym, ap, subst, ◌∙◌, ◌⊎◌, inl, inr, length, get_or, arith}
+use Rattle.std.proofs.Common.{◌≡◌, ◌≢◌, ℕ, zero, suc, ◌+◌, ◌<◌, List, [], ◌∷◌, Bool, true, false, cond, Option, Some, None, Result, Ok, Err, refl, sym, ap, subst, ◌∙◌, ◌⊎◌, inl, inr, length, get_or, arith}
 use Rattle.std.proofs.lemmas.Bool.{cases_order}
-use Rattle.std.proofs.lemmas.List.Sorted.{searchable_from_sorted}
 use Rattle.std.proofs.lemmas.Option.{slice_get_within, slice_get-get_or, get_or_from_slice_get}
 use Rattle.std.specs.Prelude.{nat_eq, slice_get, map, option_map, IfNone}
 use Rattle.std.specs.Borrow.{Bor}
 use Rattle.std.specs.FinMap.{nat_cmp-IsAntisymmetric, slice_cmp-IsAntisymmetric}
 use Rattle.std.specs.List.{AllByRecursion}
-use Rattle.std.specs.List.Sorted.{IsStrictlySortedBy, IsSortedBy, IsPartitionPoint, IsSearchInRange, IsBinarySearchResult}
-use Rattle.std.specs.Ordering.{nat_cmp, ordering_reverse, is_lt}
+use Rattle.std.specs.List.Sorted.{IsStrictlySortedBy, IsSearchInRange, IsBinarySearchResult}
+use Rattle.std.specs.Ordering.{nat_cmp, ordering_reverse}
 use Rattle.std.specs.Result.{result_ok}
 use Rattle.std.specs.Cmp.{tied_itself, first_so, second_so}
 use Rattle.std.specs.Cmp.Lexicographic.{pointwise, bytes_decides, slice_cmp, nat_list_cmp_total}
 use Rattle.std.specs.declared.cmp.Ordering.{Ordering}
 use Rattle.std.specs.declared.cmp.Ordering.TheVariants.{Less, Equal, Greater}
+use Rattle.ovs_data.proofs.Searches.{KeysAscend, none_tied}
 use Rattle.ovs_types.specs.Names.{is_name, IsAscendingBy, AreNames}
 use Rattle.ovs_types.specs.Finding.{find_from, column_named, table_named}
 use Rattle.ovs_data.specs.declared.column.Column.{Column}
@@ -167,14 +167,9 @@ module _ {X : Type 0} (name_of : X → List ℕ) where
   abbrev pub by_name : List ℕ → X → Ordering
   by_name s x = slice_cmp nat_cmp (name_of x) s
 
-  sorted_by_name : (xs : List X) → IsAscendingBy name_of xs → IsSortedBy (λ x y. is_lt (slice_cmp nat_cmp (name_of x) (name_of y))) xs
-  sorted_by_name xs h k d low within =
-      let x = get_or xs k d in
-      let y = get_or xs (k + 1) d in
-      let before : Precedes (name_of x) (name_of y) =
-      names_ascend name_of xs h k (k + 1) x y (slice_get-get_or xs k d (omega (arith, within))) (slice_get-get_or xs (k + 1) d within) (omega arith) in
-      let turned : slice_cmp nat_cmp (name_of y) (name_of x) ≡ Greater = nat_list_cmp_total.antisymm (name_of y) (name_of x) ∙ ap ordering_reverse before in
-      ap is_lt turned
+  keys_ascend : (xs : List X) → IsAscendingBy name_of xs → KeysAscend (slice_cmp nat_cmp) nat_list_cmp_total name_of xs
+  keys_ascend xs h i j d up within =
+      names_ascend name_of xs h i j (get_or xs i d) (get_or xs j d) (slice_get-get_or xs i d (omega arith)) (slice_get-get_or xs j d within) up
 
   -- the entry at the number where a search found a name is the one that has it
   pub search_found : {Y : Type 0} (value_of : X → Y) (xs : List X) → IsAscendingBy name_of xs → (s : List ℕ) (r : Result ℕ ℕ) → IsSearchInRange r (length xs)
@@ -198,30 +193,12 @@ module _ {X : Type 0} (name_of : X → List ℕ) where
   none_found value_of k [] s absent = refl
   none_found value_of k (x ∷ xs) s absent = none_by value_of k x xs s _ refl (absent 0 x refl) (none_found value_of (suc k) xs s (λ j. absent (suc j)))
 
-  -- nor does an entry have it, where the search ended between what comes before it and what comes after
-  not_between : (xs : List X) (s : List ℕ) (i : ℕ) → IsPartitionPoint (λ x. by_name s x ≡ Less) (λ x. by_name s x ≡ Greater) xs i
-      → (j : ℕ) (x : X) → slice_get xs j ≡ Some x → name_of x ≢ s
-  not_between xs s i sides j x at same = by_side (cases_order j i)
-    where
-      stands : get_or xs j x ≡ x
-      stands = get_or_from_slice_get xs j x x at
-
-      ties_as : (o : Ordering) → by_name s (get_or xs j x) ≡ o → o ≡ Equal
-      ties_as o e = sym e ∙ tied_names (name_of (get_or xs j x)) s (ap name_of stands ∙ same)
-
-      behind : i ≤ j → ⊥
-      behind up = let tied : Greater ≡ Equal = ties_as Greater (sides.1 j x up (slice_get_within xs j x at)) in cc
-
-      by_side : ((j ≡ i) ⊎ ((j < i) ⊎ (i < j))) → ⊥
-      by_side (inl here) = behind (omega (arith, here))
-      by_side (inr (inl before)) = let tied : Less ≡ Equal = ties_as Less (sides.0 j x (omega arith) before) in cc
-      by_side (inr (inr after)) = behind (omega (arith, after))
-
   pub search_absent : {Y : Type 0} (value_of : X → Y) (xs : List X) → IsAscendingBy name_of xs → (s : List ℕ) (r : Result ℕ ℕ)
       → IsBinarySearchResult (by_name s) xs r → result_ok r ≡ None → find_from name_of value_of 0 xs s ≡ None
   search_absent value_of xs h s (Ok i) parted e = absurd cc
   search_absent value_of xs h s (Err i) parted e =
-      none_found value_of 0 xs s (not_between xs s i (parted (searchable_from_sorted nat_list_cmp_total name_of xs s (sorted_by_name xs h))))
+      none_found value_of 0 xs s (λ j x at same. none_tied (slice_cmp nat_cmp) nat_list_cmp_total name_of xs (keys_ascend xs h) s i parted j x (slice_get_within xs j x at)
+      (tied_names (name_of (get_or xs j x)) s (ap name_of (get_or_from_slice_get xs j x x at) ∙ same)))
 
 -- ---- columns and tables
 

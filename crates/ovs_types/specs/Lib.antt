@@ -2,6 +2,7 @@ pub use Rattle.ovs_json.specs.Gives
 pub use Rattle.ovs_json.specs.Items
 pub use Rattle.ovs_json.specs.Members
 pub use Rattle.ovs_json.specs.Results
+pub use Rattle.ovs_data.specs.Admitting
 pub use Rattle.ovs_data.specs.Atom
 pub use Rattle.ovs_data.specs.Column
 pub use Rattle.ovs_data.specs.Conditions

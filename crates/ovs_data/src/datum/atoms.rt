@@ -9,6 +9,7 @@ ghost use Rattle.ovs_data.specs.declared.datum.Datum.TheVariants.{Set};
 
 use crate::atom::Atom;
 use crate::datum::exchange::{Entry, copies, exchanged, joined};
+use crate::datum::keyed::{Keyed, find};
 use ovs_json::NoMemory;
 use std::alloc::Global;
 use std::cmp::Ordering;
@@ -32,6 +33,14 @@ impl Entry for Atom {
     }
 
     ghost total = { atom_total };
+}
+
+impl Keyed for Atom {
+    ghost key = { λ x. x };
+
+    fn key(&self) -> &Atom {
+        self
+    }
 }
 
 /// Atoms in ascending order, each once.
@@ -95,7 +104,7 @@ impl Atoms {
     pub(crate) fn contains(&self, atom: &Atom) -> bool
         ensures value { result ≡ contains atom.now self.now }
     {
-        self.items.iter().any(|item| atom == item)
+        find(&self.items, atom).is_some()
     }
 
     /// An equal set.

@@ -11,6 +11,7 @@ ghost use Rattle.ovs_data.specs.declared.datum.Datum.TheVariants.{Map};
 
 use crate::atom::Atom;
 use crate::datum::exchange::{Entry, copies, exchanged, joined};
+use crate::datum::keyed::{Keyed, find};
 use ovs_json::NoMemory;
 use std::alloc::Global;
 use std::cmp::Ordering;
@@ -60,16 +61,12 @@ impl Entry for Pair {
     ghost total = { key_total };
 }
 
-// The value of the first pair of a key.
-fn find_value<'a>(pairs: &'a [Pair], key: &Atom) -> Option<&'a Atom>
-    ensures value { option_copied result ≡ value_at key.now pairs.now }
-{
-    for pair in pairs {
-        if key.compare(&pair.key) == Ordering::Equal {
-            return Some(&pair.value);
-        }
+impl Keyed for Pair {
+    ghost key = { λ p. p.key };
+
+    fn key(&self) -> &Atom {
+        &self.key
     }
-    None
 }
 
 /// Pairs in ascending order of their keys, each key once.
@@ -133,7 +130,7 @@ impl Pairs {
     pub(crate) fn get(&self, key: &Atom) -> Option<&Atom>
         ensures value { option_copied result ≡ value_at key.now self.now }
     {
-        find_value(&self.items, key)
+        Some(&find(&self.items, key)?.value)
     }
 
     /// An equal map.

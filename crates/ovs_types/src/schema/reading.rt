@@ -53,7 +53,7 @@ fn read_members<M: Member>(
     ensures exact { IfOk result (λ r. items_of r ≡ read_all rank M.read (members_view members.now.entries)) }
     ensures ordered { IsStrictlySortedBy string_cmp (keys_of members.now.entries) }
 {
-    let mut so_far = Ok(Vec::new(alloc));
+    let mut so_far = Ok(Vec::with_capacity(alloc, members.len())?);
     for (name, value) in members.iter() {
         so_far = with_one(so_far, M::read(alloc, name.as_str(), value)?)?;
     }
