@@ -1,6 +1,7 @@
 pub mod Depths
 pub mod Cuts
 pub mod NextByte
+pub mod Spans
 pub mod Unique
 pub mod Exists
 pub mod Members

@@ -1,6 +1,6 @@
 -- One more byte of a stream.
 use Rattle.std.proofs.Common.{◌≡◌, ℕ, ◌+◌, ◌-◌, ◌<◌, ◌≤◌, List, [], ◌∷◌, ◌++◌, length, take, drop, get_or, slice_index, refl, ap, sym, ◌∙◌, subst, arith, ⊎_elim, length-append}
-use Rattle.std.proofs.lemmas.List.{take_more, take-append-le, take_all, drop-append-le, take-append-drop, length-take-le, drop-take, append-nil, drop_all, length-take}
+use Rattle.std.proofs.lemmas.List.{take_more, take-append-le, take_all, drop-append-le, take-append-drop, length-take-le, append-nil, drop_all, length-take}
 use Rattle.std.proofs.Math.Seq.{take-length}
 use Rattle.std.proofs.lemmas.Bool.{cases_lt}
 use Rattle.ovs_wire.specs.declared.error.FrameError.{FrameError}
@@ -76,22 +76,31 @@ pub current_more : (bytes : List ℕ) (start i : ℕ) → start ≤ i → i < le
 current_more bytes start i le lt = ap (drop start) (take_more bytes i 0 lt) ∙ drop-append-le start
     (take i bytes) (get_or bytes i 0 ∷ []) (omega (arith, length-take-le i bytes (omega arith)))
 
-pub more : (bytes : List ℕ) (i : ℕ) (found found' : List (List ℕ)) (current : List ℕ) (ending : Ending)
-    → i < length bytes → AreFrames (take i bytes) found (Rest current)
+-- the stream from first on, with one more byte
+more : (bytes : List ℕ) (first i : ℕ) (found found' : List (List ℕ)) (current : List ℕ) (ending : Ending)
+    → first ≤ i → i < length bytes → AreFrames (drop first (take i bytes)) found (Rest current)
     → AreFrames (current ++ get_or bytes i 0 ∷ []) found' ending
-    → AreFrames (take (i + 1) bytes) (found ++ found') ending
-more bytes i found found' current ending lt a b =
-    subst (λ (l : List ℕ). AreFrames l (found ++ found') ending) (sym (take_more bytes i 0 lt))
-    (cut (take i bytes) (get_or bytes i 0 ∷ []) found found' current ending a b)
+    → AreFrames (drop first (take (i + 1) bytes)) (found ++ found') ending
+more bytes first i found found' current ending le lt a b =
+    subst (λ (l : List ℕ). AreFrames l (found ++ found') ending) (sym (current_more bytes first i le lt))
+    (cut (drop first (take i bytes)) (get_or bytes i 0 ∷ []) found found' current ending a b)
 
 pub unfinished_now : (x : List ℕ) (found : List (List ℕ)) (r : List ℕ) → AreFrames x found (Rest r)
     → IsUnfinished r
 unfinished_now x found r a = subst IsUnfinished a.ends.0 a.ends.1
 
-pub fault_now : (bytes : List ℕ) (i : ℕ) (found : List (List ℕ)) (f : FrameError)
-    → AreFrames (take i bytes) found (Fault f) → AreFrames bytes found (Fault f)
-fault_now bytes i found f a = subst (λ (l : List ℕ). AreFrames l found (Fault f)) (take-append-drop i bytes)
-    (fault_on (take i bytes) (drop i bytes) found f a)
+-- what stands from first on, with all that is still to come
+all_from : (bytes : List ℕ) (first i : ℕ) → first ≤ i → i ≤ length bytes
+    → drop first (take i bytes) ++ drop i bytes ≡ drop first bytes
+all_from bytes first i le short =
+    sym (drop-append-le first (take i bytes) (drop i bytes) (omega (arith, length-take-le i bytes short)))
+    ∙ ap (drop first) (take-append-drop i bytes)
+
+fault_now : (bytes : List ℕ) (first i : ℕ) (found : List (List ℕ)) (f : FrameError) → first ≤ i → i ≤ length bytes
+    → AreFrames (drop first (take i bytes)) found (Fault f) → AreFrames (drop first bytes) found (Fault f)
+fault_now bytes first i found f le short a =
+    subst (λ (l : List ℕ). AreFrames l found (Fault f)) (all_from bytes first i le short)
+    (fault_on (drop first (take i bytes)) (drop i bytes) found f a)
 
 length_current : (bytes : List ℕ) (start i : ℕ) → start ≤ i → i ≤ length bytes
     → length (drop start (take i bytes)) ≡ i - start
@@ -100,29 +109,27 @@ length_current bytes start i le short = grind (arith, common_steps)
 current_none : (bytes : List ℕ) (i : ℕ) → drop i (take i bytes) ≡ []
 current_none bytes i = drop_all i (take i bytes) (omega (arith, length-take i bytes))
 
--- where a scan stands before byte i
-pub record Stands (bytes : List ℕ) (i start : ℕ) (found : List (List ℕ)) (p : Place) : Type 0 where
+-- where a scan stands before byte i, of a stream that begins at first
+pub record Stands (bytes : List ℕ) (first i start : ℕ) (found : List (List ℕ)) (p : Place) : Type 0 where
+  pub behind : first ≤ start
   pub within : start ≤ i
-  pub frames : AreFrames (take i bytes) found (Rest (drop start (take i bytes)))
+  pub frames : AreFrames (drop first (take i bytes)) found (Rest (drop start (take i bytes)))
   pub place : p ≡ place_after (drop start (take i bytes))
 
-pub stands_first : (bytes : List ℕ) (i : ℕ) (p : Place) → IsUnfinished (take i bytes)
-    → p ≡ place_after (take i bytes) → Stands bytes i 0 [] p
-stands_first bytes i p is at = record { within = omega arith; frames = only_rest (take i bytes) is; place = at }
-
-pub stands_space : (bytes : List ℕ) (i start : ℕ) (found : List (List ℕ)) (p : Place)
-    → Stands bytes i start found p → i < length bytes → start ≡ i → IsSpace (get_or bytes i 0)
-    → Stands bytes (i + 1) (i + 1) found p
-stands_space bytes i start found p s lt same blank =
+pub stands_space : (bytes : List ℕ) (first i start : ℕ) (found : List (List ℕ)) (p : Place)
+    → Stands bytes first i start found p → i < length bytes → start ≡ i → IsSpace (get_or bytes i 0)
+    → Stands bytes first (i + 1) (i + 1) found p
+stands_space bytes first i start found p s lt same blank =
     let here : drop start (take i bytes) ≡ [] = ap (λ k. drop k (take i bytes)) same ∙ current_none bytes i in
     let none = current_none bytes (i + 1) in
-    let next : AreFrames (take (i + 1) bytes) (found ++ []) (Rest []) =
-    more bytes i found [] [] (Rest []) lt
-    (subst (λ (l : List ℕ). AreFrames (take i bytes) found (Rest l)) here s.frames)
+    let next : AreFrames (drop first (take (i + 1) bytes)) (found ++ []) (Rest []) =
+    more bytes first i found [] [] (Rest []) (omega (arith, s.behind, s.within)) lt
+    (subst (λ (l : List ℕ). AreFrames (drop first (take i bytes)) found (Rest l)) here s.frames)
     (only_space (get_or bytes i 0) blank) in
     record {
+      behind = omega (arith, s.behind, s.within);
       within = omega arith;
-      frames = subst (λ (l : List ℕ). AreFrames (take (i + 1) bytes) found (Rest l)) (sym none)
+      frames = subst (λ (l : List ℕ). AreFrames (drop first (take (i + 1) bytes)) found (Rest l)) (sym none)
           (simp append-nil at next);
       place = s.place ∙ ap place_after here ∙ ap place_after (sym none);
     }
@@ -131,64 +138,69 @@ stands_space bytes i start found p s lt same blank =
 abbrev pub Next : Place → ℕ → Place → Type 0
 Next p b q = (before : List ℕ) → p ≡ place_after before → q ≡ place_after (before ++ b ∷ [])
 
-pub stands_more : (bytes : List ℕ) (i start : ℕ) (found : List (List ℕ)) (p q : Place)
-    → Stands bytes i start found p → i < length bytes → (i - start ≡ 0 → get_or bytes i 0 ≡ 123)
+pub stands_more : (bytes : List ℕ) (first i start : ℕ) (found : List (List ℕ)) (p q : Place)
+    → Stands bytes first i start found p → i < length bytes → (i - start ≡ 0 → get_or bytes i 0 ≡ 123)
     → Next p (get_or bytes i 0) q → 0 < q.depth → q.depth ≤ most_nesting → i - start < most_bytes
-    → Stands bytes (i + 1) start found q
-stands_more bytes i start found p q s lt head next deep low short =
+    → Stands bytes first (i + 1) start found q
+stands_more bytes first i start found p q s lt head next deep low short =
     let u = drop start (take i bytes) in
     let b = get_or bytes i 0 in
     let len = length_current bytes start i s.within (omega arith) in
     let now = next u s.place in
     let d : q.depth ≡ depth (u ++ b ∷ []) = ap (λ a. a.depth) now in
-    let is = unfinished_more u b (unfinished_now (take i bytes) found u s.frames)
+    let is = unfinished_more u b (unfinished_now (drop first (take i bytes)) found u s.frames)
     (λ none. head (omega (arith, none, len))) (omega (arith, d, deep)) (omega (arith, d, low))
     (omega (arith, len, short)) in
     let grown = current_more bytes start i s.within lt in
-    let frames : AreFrames (take (i + 1) bytes) (found ++ []) (Rest (u ++ b ∷ [])) =
-    more bytes i found [] u (Rest (u ++ b ∷ [])) lt s.frames (only_rest (u ++ b ∷ []) is) in
+    let frames : AreFrames (drop first (take (i + 1) bytes)) (found ++ []) (Rest (u ++ b ∷ [])) =
+    more bytes first i found [] u (Rest (u ++ b ∷ [])) (omega (arith, s.behind, s.within)) lt s.frames
+    (only_rest (u ++ b ∷ []) is) in
     record {
+      behind = s.behind;
       within = omega (arith, s.within);
-      frames = subst (λ (l : List ℕ). AreFrames (take (i + 1) bytes) found (Rest l)) (sym grown)
+      frames = subst (λ (l : List ℕ). AreFrames (drop first (take (i + 1) bytes)) found (Rest l)) (sym grown)
           (simp append-nil at frames);
       place = now ∙ ap place_after (sym grown);
     }
 
-pub stands_whole : (bytes : List ℕ) (i start : ℕ) (found : List (List ℕ)) (p q : Place) (o : List ℕ)
-    → Stands bytes i start found p → i < length bytes → (i - start ≡ 0 → get_or bytes i 0 ≡ 123)
+pub stands_whole : (bytes : List ℕ) (first i start : ℕ) (found : List (List ℕ)) (p q : Place) (o : List ℕ)
+    → Stands bytes first i start found p → i < length bytes → (i - start ≡ 0 → get_or bytes i 0 ≡ 123)
     → Next p (get_or bytes i 0) q → q.depth ≡ 0 → i - start < most_bytes
-    → o ≡ drop start (take (i + 1) bytes) → Stands bytes (i + 1) (i + 1) (found ++ o ∷ []) (place_after [])
-stands_whole bytes i start found p q o s lt head next deep short whole =
+    → o ≡ drop start (take (i + 1) bytes) → Stands bytes first (i + 1) (i + 1) (found ++ o ∷ []) (place_after [])
+stands_whole bytes first i start found p q o s lt head next deep short whole =
     let u = drop start (take i bytes) in
     let b = get_or bytes i 0 in
     let len = length_current bytes start i s.within (omega arith) in
     let now = next u s.place in
     let d : q.depth ≡ depth (u ++ b ∷ []) = ap (λ a. a.depth) now in
-    let is = object_whole u b (unfinished_now (take i bytes) found u s.frames)
+    let is = object_whole u b (unfinished_now (drop first (take i bytes)) found u s.frames)
     (λ none. head (omega (arith, none, len))) (sym d ∙ deep) (omega (arith, len, short)) in
     let o_is : u ++ b ∷ [] ≡ o = sym (whole ∙ current_more bytes start i s.within lt) in
     let none = current_none bytes (i + 1) in
-    let frames : AreFrames (take (i + 1) bytes) (found ++ (u ++ b ∷ []) ∷ []) (Rest []) =
-    more bytes i found ((u ++ b ∷ []) ∷ []) u (Rest []) lt s.frames (only_object (u ++ b ∷ []) is) in
+    let frames : AreFrames (drop first (take (i + 1) bytes)) (found ++ (u ++ b ∷ []) ∷ []) (Rest []) =
+    more bytes first i found ((u ++ b ∷ []) ∷ []) u (Rest []) (omega (arith, s.behind, s.within)) lt s.frames
+    (only_object (u ++ b ∷ []) is) in
     record {
+      behind = omega (arith, s.behind, s.within);
       within = omega arith;
-      frames = subst (λ (l : List ℕ). AreFrames (take (i + 1) bytes) (found ++ o ∷ []) (Rest l)) (sym none)
-          (subst (λ (m : List ℕ). AreFrames (take (i + 1) bytes) (found ++ m ∷ []) (Rest [])) o_is frames);
+      frames = subst (λ (l : List ℕ). AreFrames (drop first (take (i + 1) bytes)) (found ++ o ∷ []) (Rest l)) (sym none)
+          (subst (λ (m : List ℕ). AreFrames (drop first (take (i + 1) bytes)) (found ++ m ∷ []) (Rest [])) o_is frames);
       place = ap place_after (sym none);
     }
 
-pub stands_fault : (bytes : List ℕ) (i start : ℕ) (found : List (List ℕ)) (p : Place) (f : FrameError)
-    → Stands bytes i start found p → i < length bytes
+pub stands_fault : (bytes : List ℕ) (first i start : ℕ) (found : List (List ℕ)) (p : Place) (f : FrameError)
+    → Stands bytes first i start found p → i < length bytes
     → ((before : List ℕ) → IsUnfinished before → length before ≡ i - start → p ≡ place_after before
-    → Breaks before (get_or bytes i 0) f) → AreFrames bytes found (Fault f)
-stands_fault bytes i start found p f s lt breaks =
+    → Breaks before (get_or bytes i 0) f) → AreFrames (drop first bytes) found (Fault f)
+stands_fault bytes first i start found p f s lt breaks =
     let u = drop start (take i bytes) in
     let b = get_or bytes i 0 in
-    let is = unfinished_now (take i bytes) found u s.frames in
+    let is = unfinished_now (drop first (take i bytes)) found u s.frames in
+    let le : first ≤ i = omega (arith, s.behind, s.within) in
     let h = faulty u b f is (breaks u is (length_current bytes start i s.within (omega arith)) s.place) in
-    let frames : AreFrames (take (i + 1) bytes) (found ++ []) (Fault f) =
-    more bytes i found [] u (Fault f) lt s.frames (only_fault (u ++ b ∷ []) f h) in
-    fault_now bytes (i + 1) found f (simp append-nil at frames)
+    let frames : AreFrames (drop first (take (i + 1) bytes)) (found ++ []) (Fault f) =
+    more bytes first i found [] u (Fault f) le lt s.frames (only_fault (u ++ b ∷ []) f h) in
+    fault_now bytes first (i + 1) found f (omega arith) (omega arith) (simp append-nil at frames)
 
 pub nests_now : (u : List ℕ) → IsUnfinished u → depth u ≤ most_nesting
 nests_now u is = subst (λ (l : List ℕ). depth l ≤ most_nesting) (take-length u) (is.limits.nests (length u))
@@ -202,31 +214,8 @@ pub deeper : (u : List ℕ) (b : ℕ) → IsUnfinished u → most_nesting < dept
     → (0 < length u) × (depth (u ++ b ∷ []) ≡ most_nesting + 1)
 deeper u b is deep = (some_before u b deep, omega (arith, by_one u b, nests_now u is, deep))
 
-pub stands_last : (bytes : List ℕ) (i start : ℕ) (found : List (List ℕ)) (p : Place)
-    → Stands bytes i start found p → length bytes ≤ i
-    → AreFrames bytes found (Rest (drop start bytes)) × (p ≡ place_after (drop start bytes))
-stands_last bytes i start found p s le =
-    let all = take_all i bytes le in (
-      subst (λ (l : List ℕ). AreFrames l found (Rest (drop start l))) all s.frames,
-      s.place ∙ ap
-          (λ l. place_after (drop start l)) all,
-    )
-
-pub depth_now : (bytes : List ℕ) (i start : ℕ) (found : List (List ℕ)) (p : Place)
-    → Stands bytes i start found p → p.depth ≤ most_nesting
-depth_now bytes i start found p s =
+pub depth_now : (bytes : List ℕ) (first i start : ℕ) (found : List (List ℕ)) (p : Place)
+    → Stands bytes first i start found p → p.depth ≤ most_nesting
+depth_now bytes first i start found p s =
     let u = drop start (take i bytes) in
-    omega (arith, ap (λ a. a.depth) s.place, nests_now u (unfinished_now (take i bytes) found u s.frames))
-
-pub moved : (bytes : List ℕ) (i start start' : ℕ) (found found' : List (List ℕ)) (p p' : Place)
-    → Stands bytes i start found p → start' ≡ start → found' ≡ found → p' ≡ p → Stands bytes i start' found' p'
-moved bytes i start start' found found' p p' s a b c =
-    subst (λ (k : ℕ). Stands bytes i k found' p') (sym a)
-    (subst (λ (l : List (List ℕ)). Stands bytes i start l p') (sym b)
-    (subst (λ (x : Place). Stands bytes i start found x) (sym c) s))
-
-pub cut_out : (bytes : List ℕ) (start i : ℕ) → start ≤ i
-    → take (i + 1 - start) (drop start bytes) ≡ drop start (take (i + 1) bytes)
-cut_out bytes start i le =
-    let sum : start + (i + 1 - start) ≡ i + 1 = omega arith in
-    sym (drop-take start (i + 1 - start) bytes) ∙ ap (λ k. drop start (take k bytes)) sum
+    omega (arith, ap (λ a. a.depth) s.place, nests_now u (unfinished_now (drop first (take i bytes)) found u s.frames))

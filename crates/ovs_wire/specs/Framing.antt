@@ -1,5 +1,5 @@
 -- What a framer holds, and what feeding it does.
-use Rattle.std.specs.Prelude.{◌≡◌, ℕ, Option, Some, None, Result, Ok, Err, List, [], ◌∷◌, ◌++◌}
+use Rattle.std.specs.Prelude.{◌≡◌, ℕ, Option, Some, None, Result, Ok, Err, List, [], ◌∷◌, ◌++◌, drop}
 use Rattle.ovs_wire.specs.declared.error.FrameError.{FrameError}
 use Rattle.ovs_wire.specs.Frames.{Ending, Rest, Fault, AreFrames}
 
@@ -39,6 +39,10 @@ Feeds old piece new = FeedsAfter old.ending old piece new
 -- taking the first message that waits: the others wait on
 abbrev pub Takes : Framing → List ℕ → Framing → Type 0
 Takes old message new = (old.waiting ≡ message ∷ new.waiting) × (new.ending ≡ old.ending)
+
+-- without the first message that waits, where one does
+abbrev pub without_first : Framing → Framing
+without_first now = framing (drop 1 now.waiting) now.ending
 
 -- a feed answers the fault, where there is one
 abbrev pub Answers : {X : Type 0} → Ending → Result X FrameError → Type 0

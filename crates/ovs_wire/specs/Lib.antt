@@ -3,6 +3,7 @@ pub mod Depth
 pub mod Place
 pub mod Frames
 pub mod Framing
+pub mod Spans
 pub mod Texts
 pub mod Named
 pub mod Message

@@ -1,6 +1,5 @@
 //! A stream of bytes, split into JSON objects with white space between them.
 
-mod frame;
 mod framer;
 mod laws;
 mod limits;

@@ -1,23 +1,22 @@
 //! The framer: pieces of a stream in, whole messages out.
-ghost use Rattle.std.specs.Prelude.{◌≡◌, ◌≤◌, ◌++◌, [], length, take, IfSome, OnOk, OnErr};
+ghost use Rattle.std.specs.Prelude.{◌≡◌, ◌≤◌, ◌++◌, length, take, drop, OnOk, OnErr};
 ghost use Rattle.ovs_wire.specs.Frames.{Fault};
-ghost use Rattle.ovs_wire.specs.Framing.{IsNew, Feeds, Takes, Answers};
+ghost use Rattle.ovs_wire.specs.Framing.{IsNew, Feeds, Answers};
 
 use crate::error::FrameError;
-use crate::framing::frame::Frame;
 use crate::framing::place::Place;
-use crate::framing::scan::scan;
+use crate::framing::scan::{Span, Tail, scan};
 use ovs_json::NoMemory;
 use std::alloc::Global;
 use std::collections::VecDeque;
 use std::marker::Model;
 
-// The room, in bytes, that is kept for the next message once one is whole.
+// The room, in bytes, that a buffer keeps however little it holds.
 const SPARE_ROOM: usize = 4096;
 
 // Puts the messages that were found behind those that wait. A queue less than a quarter full keeps room for twice its
 // length alone, so that few messages are moved for each that is taken.
-fn queue(waiting: &mut VecDeque<Frame>, mut found: VecDeque<Frame>) -> Result<(), NoMemory>
+fn queue(waiting: &mut VecDeque<Span>, mut found: VecDeque<Span>) -> Result<(), NoMemory>
     ensures ok { OnOk result (waiting.new.items ≡ waiting.old.items ++ found.items) }
     ensures err { OnErr result (waiting.new.items ≡ waiting.old.items) }
 {
@@ -33,13 +32,25 @@ fn queue(waiting: &mut VecDeque<Frame>, mut found: VecDeque<Frame>) -> Result<()
 }
 
 // Drops what stands behind the first `held` bytes, and its room. What doubling takes is kept, so that a feed that is
-// tried again with short pieces doesn't move the held bytes each time.
-fn cut_back(rest: &mut Vec<u8>, held: usize)
-    requires { held ≤ length rest.old.items }
-    ensures value { rest.new.items ≡ take held rest.old.items }
+// tried again with short pieces doesn't copy the held bytes each time.
+fn cut_back(buffer: &mut Vec<u8>, held: usize)
+    requires { held ≤ length buffer.old.items }
+    ensures value { buffer.new.items ≡ take held buffer.old.items }
 {
-    rest.truncate(held);
-    rest.shrink_to(SPARE_ROOM.max(2 * held));
+    buffer.truncate(held);
+    buffer.shrink_to(SPARE_ROOM.max(2 * held));
+}
+
+// Moves what stands behind the first `taken` bytes to the front. A buffer less than a quarter full keeps room for twice
+// what it holds alone.
+fn move_to_front(buffer: &mut Vec<u8>, taken: usize)
+    requires { taken ≤ length buffer.old.items }
+    ensures value { buffer.new.items ≡ drop taken buffer.old.items }
+{
+    buffer.drain(..taken);
+    if buffer.len() < buffer.capacity() / 4 {
+        buffer.shrink_to(SPARE_ROOM.max(2 * buffer.len()));
+    }
 }
 
 /// Splits a stream of bytes into JSON objects with white space between them, as they come over a connection
@@ -48,41 +59,74 @@ fn cut_back(rest: &mut Vec<u8>, held: usize)
 /// The stream comes in pieces, cut anywhere. A contract sees the messages that are whole and wait, and then the
 /// rest, of which more bytes may make a message, or the stream's first fault.
 ///
-/// Each byte is looked at once. A message that waits has a buffer of its own length, and the rest one of 4,096 bytes or
-/// twice its length at most, also after `NoMemory`. The queue has room for about four times the messages at most that
-/// waited after the last piece, and for none once all are taken.
+/// Each byte is looked at once. One buffer holds the messages and the rest, and a message that is taken is lent from it.
+/// What is left is moved to its front once at least half of the buffer was taken, by a feed, or by a `next` where no
+/// message waits: so that no more bytes are moved than were taken. It then has room for 4,096 bytes or for four times
+/// those that it holds, at most; and the queue for about four times the messages that waited after the last piece.
 #[derive(Debug, Drop)]
 pub struct Framer {
-    waiting: VecDeque<Frame>,
-    rest: Vec<u8>,
-    // the place after `rest`
-    place: Place,
+    buffer: Vec<u8>,
+    // how many bytes at its front were taken
+    taken: usize,
+    // where behind them the messages that wait lie
+    waiting: VecDeque<Span>,
+    tail: Tail,
     fault: Option<FrameError>,
 }
 
 impl Model for Framer {
-    ghost use Rattle.std.specs.Prelude.{◌≡◌};
-    ghost use Rattle.ovs_wire.specs.Place.{place_after};
-    ghost use Rattle.ovs_wire.specs.Frames.{IsUnfinished};
+    ghost use Rattle.std.specs.Prelude.{◌≡◌, ◌+◌, drop};
     ghost use Rattle.ovs_wire.specs.Framing.{Framing, framing, ending_of};
+    ghost use Rattle.ovs_wire.specs.Spans.{IsTail, messages, spanned};
 
     ghost Value = { Framing };
 
-    ghost view = { λ f. framing f.waiting.items (ending_of f.fault f.rest.items) };
+    ghost view = { λ f. framing (messages f.waiting.items (drop f.taken f.buffer.items))
+        (ending_of f.fault (drop f.tail.start f.buffer.items)) };
 
-    ghost invariant = { λ f. IsUnfinished f.rest.items × (f.place ≡ place_after f.rest.items) };
+    ghost invariant = { λ f. IsTail f.buffer.items f.tail × (f.tail.end ≡ f.taken + spanned f.waiting.items) };
 }
 
 impl Framer {
+    ghost use Rattle.std.specs.Prelude.{◌≡◌, [], IfSome};
+    ghost use Rattle.std.specs.Borrow.{sem};
+    ghost use Rattle.std.specs.Io.BufRead.{Rests};
+    ghost use Rattle.ovs_wire.specs.Framing.{Takes, without_first};
+    ghost use Rattle.ovs_wire.specs.contracts.framing.framer.Framer.{the_row};
+
     /// The framer of a stream of which nothing has come yet.
     pub fn new(alloc: Global) -> Framer
         ensures is_new { IsNew result }
     {
-        Framer {
-            waiting: VecDeque::new(alloc),
-            rest: Vec::new(alloc),
+        let tail = Tail {
+            end: 0,
+            start: 0,
             place: Place::start(),
+        };
+        Framer {
+            buffer: Vec::new(alloc),
+            taken: 0,
+            waiting: VecDeque::new(alloc),
+            tail,
             fault: None,
+        }
+    }
+
+    // Moves what is left to the front, where at least as many bytes were taken since the last time: so each byte that is
+    // moved is paid for by one that was taken. Where no message waits, white space before the rest counts as taken.
+    fn make_room(&mut self)
+        ensures value { self.new ≡ self.old }
+    {
+        if self.waiting.is_empty() {
+            self.taken = self.tail.start;
+            self.tail.end = self.tail.start;
+        }
+        let taken = self.taken;
+        if taken >= self.buffer.len() - taken {
+            move_to_front(&mut self.buffer, taken);
+            self.taken = 0;
+            self.tail.end -= taken;
+            self.tail.start -= taken;
         }
     }
 
@@ -96,51 +140,45 @@ impl Framer {
         ensures ended { (f : _) → self.old.ending ≡ Fault f → result ≡ Err f }
         ensures memory { result ≡ Err FrameError.NoMemory → self.new ≡ self.old }
     {
+        self.make_room();
         if let Some(fault) = self.fault {
             return Err(fault);
         }
-        let alloc = *self.rest.allocator();
-        let held = self.rest.len();
-        self.rest.extend_from_slice(piece)?;
-        let scanned = match scan(alloc, &self.rest, held, self.place) {
+        let alloc = *self.buffer.allocator();
+        let held = self.buffer.len();
+        self.buffer.extend_from_slice(piece)?;
+        let scanned = match scan(alloc, &self.buffer, held, self.tail) {
             Ok(scanned) => scanned,
             Err(error) => {
-                cut_back(&mut self.rest, held);
+                cut_back(&mut self.buffer, held);
                 return Err(error.into());
             }
         };
         if let Err(error) = queue(&mut self.waiting, scanned.found) {
-            cut_back(&mut self.rest, held);
+            cut_back(&mut self.buffer, held);
             return Err(error.into());
         }
+        self.tail = scanned.tail;
+        self.fault = scanned.fault;
         match scanned.fault {
-            Some(fault) => {
-                self.rest.clear();
-                self.rest.shrink_to_fit();
-                self.place = Place::start();
-                self.fault = Some(fault);
-                Err(fault)
-            }
-            None => {
-                self.rest.drain(..scanned.start);
-                if scanned.start > 0 {
-                    self.rest.shrink_to(SPARE_ROOM);
-                }
-                self.place = scanned.place;
-                Ok(())
-            }
+            Some(fault) => Err(fault),
+            None => Ok(()),
         }
     }
 
-    /// Takes out the first message that waits, if one does: a `Vec` of its own. It takes no memory.
-    pub fn next(&mut self) -> Option<Vec<u8>>
-        ensures some { IfSome result (λ message. Takes self.old message.items self.new) }
-        ensures none { result ≡ None → (self.old.waiting ≡ []) × (self.new ≡ self.old) }
+    /// Takes out the first message that waits, if one does, and lends its bytes. It takes no memory.
+    pub fn next(&mut self) -> Option<&[u8]>
+        ensures some { IfSome result (λ message. Takes self.old message.now (without_first self.old)) }
+        ensures none { result ≡ None → self.old.waiting ≡ [] }
+        ensures* after_borrow { sem 𝓛 (Rests the_row self.entry (λ new. new ≡ without_first self.old)) }
     {
-        let message = self.waiting.pop_front().map(Frame::into_bytes);
         if self.waiting.is_empty() {
-            self.waiting.shrink_to_fit();
+            self.make_room();
         }
-        message
+        let span = self.waiting.pop_front()?;
+        let start = self.taken + span.skip;
+        let end = start + span.len;
+        self.taken = end;
+        Some(&self.buffer[start..end])
     }
 }

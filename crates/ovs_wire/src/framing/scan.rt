@@ -1,24 +1,39 @@
 //! The messages in the bytes that came.
-ghost use Rattle.std.specs.Prelude.{◌≡◌, ◌≤◌, ◌<◌, ◌↔◌, ◌++◌, ◌∷◌, [], ℕ, List, length, take, drop, IsTrue, IfOk, IfErr, OnOk};
+ghost use Rattle.std.specs.Prelude.{◌≡◌, ◌+◌, ◌≤◌, ◌<◌, ◌↔◌, ◌++◌, ◌∷◌, [], ℕ, List, length, take, drop, IsTrue, IfOk, IfErr, OnOk};
 ghost use Rattle.ovs_wire.specs.Limits.{most_nesting, most_bytes};
 ghost use Rattle.ovs_wire.specs.Place.{place_after};
 ghost use Rattle.ovs_wire.specs.Frames.{AreFrames, Breaks, IsSpace, IsUnfinished};
 ghost use Rattle.ovs_wire.specs.Framing.{ending_of};
+ghost use Rattle.ovs_wire.specs.Spans.{IsTail, messages, spanned};
 
 use crate::error::FrameError;
-use crate::framing::frame::Frame;
 use crate::framing::limits::{MAX_MESSAGE_BYTES, MAX_NESTING};
 use crate::framing::place::Place;
 use ovs_json::NoMemory;
 use std::alloc::Global;
 use std::collections::VecDeque;
 
-/// What a scan found: whole messages, where the rest begins and the place after it, and the first fault.
-#[derive(Drop)]
-pub(crate) struct Scanned {
-    pub found: VecDeque<Frame>,
+/// A whole message behind another: how many bytes of white space stand before it, and how many bytes it has itself.
+#[derive(Clone, Copy, Debug)]
+pub(crate) struct Span {
+    pub skip: usize,
+    pub len: usize,
+}
+
+/// What stands behind the last whole message in a buffer: white space from `end` on, and from `start` on a message that
+/// isn't whole yet, up to `place`.
+#[derive(Clone, Copy, Debug)]
+pub(crate) struct Tail {
+    pub end: usize,
     pub start: usize,
     pub place: Place,
+}
+
+/// What a scan found: whole messages, what stands behind them, and the first fault.
+#[derive(Drop)]
+pub(crate) struct Scanned {
+    pub found: VecDeque<Span>,
+    pub tail: Tail,
     pub fault: Option<FrameError>,
 }
 
@@ -54,23 +69,24 @@ fn go_on(place: Place, len: usize, byte: u8) -> Result<Place, FrameError>
     Ok(next)
 }
 
-/// Scans on from the first `held` bytes, which are one unfinished message up to `place`.
+/// Scans on from the first `held` bytes, of which `tail` is behind the last whole message.
 pub(crate) fn scan(
     alloc: Global,
     bytes: &[u8],
     held: usize,
-    place: Place,
+    tail: Tail,
 ) -> Result<Scanned, NoMemory>
     requires held { held ≤ length bytes.now }
-    requires unfinished { IsUnfinished (take held bytes.now) }
-    requires place { place ≡ place_after (take held bytes.now) }
-    ensures frames { IfOk result (λ s. AreFrames bytes.now s.found.items (ending_of s.fault (drop s.start bytes.now))) }
-    ensures start { IfOk result (λ s. s.start ≤ length bytes.now) }
-    ensures place { IfOk result (λ s. s.fault ≡ None → s.place ≡ place_after (drop s.start bytes.now)) }
+    requires tail { IsTail (take held bytes.now) tail }
+    ensures frames { IfOk result (λ s. AreFrames (drop tail.start bytes.now)
+        (messages s.found.items (drop tail.end bytes.now)) (ending_of s.fault (drop s.tail.start bytes.now))) }
+    ensures end { IfOk result (λ s. s.tail.end ≡ tail.end + spanned s.found.items) }
+    ensures tail { IfOk result (λ s. IsTail bytes.now s.tail) }
 {
     let mut found = VecDeque::new(alloc);
-    let mut start = 0;
-    let mut place = place;
+    let mut end = tail.end;
+    let mut start = tail.start;
+    let mut place = tail.place;
     for i in held..bytes.len() {
         let (len, byte) = (i - start, bytes[i]);
         if len == 0 && is_space(byte) {
@@ -81,22 +97,28 @@ pub(crate) fn scan(
             Ok(next) => place = next,
             Err(fault) => return Ok(Scanned {
                 found,
-                start,
-                place,
+                tail: Tail {
+                    end,
+                    start: bytes.len(),
+                    place: Place::start(),
+                },
                 fault: Some(fault),
             }),
         }
         if place.depth == 0 {
-            let frame = Frame::copied(alloc, &bytes[start..i + 1])?;
-            found.push_back(frame)?;
+            let span = Span {
+                skip: start - end,
+                len: len + 1,
+            };
+            found.push_back(span)?;
+            end = i + 1;
             start = i + 1;
             place = Place::start();
         }
     }
     Ok(Scanned {
         found,
-        start,
-        place,
+        tail: Tail { end, start, place },
         fault: None,
     })
 }

@@ -1,5 +1,5 @@
-use Rattle.ovs_wire.proofs.NextByte.{Stands}
+use Rattle.ovs_wire.proofs.Spans.{Scans}
 use Rattle.ovs_wire.proofs.framing.scan.scan.Given as goal
 
 abbrev pub invariant-loop-i : goal.invariant-loop-i
-invariant-loop-i l = Stands l.bytes l.i l.start l.found.items l.place
+invariant-loop-i l = Scans l.bytes l.fn.tail l.i l.found.items l.end l.start l.place
