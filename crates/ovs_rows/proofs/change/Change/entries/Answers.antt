@@ -1,0 +1,7 @@
+use Rattle.std.proofs.Common.{sym, ◌∙◌}
+use Rattle.ovs_rows.specs.Place.{place_total, place_exact}
+use Rattle.ovs_data.proofs.Maps.{entries-from_ordered}
+use Rattle.ovs_rows.proofs.change.Change.entries.Goals as goal
+
+pub returns : goal.returns
+returns c = record { value = rw (← c.self.view_is) ((rw c.deref.ensures at c.as_slice.ensures.value) ∙ sym (entries-from_ordered place_total place_exact _ c.self.invariant)) }
