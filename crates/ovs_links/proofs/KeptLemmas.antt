@@ -10,7 +10,7 @@ use Rattle.ovs_types.specs.declared.schema.Table.{Table}
 use Rattle.ovs_rows.specs.Row.{Rows, no_rows}
 use Rattle.ovs_rows.specs.After.{fits, after}
 use Rattle.ovs_links.specs.Sets.{AllOf, Holds}
-use Rattle.ovs_links.specs.Chains.{IsChain, IsPrefixOf, head_after, rows_after}
+use Rattle.ovs_links.specs.Chains.{GrowsInto, IsChain, head_after, rows_after}
 use Rattle.ovs_links.specs.Steps.{FoldedValue, folded_of, folded_with, step_of, steps_of, tables_in}
 use Rattle.ovs_links.specs.StepChains.{IsFoldedChain, head_after_steps, head_at}
 use Rattle.ovs_links.specs.Store.{Stored, IsStore, IsChainOf, head_of, rows_of, at_number}
@@ -22,7 +22,8 @@ use Rattle.ovs_links.specs.declared.link.Link.{Link}
 use Rattle.ovs_links.specs.declared.step.Step.{Step}
 use Rattle.ovs_links.specs.declared.answer.Settled.{Settled}
 use Rattle.ovs_links.specs.declared.answer.Settled.TheVariants.{Done, Stuck}
-use Rattle.ovs_links.proofs.ChainLemmas.{AllOf-append, AllOf-weaker, JoinUp-append, rows_after-append, steps_of-push, chain_prefix, longest_from_no_next, holds_by_prev, prefix_push}
+use Rattle.ovs_links.proofs.ChainLemmas.{AllOf-append, AllOf-weaker, JoinUp-append, rows_after-append, steps_of-push, chain_prefix, longest_from_no_next, holds_by_prev}
+use Rattle.ovs_links.proofs.GrowLemmas.{grows_push}
 use Rattle.ovs_links.proofs.JoinLemmas.{Links}
 use Rattle.ovs_links.proofs.LongestLemmas.{chain_within, ids_once, none_fits_after}
 use Rattle.ovs_links.proofs.StepLemmas.{folded_chain, head_steps}
@@ -125,7 +126,7 @@ module _ (m : Links) (f : FoldedValue) (k : IsKept m f) where
         changes = k.changes;
         few = k.held.few;
         chain = c;
-        prefix = λ ms long. chain_prefix (Holds m) (holds_by_prev m) (tables_in f) 0 no_rows (chain_in m f.steps) ms c.members long.chain.members c.joined long.chain.joined (long.longest (chain_in m f.steps) c);
+        grows = λ ms long. record { begins = chain_prefix (Holds m) (holds_by_prev m) (tables_in f) 0 no_rows (chain_in m f.steps) ms c.members long.chain.members c.joined long.chain.joined (long.longest (chain_in m f.steps) c) };
       }
 
   -- the steps are a chain of their own
@@ -202,5 +203,5 @@ module _ (m : Links) (f : FoldedValue) (l : Link) (k : IsKept m f) (at : get m (
       record {
         schema = was.schema;
         links = was.links;
-        prefix = subst (λ (ls : List Link). IsPrefixOf s.folded ls) (sym chain_more) (prefix_push s.folded (chain_in m f.steps) l was.prefix);
+        grows = subst (λ (ls : List Link). GrowsInto s.folded ls) (sym chain_more) (grows_push s.folded (chain_in m f.steps) l was.grows);
       }

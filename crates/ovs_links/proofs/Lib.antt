@@ -1,6 +1,7 @@
 pub mod MapLemmas
 pub mod HeldLemmas
 pub mod ChainLemmas
+pub mod GrowLemmas
 pub mod SetLemmas
 pub mod HistoryLemmas
 pub mod KeptLemmas
@@ -16,3 +17,4 @@ pub mod ChainOutcomes
 pub mod MergeOutcomes
 pub mod OrderLemmas
 pub mod StepLemmas
+pub mod AbsorbingLemmas

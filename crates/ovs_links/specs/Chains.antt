@@ -36,3 +36,7 @@ pub record IsLongestChain (tables : List Table) (start : ℕ) (opening : Rows) (
 
 abbrev pub IsPrefixOf : List Link → List Link → Type 0
 IsPrefixOf xs ys = (rest : List Link) × (xs ++ rest ≡ ys)
+
+-- a chain that goes on from another: today one that begins with all of its links
+pub record GrowsInto (xs ys : List Link) : Type 0 where
+  pub begins : IsPrefixOf xs ys

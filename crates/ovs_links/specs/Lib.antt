@@ -5,6 +5,7 @@ pub mod Chains
 pub mod History
 pub mod Steps
 pub mod StepChains
+pub mod Absorbing
 pub mod Store
 pub mod Held
 pub mod Kept

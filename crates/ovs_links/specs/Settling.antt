@@ -6,7 +6,7 @@ use Rattle.ovs_types.specs.declared.schema.Table.{Table}
 use Rattle.ovs_rows.specs.Row.{Rows, no_rows}
 use Rattle.ovs_rows.specs.After.{fits, after}
 use Rattle.ovs_links.specs.Sets.{Holds}
-use Rattle.ovs_links.specs.Chains.{IsPrefixOf, head_after}
+use Rattle.ovs_links.specs.Chains.{GrowsInto, head_after}
 use Rattle.ovs_links.specs.Store.{Stored, IsChainOf, tables_of}
 use Rattle.ovs_links.specs.Answers.{IsSourceChain}
 use Rattle.ovs_links.specs.declared.link.Link.{Link}
@@ -52,4 +52,4 @@ pub record IsWholeChain (s : Stored) (ls : List Link) : Type 0 where
 pub record KeepsLinks (s t : Stored) : Type 0 where
   pub schema : t.schema ≡ s.schema
   pub links : t.links ≡ s.links
-  pub prefix : IsPrefixOf s.folded t.folded
+  pub grows : GrowsInto s.folded t.folded

@@ -18,6 +18,14 @@ abbrev pub head_after_steps : ℕ → List Step → ℕ
 head_after_steps from [] = from
 head_after_steps from (s ∷ ss) = head_after_steps s.id ss
 
+-- the id that the first step leads from, or 0
+abbrev pub start_of : List Step → ℕ
+start_of [] = 0
+start_of (s ∷ ss) = s.prev
+
+abbrev pub start_at : FoldedValue → ℕ
+start_at f = start_of f.steps
+
 -- the steps join up, prev to id, from this id, and each tells what stood before it in the rows that it leads from
 abbrev pub StepsJoinUp : ℕ → Rows → List Step → Type 0
 StepsJoinUp from rows [] = Unit {0}

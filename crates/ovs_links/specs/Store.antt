@@ -7,7 +7,7 @@ use Rattle.ovs_types.specs.declared.schema.Table.{Table}
 use Rattle.ovs_rows.specs.Row.{Rows, no_rows}
 use Rattle.ovs_links.specs.Link.{AreEnds}
 use Rattle.ovs_links.specs.Sets.{Holds, IsLinkSet, IsOfTables}
-use Rattle.ovs_links.specs.Chains.{IsChain, IsLongestChain, IsPrefixOf, rows_after, head_after}
+use Rattle.ovs_links.specs.Chains.{IsChain, IsLongestChain, GrowsInto, rows_after, head_after}
 use Rattle.ovs_links.specs.declared.link.Link.{Link}
 
 -- the schema, the held links by prev, and those that are folded, in order
@@ -46,4 +46,4 @@ pub record IsStore (s : Stored) : Type 0 where
   pub changes : (l : Link) → Holds s.links l → IsOfTables (tables_of s) l
   pub few : len s.links ≤ max_links
   pub chain : IsChain (tables_of s) 0 no_rows (Holds s.links) s.folded
-  pub prefix : (ls : List Link) → IsChainOf s ls → IsPrefixOf s.folded ls
+  pub grows : (ls : List Link) → IsChainOf s ls → GrowsInto s.folded ls

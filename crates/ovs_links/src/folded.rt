@@ -2,11 +2,12 @@
 
 ghost use Rattle.std.specs.Prelude.{◌≡◌, ℕ, [], true, length, Some, None, IfOk, OnOk, OnErr, IfSome, MatchOption};
 ghost use Rattle.std.specs.Option.{option_copied};
-ghost use Rattle.ovs_rows.specs.After.{fits};
+ghost use Rattle.ovs_rows.specs.After.{ArePutOf, fits};
 ghost use Rattle.ovs_links.specs.Sets.{IsOfTables};
 ghost use Rattle.ovs_links.specs.Store.{at_number};
 ghost use Rattle.ovs_links.specs.Steps.{folded_of, folded_with, tables_in};
-ghost use Rattle.ovs_links.specs.StepChains.{IsFoldedChain, IsStepAt, ExtendsShown, head_after_steps, position_in};
+ghost use Rattle.ovs_links.specs.Absorbing.{absorbed, folded_more};
+ghost use Rattle.ovs_links.specs.StepChains.{IsFoldedChain, IsStepAt, ExtendsShown, head_after_steps, position_in, start_at};
 
 use crate::id_map::IdMap;
 use crate::link::Link;
@@ -47,7 +48,10 @@ impl Model for Folded {
 
 impl Folded {
     /// No rows, and no step.
-    pub(crate) fn new(alloc: Global, schema: &Schema) -> Result<Folded, NoMemory>
+    ///
+    /// # Errors
+    /// `NoMemory` alone.
+    pub fn new(alloc: Global, schema: &Schema) -> Result<Folded, NoMemory>
         ensures value { IfOk result (λ f. f ≡ folded_of schema.now []) }
     {
         Ok(Folded {
@@ -90,6 +94,17 @@ impl Folded {
         self.steps.get(n - 1)
     }
 
+    /// The id that the first step leads from, 0 where there is none. Of a chain it is 0.
+    pub fn start(&self) -> TxnId
+        ensures value { result ≡ start_at self.now }
+        ensures zero { IsFoldedChain self.now → result ≡ 0 }
+    {
+        match self.steps.first() {
+            Some(step) => step.prev,
+            None => TxnId::zero(),
+        }
+    }
+
     /// The id after the last step, 0 where there is none.
     pub fn head(&self) -> TxnId
         ensures value { result ≡ head_after_steps 0 self.now.steps }
@@ -111,6 +126,33 @@ impl Folded {
             return Some(0);
         }
         self.places.get(id)
+    }
+
+    /// Adds a step, and puts each row that it touched as it is after it. The step may be one of another schema: rows that may
+    /// not stand in the tables of this database are left out. The rows are shared, not copied.
+    ///
+    /// # Errors
+    /// `NoMemory` alone; nothing is changed then.
+    pub fn absorb(&mut self, alloc: Global, step: &Step) -> Result<(), NoMemory>
+        ensures value { OnOk result (self.new ≡ absorbed self.old step.now) }
+        // Where all may stand in the tables, none is left out.
+        ensures whole { OnOk result (ArePutOf (tables_in self.old) step.now.applied → self.new ≡ folded_more self.old step.now) }
+        ensures unchanged { OnErr result (self.new ≡ self.old) }
+    {
+        self.steps.reserve(1)?;
+        let copy = step.copy()?;
+        let id = step.id;
+        let was_new = self.places.put_first(id, self.steps.len() + 1)?;
+        match self.database.absorb(alloc, &step.applied) {
+            Ok(()) => {
+                self.steps.push_reserved(copy);
+                Ok(())
+            }
+            Err(e) => {
+                self.places.take_back(id, was_new);
+                Err(e)
+            }
+        }
     }
 
     /// Applies the change of a link, and adds its step. An `Err` changes nothing.

@@ -20,7 +20,7 @@ mod taking;
 pub use answer::{By, FoldError, MergeError, Settled, TakeError, Took};
 pub use folded::Folded;
 pub use joins::{join_associates, join_is_union, join_laws};
-pub use laws::{history_laws, link_set_laws};
+pub use laws::{history_laws, link_set_laws, step_laws};
 pub use link::{BadId, Link};
 pub use outcomes::{answer_laws, taking_depends_on_the_set_alone};
 pub use run::{fold_all, take_all};
