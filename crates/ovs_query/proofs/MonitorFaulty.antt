@@ -1,11 +1,11 @@
 -- The fault that reading a monitor gives is the worst that the value has.
 use Rattle.std.proofs.Common.{◌≡◌, ℕ, List, Bool, Option, Some, None, Ok, inl, inr, refl, ap, arith}
-use Rattle.std.specs.Prelude.{codes, ◌⊎◌, slice_set}
+use Rattle.std.specs.Prelude.{codes, ◌⊎◌, slice_get, slice_set}
 use Rattle.serde_json.specs.Data.{Data, Items, no_items, item, Members, no_members, member}
 use Rattle.serde_json.specs.Find.{get, as_array, as_bool, as_object}
 use Rattle.ovs_json.specs.FirstFault.{both}
 use Rattle.ovs_json.specs.Members.{SomeMember}
-use Rattle.ovs_json.specs.Results.{◌>>=◌, result_map}
+use Rattle.ovs_json.specs.Results.{result_map}
 use Rattle.ovs_json.proofs.FaultOrder.{map_worst, both_worst, spelled_worst}
 use Rattle.ovs_types.specs.declared.schema.NamedColumn.{NamedColumn}
 use Rattle.ovs_types.specs.declared.schema.Table.{Table}
@@ -17,10 +17,10 @@ use Rattle.ovs_query.specs.declared.monitor.Notation.{Notation}
 use Rattle.ovs_query.specs.declared.monitor.Watched.{Watched}
 use Rattle.ovs_query.specs.Faults.{Read, rank}
 use Rattle.ovs_query.specs.ConditionReading.{plain, read_condition, all_but_id, read_columns}
-use Rattle.ovs_query.specs.MonitorReading.{read_kinds, read_clause_or, read_clause, read_each_clause, read_clauses, where_in, read_parts, read_request, at_most_one, one_request_or, read_optional, read_requests, read_table, with_table, read_tables, nothing_watched, read_all_tables, read_watches, read_monitor}
+use Rattle.ovs_query.specs.MonitorReading.{read_kinds, read_clause_or, read_clause, read_each_clause, read_clauses, where_in, read_parts, read_request, read_each_request, at_most_one, read_array, read_requests_or, read_requests, read_table, with_table, read_tables, nothing_watched, read_all_tables, read_watches, read_monitor}
 use Rattle.ovs_query.specs.MonitorSpelling.{SpellsKinds}
 use Rattle.ovs_query.specs.QueryFaults.{InOptional, SomeItem, InColumns, InPlain, InCondition}
-use Rattle.ovs_query.specs.MonitorFaults.{InKinds, InClauseOr, InClause, InClauses, InParts, InRequest, InListed, InRequestsOr, InTable, InMonitor}
+use Rattle.ovs_query.specs.MonitorFaults.{InKinds, InClauseOr, InClause, InClauses, InParts, InRequest, InMany, InListed, InRequestsOr, InTable, InMonitor}
 use Rattle.ovs_query.proofs.Items.{worst_as, items_worst}
 use Rattle.ovs_query.proofs.MonitorLaws.{kinds_found, kinds_only, kinds_fault}
 use Rattle.ovs_query.proofs.QueryFaulty.{Worst, needed_worst, columns_worst, condition_worst, plain_worst}
@@ -63,12 +63,18 @@ module _ (notation : Notation) where
         (λ members. map_worst rank (InParts notation table.columns d) (λ p. record { name = table.name; shown = p.0.0; clauses = p.0.1; kinds = p.1 }) (read_parts notation table.columns d) (parts_worst table.columns d))
         (as_object d)
 
-    listed_worst : (ds : Items) → Worst (InListed notation table.columns ds) (at_most_one ds >>= read_optional notation table)
-    listed_worst no_items = λ e none. none
-    listed_worst (item d no_items) = map_worst rank (InRequest notation table.columns d) Some (read_request notation table d) (request_worst d)
-    listed_worst (item d (item f ds)) = (refl, λ f h. (let same : rank f ≡ rank ManyRequests = ap rank h in omega arith))
+    many_worst : (ds : Items) → Worst (InMany ds) (at_most_one ds)
+    many_worst no_items = λ e none. none
+    many_worst (item d no_items) = λ e none. none
+    many_worst (item d (item f ds)) = (refl, λ f h. (let same : rank f ≡ rank ManyRequests = ap rank h in omega arith))
 
-    requests_by : (d : Data) (o : Option Items) → Worst (InRequestsOr notation table.columns d o) (one_request_or d o >>= read_optional notation table)
+    listed_worst : (ds : Items) → Worst (InListed notation table.columns ds) (read_array notation table ds)
+    listed_worst ds =
+        map_worst rank (InListed notation table.columns ds) (λ p. slice_get p.0 0) (both rank (read_each_request notation table ds) (at_most_one ds))
+        (both_worst rank (SomeItem (InRequest notation table.columns) ds) (InMany ds) (read_each_request notation table ds) (at_most_one ds)
+        (items_worst (read_request notation table) (InRequest notation table.columns) request_worst ds) (many_worst ds))
+
+    requests_by : (d : Data) (o : Option Items) → Worst (InRequestsOr notation table.columns d o) (read_requests_or notation table d o)
     requests_by d None = map_worst rank (InRequest notation table.columns d) Some (read_request notation table d) (request_worst d)
     requests_by d (Some ds) = listed_worst ds
 

@@ -1,10 +1,11 @@
 -- What is read as a monitor is spelled so, and what is spelled so is read.
-use Rattle.std.proofs.Common.{◌≡◌, ℕ, ◌<◌, List, [], length, Bool, true, Option, Some, None, Ok, Err, inl, inr, refl, sym, ap, subst, ◌∙◌}
-use Rattle.std.specs.Prelude.{codes, slice_set, IfOk}
+use Rattle.std.proofs.Common.{◌≡◌, ℕ, ◌<◌, List, [], ◌∷◌, length, Bool, true, Option, Some, None, Ok, Err, inl, inr, refl, sym, ap, subst, ◌∙◌}
+use Rattle.std.specs.Prelude.{codes, slice_get, slice_set, IfOk}
 use Rattle.std.specs.Option.{ok_or}
 use Rattle.serde_json.specs.Data.{Data, array, Items, no_items, item, Members, no_members, member}
 use Rattle.serde_json.specs.Find.{get, as_array, as_bool, as_object}
 use Rattle.ovs_json.specs.FirstFault.{both}
+use Rattle.ovs_json.specs.Items.{SpellsEach}
 use Rattle.ovs_json.specs.Results.{◌>>=◌, result_map}
 use Rattle.ovs_json.proofs.Steps.{bind_found, map_found, ok_or_found, same_value, array_of, object_of, boolean_of}
 use Rattle.ovs_json.proofs.FaultOrder.{both_found}
@@ -16,14 +17,14 @@ use Rattle.ovs_types.proofs.Finders.{found_within}
 use Rattle.ovs_query.specs.declared.clauses.Clause.{Clause}
 use Rattle.ovs_query.specs.declared.clauses.Clause.TheVariants.{Always, Where}
 use Rattle.ovs_query.specs.declared.error.QueryError.{QueryError}
-use Rattle.ovs_query.specs.declared.error.QueryError.TheVariants.{UnknownTable, BadCondition, BadSelect}
+use Rattle.ovs_query.specs.declared.error.QueryError.TheVariants.{UnknownTable, BadCondition, ManyRequests, BadSelect}
 use Rattle.ovs_query.specs.declared.monitor.Kinds.{Kinds}
 use Rattle.ovs_query.specs.declared.monitor.Monitor.{Monitor}
 use Rattle.ovs_query.specs.declared.monitor.Notation.{Notation}
 use Rattle.ovs_query.specs.declared.monitor.Watched.{Watched}
 use Rattle.ovs_query.specs.Faults.{Read, rank}
 use Rattle.ovs_query.specs.ConditionReading.{plain, read_condition, all_but_id, read_columns}
-use Rattle.ovs_query.specs.MonitorReading.{read_kind, read_each_kind, all_kinds, read_kinds, read_clause_or, read_clause, read_each_clause, read_clauses, where_in, read_parts, read_request, at_most_one, one_request_or, read_optional, read_requests, read_table, with_table, read_tables, nothing_watched, read_all_tables, read_watches, read_monitor}
+use Rattle.ovs_query.specs.MonitorReading.{read_kind, read_each_kind, all_kinds, read_kinds, read_clause_or, read_clause, read_each_clause, read_clauses, where_in, read_parts, read_request, read_each_request, at_most_one, read_array, read_requests_or, read_requests, read_table, with_table, read_tables, nothing_watched, read_all_tables, read_watches, read_monitor}
 use Rattle.ovs_query.specs.MonitorSpelling.{SpellsKind, SpellsKinds, SpellsClause, SpellsClauses, SpellsRequest, SpellsRequests, SpellsTable, SpellsMonitor}
 use Rattle.ovs_query.proofs.Items.{items_found, items_only}
 use Rattle.ovs_query.proofs.SelectLaws.{read_so, columns_found, columns_only, condition_found, condition_only, plain_found, plain_only}
@@ -157,18 +158,27 @@ module _ (notation : Notation) (table : Table) where
   Listed ds None = ds ≡ no_items
   Listed ds (Some w) = (request : Data) × (ds ≡ item request no_items) × SpellsRequest notation table request w
 
-  listed_found : (ds : Items) (o : Option Watched) → (at_most_one ds >>= read_optional notation table) ≡ Ok o → Listed ds o
+  one_listed : (d : Data) (ws : List Watched) (o : Option Watched) → o ≡ slice_get ws 0 → SpellsEach (SpellsRequest notation table) (item d no_items) ws → Listed (item d no_items) o
+  one_listed d [] o is each = absurd each
+  one_listed d (w ∷ ws) o is each = subst (Listed (item d no_items)) (sym is) (d, refl, each.0)
+
+  listed_found : (ds : Items) (o : Option Watched) → read_array notation table ds ≡ Ok o → Listed ds o
   listed_found no_items o e = subst (Listed no_items) (sym (same_value None o e)) refl
   listed_found (item d no_items) o e =
-      let p = map_found Some (read_request notation table d) o e in
-      subst (Listed (item d no_items)) (sym p.2) (d, refl, request_found d p.0 p.1)
-  listed_found (item d (item f ds)) o e = absurd cc
+      let p = map_found (λ p. slice_get p.0 0) (both rank (read_each_request notation table (item d no_items)) (at_most_one (item d no_items))) o e in
+      let q = both_found rank (read_each_request notation table (item d no_items)) (at_most_one (item d no_items)) p.0 p.1 in
+      one_listed d p.0.0 o p.2 (items_found (read_request notation table) (SpellsRequest notation table) request_found (item d no_items) p.0.0 q.0)
+  listed_found (item d (item f ds)) o e =
+      let all = item d (item f ds) in
+      let p = map_found (λ p. slice_get p.0 0) (both rank (read_each_request notation table all) (at_most_one all)) o e in
+      let q = both_found rank (read_each_request notation table all) (at_most_one all) p.0 p.1 in
+      let many : ◌≡◌ {A = Read (Unit {0})} (Err ManyRequests) (Ok p.0.1) = q.1 in absurd cc
 
   listed_spells : (d : Data) (ds : Items) (o : Option Watched) → d ≡ array ds → Listed ds o → SpellsRequests notation table d o
   listed_spells d ds None is none = is ∙ ap array none
   listed_spells d ds (Some w) is (request, one, spelled) = inr (request, is ∙ ap array one, spelled)
 
-  requests_by : (d : Data) (a : Option Items) → as_array d ≡ a → (o : Option Watched) → (one_request_or d a >>= read_optional notation table) ≡ Ok o → SpellsRequests notation table d o
+  requests_by : (d : Data) (a : Option Items) → as_array d ≡ a → (o : Option Watched) → read_requests_or notation table d a ≡ Ok o → SpellsRequests notation table d o
   requests_by d None is o e =
       let p = map_found Some (read_request notation table d) o e in
       subst (SpellsRequests notation table d) (sym p.2) (inl (request_found d p.0 p.1))
@@ -179,8 +189,8 @@ module _ (notation : Notation) (table : Table) where
 
   requests_only : (d : Data) (o : Option Watched) → SpellsRequests notation table d o → read_requests notation table d ≡ Ok o
   requests_only d None e = rw e refl
-  requests_only d (Some w) (inl spelled) = ap (λ f. one_request_or d (as_array f) >>= read_optional notation table) spelled.1 ∙ ap (result_map Some) (request_only d w spelled)
-  requests_only d (Some w) (inr (request, is, spelled)) = rw is (ap (result_map Some) (request_only request w spelled))
+  requests_only d (Some w) (inl spelled) = ap (λ f. read_requests_or notation table d (as_array f)) spelled.1 ∙ ap (result_map Some) (request_only d w spelled)
+  requests_only d (Some w) (inr (request, is, spelled)) = rw (is, request_only request w spelled) refl
 
 -- ---- tables
 

@@ -1,52 +1,18 @@
 -- What is watched, table after table: what the members lead to is, for each table, what is last asked of it.
-use Rattle.std.proofs.Common.{◌≡◌, ℕ, zero, suc, ◌<◌, List, [], ◌∷◌, length, Bool, true, false, true≢false, cond, Option, Some, None, refl, sym, ap, subst, ◌∙◌, arith}
+use Rattle.std.proofs.Common.{◌≡◌, ℕ, zero, suc, ◌<◌, List, [], ◌∷◌, length, Bool, true, false, cond, Option, Some, None, refl, sym, ap, subst, ◌∙◌, arith}
 use Rattle.std.specs.Prelude.{◌==◌, filter, option_and_then, option_map, slice_get, slice_set}
 use Rattle.std.specs.List.{last_or}
-use Rattle.std.proofs.lemmas.Bool.Decides.{Decides-eqb}
 use Rattle.std.proofs.lemmas.List.{length-set}
 use Rattle.serde_json.specs.Data.{Data, Members, no_members, member}
 use Rattle.ovs_json.specs.Members.{Lead, EachSpells}
 use Rattle.ovs_types.specs.declared.schema.Table.{Table}
+use Rattle.ovs_rows.proofs.CellSteps.{same_option, get_set, same_list}
 use Rattle.ovs_query.specs.declared.monitor.Watched.{Watched}
 use Rattle.ovs_query.specs.MonitorReading.{nothing_watched}
 use Rattle.ovs_query.specs.MonitorSpelling.{last_for}
 
 abbrev Asked : Type 0
 Asked = ℕ × Option Watched
-
--- ---- lists
-
-same_option : {X : Type 0} (o : Option X) → o ≡ option_map (λ x. x) o
-same_option None = refl
-same_option (Some x) = refl
-
-get_same : {X : Type 0} (xs : List X) (i : ℕ) (v : X) → slice_get (slice_set xs i v) i ≡ option_map (λ x. v) (slice_get xs i)
-get_same [] i v = refl
-get_same (x ∷ xs) zero v = refl
-get_same (x ∷ xs) (suc i) v = get_same xs i v
-
-get_other : {X : Type 0} (xs : List X) (i k : ℕ) (v : X) → (i ≡ k → ⊥) → slice_get (slice_set xs i v) k ≡ slice_get xs k
-get_other [] i k v apart = refl
-get_other (x ∷ xs) zero zero v apart = absurd (apart refl)
-get_other (x ∷ xs) zero (suc k) v apart = refl
-get_other (x ∷ xs) (suc i) zero v apart = refl
-get_other (x ∷ xs) (suc i) (suc k) v apart = get_other xs i k v (λ same. apart (ap suc same))
-
-get_set : {X : Type 0} (xs : List X) (i k : ℕ) (v : X) (here : Bool) → (i == k) ≡ here → slice_get (slice_set xs i v) k ≡ option_map (λ x. cond here v x) (slice_get xs k)
-get_set xs i k v true e = subst (λ n. slice_get (slice_set xs i v) n ≡ option_map (λ x. v) (slice_get xs n)) ((Decides-eqb i k).0 e) (get_same xs i v)
-get_set xs i k v false e = get_other xs i k v (λ same. true≢false (sym ((Decides-eqb i k).1 same) ∙ e)) ∙ same_option (slice_get xs k)
-
--- lists of one length with the same at each number are equal
-same_list : {X : Type 0} (n : ℕ) (xs ys : List X) → length xs ≡ n → length ys ≡ n → ((k : ℕ) → k < n → slice_get xs k ≡ slice_get ys k) → xs ≡ ys
-same_list n [] [] p q same = refl
-same_list n [] (y ∷ ys) p q same = absurd (omega (arith, p, q))
-same_list n (x ∷ xs) [] p q same = absurd (omega (arith, p, q))
-same_list zero (x ∷ xs) (y ∷ ys) p q same = absurd (omega (arith, p))
-same_list (suc n) (x ∷ xs) (y ∷ ys) p q same =
-    let first : Some x ≡ Some y = same 0 (omega arith) in
-    let head : x ≡ y = cc in
-    let rest : xs ≡ ys = same_list n xs ys (omega (arith, p)) (omega (arith, q)) (λ k below. same (suc k) (omega (arith, below))) in
-    λ i. head i ∷ rest i
 
 -- ---- what is asked, one after the other
 

@@ -3,7 +3,7 @@ use Rattle.std.proofs.Common.{◌≡◌, ℕ, zero, suc, ◌+◌, ◌<◌, List,
 use Rattle.std.specs.Prelude.{◌==◌, ◌||◌, IfSome, IfOk, OnOk, slice_get, filter, option_map, is_some}
 use Rattle.std.specs.List.{AllByRecursion, AllZip, cons_option, enumerate_from, filter_map, list_any}
 use Rattle.std.specs.Option.{option_and_then}
-use Rattle.std.specs.FinMap.{get, entries, same_map}
+use Rattle.std.specs.FinMap.{get, same_map}
 use Rattle.std.proofs.lemmas.Bool.{eqb-true}
 use Rattle.serde_json.specs.Data.{Data}
 use Rattle.serde_json.specs.View.{view as view_of}
@@ -22,7 +22,7 @@ use Rattle.ovs_rows.specs.Applied.{AscendByPlace}
 use Rattle.ovs_rows.specs.Change.{Actions, IsChangeOf}
 use Rattle.ovs_rows.specs.ChangeReading.{read_change}
 use Rattle.ovs_rows.specs.ChangeWriting as changes
-use Rattle.ovs_rows.specs.DatabaseDifference.{edits_between, modified, action_between, database_difference}
+use Rattle.ovs_rows.specs.DatabaseDifference.{edits_between, action_between, database_difference}
 use Rattle.ovs_rows.specs.Place.{place_total, place_exact}
 use Rattle.ovs_rows.specs.Row.{Rows, AreDataOf, AreRowsOf, columns_at, columns_in}
 use Rattle.ovs_rows.specs.Writing.{object_of}

@@ -39,11 +39,15 @@ InParts notation columns d e =
 abbrev pub InRequest : Notation → List NamedColumn → Data → QueryError → Type 0
 InRequest notation columns d = InNeeded BadSelect (λ members. InParts notation columns d) (as_object d)
 
--- an array of requests, which has one at most
+-- an array of more than one request
+abbrev pub InMany : Items → QueryError → Type 0
+InMany no_items e = ⊥
+InMany (item d no_items) e = ⊥
+InMany (item d (item f ds)) e = e ≡ ManyRequests
+
+-- an array of requests, of which each counts, and which has one at most
 abbrev pub InListed : Notation → List NamedColumn → Items → QueryError → Type 0
-InListed notation columns no_items e = ⊥
-InListed notation columns (item d no_items) e = InRequest notation columns d e
-InListed notation columns (item d (item f ds)) e = e ≡ ManyRequests
+InListed notation columns ds e = SomeItem (InRequest notation columns) ds e ⊎ InMany ds e
 
 -- a request alone, or in an array
 abbrev pub InRequestsOr : Notation → List NamedColumn → Data → Option Items → QueryError → Type 0

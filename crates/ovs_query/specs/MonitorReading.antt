@@ -1,5 +1,5 @@
 -- The monitors that JSON values stand for, with the first fault of those that stand for none (ovsdb-server(7)).
-use Rattle.std.specs.Prelude.{ℕ, List, [], ◌∷◌, Bool, true, Option, Some, None, Ok, Err, codes, map, slice_set}
+use Rattle.std.specs.Prelude.{ℕ, List, [], Bool, true, Option, Some, None, Ok, Err, codes, map, slice_get, slice_set}
 use Rattle.std.specs.Option.{ok_or}
 use Rattle.serde_json.specs.Data.{Data, Items, no_items, item, Members, no_members, member}
 use Rattle.serde_json.specs.Find.{get, as_array, as_bool, as_object}
@@ -84,32 +84,27 @@ read_request notation table d = do
   members ← ok_or (as_object d) BadSelect
   result_map (λ p. record { name = table.name; shown = p.0.0; clauses = p.0.1; kinds = p.1 }) (read_parts notation table.columns d)
 
--- the request of an array, which has one at most
-abbrev pub at_most_one : Items → Read (Option Data)
-at_most_one no_items = Ok None
-at_most_one (item d no_items) = Ok (Some d)
+-- the requests of an array, all of which are looked at
+abbrev pub read_each_request : Notation → Table → Items → Read (List Watched)
+read_each_request notation table = read_items (read_request notation table) (Ok [])
+
+-- an array has one request at most
+abbrev pub at_most_one : Items → Read (Unit {0})
+at_most_one no_items = Ok tt
+at_most_one (item d no_items) = Ok tt
 at_most_one (item d (item e ds)) = Err ManyRequests
 
--- the same of any list
-abbrev pub at_most_one_of : {X : Type 0} → List X → Read (Option X)
-at_most_one_of [] = Ok None
-at_most_one_of (x ∷ []) = Ok (Some x)
-at_most_one_of (x ∷ y ∷ xs) = Err ManyRequests
+-- the request of an array, if it has one, or the first of the faults of all its requests and its own
+abbrev pub read_array : Notation → Table → Items → Read (Option Watched)
+read_array notation table ds = result_map (λ p. slice_get p.0 0) (both rank (read_each_request notation table ds) (at_most_one ds))
 
 -- a request stands alone, or in an array
-abbrev pub one_request_or : Data → Option Items → Read (Option Data)
-one_request_or d None = Ok (Some d)
-one_request_or d (Some ds) = at_most_one ds
-
-abbrev pub one_request : Data → Read (Option Data)
-one_request d = one_request_or d (as_array d)
-
-abbrev pub read_optional : Notation → Table → Option Data → Read (Option Watched)
-read_optional notation table None = Ok None
-read_optional notation table (Some d) = result_map Some (read_request notation table d)
+abbrev pub read_requests_or : Notation → Table → Data → Option Items → Read (Option Watched)
+read_requests_or notation table d None = result_map Some (read_request notation table d)
+read_requests_or notation table d (Some ds) = read_array notation table ds
 
 abbrev pub read_requests : Notation → Table → Data → Read (Option Watched)
-read_requests notation table d = one_request d >>= read_optional notation table
+read_requests notation table d = read_requests_or notation table d (as_array d)
 
 -- ---- tables
 

@@ -1,19 +1,20 @@
 //! What is told of one row in the notation of `update` (RFC 7047 section 4.1.6).
 
-ghost use Rattle.std.specs.Prelude.{◌≡◌, ◌∷◌, [], IfOk, Some, codes, option_map};
+ghost use Rattle.std.specs.Prelude.{◌≡◌, ◌∷◌, [], IfOk, Some, codes, option_map, is_some};
+ghost use Rattle.std.specs.List.{list_any};
 ghost use Rattle.std.specs.Option.{option_copied};
 ghost use Rattle.serde_json.specs.View.{view};
+ghost use Rattle.ovs_rows.specs.ChangeWriting.{modify_json};
 ghost use Rattle.ovs_rows.specs.Writing.{object_of};
-ghost use Rattle.ovs_query.specs.RowUpdates.{previous_datum, previous};
+ghost use Rattle.ovs_query.specs.RowUpdates.{previous_datum, previous, row_update_between};
 ghost use Rattle.ovs_query.specs.Shown.{shown_data, shown_columns};
 ghost use Rattle.ovs_query.specs.UpdateWriting.{whole_json, row_update_json};
 ghost use Rattle.ovs_query.specs.Updates.{row_update_told};
 
 use crate::monitor::Watched;
-use crate::monitor::row_update2::{has_edit, modify_json};
 use crate::shown::{Shown, shown_datum, shown_json};
 use ovs_json::{put, under_name};
-use ovs_rows::Row;
+use ovs_rows::{Row, put_cell};
 use ovs_types::{Datum, NoMemory, RowId};
 use serde_json::{Map, Value};
 use std::alloc::Global;
@@ -30,34 +31,34 @@ pub(crate) fn whole_json(
     shown_json(alloc, shown, id, row)
 }
 
-// Nothing where the new datum is the same.
-fn previous_datum(old: &Datum, new: &Datum) -> Result<Option<Datum>, NoMemory>
-    ensures value { IfOk result (λ d. d ≡ previous_datum old.now new.now) }
+// The datum, where the new one is another.
+fn previous_datum<'a>(old: &'a Datum, new: &'a Datum) -> Option<&'a Datum>
+    ensures value { option_map (λ d. d.now) result ≡ previous_datum old.now new.now }
 {
-    if old == new {
-        Ok(None)
-    } else {
-        Ok(Some(old.copy()?))
-    }
+    if old == new { None } else { Some(old) }
 }
 
-// The previous data of the shown columns that changed.
-fn previous(
+// Whether shown columns changed, and their previous data, each under its name. No other datum is copied.
+fn previous_json(
     alloc: Global,
     shown: &[Shown],
     id: RowId,
     old: &Row,
     new: &Row,
-) -> Result<Vec<Option<Datum>>, NoMemory>
-    ensures value { IfOk result (λ v. v.items ≡ previous (shown_data shown.now id old.now) (shown_data shown.now id new.now)) }
+) -> Result<(bool, Value), NoMemory>
+    ensures changed { IfOk result (λ r. r.0 ≡ list_any is_some (previous (shown_data shown.now id old.now) (shown_data shown.now id new.now))) }
+    ensures value { IfOk result (λ r. view r.1 ≡ modify_json (shown_columns shown.now) (previous (shown_data shown.now id old.now) (shown_data shown.now id new.now))) }
 {
-    let mut data = Vec::with_capacity(alloc, shown.len())?;
+    let mut members = Map::new(alloc);
+    let mut changed = false;
     for part in shown {
         let before = shown_datum(alloc, part.field, id, old)?;
         let after = shown_datum(alloc, part.field, id, new)?;
-        data.push(previous_datum(before.as_datum(), after.as_datum())?)?;
+        let cell = previous_datum(before.as_datum(), after.as_datum());
+        changed = changed || cell.is_some();
+        put_cell(alloc, &mut members, &part.named, cell)?;
     }
-    Ok(data)
+    Ok((changed, Value::Object(members)))
 }
 
 fn new_and_old(alloc: Global, new: Value, old: Value) -> Result<Value, NoMemory>
@@ -67,6 +68,25 @@ fn new_and_old(alloc: Global, new: Value, old: Value) -> Result<Value, NoMemory>
     put(alloc, &mut members, "new", new)?;
     put(alloc, &mut members, "old", old)?;
     Ok(Value::Object(members))
+}
+
+// What is told of a row whose data are others, or nothing where they are the same.
+fn changed_json(
+    alloc: Global,
+    shown: &[Shown],
+    id: RowId,
+    old: &Row,
+    new: &Row,
+) -> Result<Option<Value>, NoMemory>
+    ensures value { IfOk result (λ o. option_map view o ≡ option_map (row_update_json (shown_columns shown.now)) (row_update_between (Some (shown_data shown.now id old.now)) (Some (shown_data shown.now id new.now)))) }
+{
+    let (changed, previous) = previous_json(alloc, shown, id, old, new)?;
+    if changed {
+        let row = whole_json(alloc, shown, id, new)?;
+        Ok(Some(new_and_old(alloc, row, previous)?))
+    } else {
+        Ok(None)
+    }
 }
 
 /// What is told of a row, if anything.
@@ -99,11 +119,8 @@ pub(crate) fn row_update1(
             }
         }
         (Some(old), Some(new)) => {
-            let data = previous(alloc, shown, id, old, new)?;
-            if has_edit(&data) && watched.kinds.modify {
-                let row = whole_json(alloc, shown, id, new)?;
-                let changed = modify_json(alloc, shown, &data)?;
-                Ok(Some(new_and_old(alloc, row, changed)?))
+            if watched.kinds.modify {
+                changed_json(alloc, shown, id, old, new)
             } else {
                 Ok(None)
             }

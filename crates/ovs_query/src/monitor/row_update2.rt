@@ -1,59 +1,22 @@
 //! What is told of one row in the notation of `update2` and `update3` (ovsdb-server(7)).
 
-ghost use Rattle.std.specs.Prelude.{◌≡◌, IfOk, OnOk, IfSome, Some, option_map, is_some};
-ghost use Rattle.std.specs.List.{list_any};
+ghost use Rattle.std.specs.Prelude.{◌≡◌, IfOk, OnOk, IfSome, Some, option_map};
 ghost use Rattle.std.specs.Option.{option_copied};
-ghost use Rattle.serde_json.specs.View.{view, members_view};
-ghost use Rattle.ovs_types.specs.Datum.{IsDatumOf};
-ghost use Rattle.ovs_rows.specs.ChangeWriting.{beside_default, as_edited, cell_member, with_some, insert_json, modify_json, action_json, IsSpelled, AreSpelled, IsSpelledAction};
-ghost use Rattle.ovs_rows.specs.DatabaseDifference.{edit_between, edits_between};
+ghost use Rattle.serde_json.specs.View.{view};
+ghost use Rattle.ovs_rows.specs.ChangeWriting.{beside_default, as_edited, insert_json, modify_json, action_json, AreSpelled, IsSpelledAction};
+ghost use Rattle.ovs_rows.specs.DatabaseDifference.{edits_between};
 ghost use Rattle.ovs_rows.specs.Row.{AreDataOf};
 ghost use Rattle.ovs_query.specs.Shown.{shown_data, shown_columns};
 ghost use Rattle.ovs_query.specs.Telling.{AreShown};
-ghost use Rattle.ovs_query.specs.Updates.{action_told};
+ghost use Rattle.ovs_query.specs.Updates.{update_between, action_told};
 
 use crate::monitor::Watched;
 use crate::shown::{Shown, shown_datum};
-use ovs_json::{put, under_name};
-use ovs_rows::Row;
-use ovs_types::{Column, Datum, NamedColumn, NoMemory, RowId, difference};
+use ovs_json::under_name;
+use ovs_rows::{Row, beside_default, edit_between, has_edit, put_cell};
+use ovs_types::{Datum, NoMemory, RowId};
 use serde_json::{Map, Value};
 use std::alloc::Global;
-
-// What is written of a new row's column.
-fn beside_default<'a>(
-    alloc: Global,
-    named: &NamedColumn,
-    datum: &'a Datum,
-) -> Result<Option<&'a Datum>, NoMemory>
-    ensures value { IfOk result (λ cell. option_map (λ d. d.now) cell ≡ beside_default named.now datum.now) }
-{
-    let default = named.column.default_datum(alloc)?;
-    if *datum == default {
-        Ok(None)
-    } else {
-        Ok(Some(datum))
-    }
-}
-
-// Puts what is written of a column into its row, if anything is.
-fn put_cell(
-    alloc: Global,
-    members: &mut Map<String, Value>,
-    named: &NamedColumn,
-    cell: Option<&Datum>,
-) -> Result<(), NoMemory>
-    ensures value { OnOk result (members_view members.new.entries ≡ with_some (members_view members.old.entries) (cell_member named.now (option_map (λ d. d.now) cell.entry))) }
-    ensures spelled { OnOk result (IfSome (option_map (λ d. d.now) cell.entry) IsSpelled) }
-{
-    match cell {
-        Some(datum) => {
-            let value = datum.to_json(alloc)?;
-            put(alloc, members, named.name.as_str(), value)
-        }
-        None => Ok(()),
-    }
-}
 
 /// The shown columns of a row that aren't at their default.
 pub(crate) fn insert_json(
@@ -72,19 +35,6 @@ pub(crate) fn insert_json(
         put_cell(alloc, &mut members, &part.named, cell)?;
     }
     Ok(Value::Object(members))
-}
-
-// Nothing where the datum is the same.
-fn edit_between(column: &Column, old: &Datum, new: &Datum) -> Result<Option<Datum>, NoMemory>
-    requires old { IsDatumOf column.now old.now }
-    requires new { IsDatumOf column.now new.now }
-    ensures value { IfOk result (λ e. e ≡ edit_between column.now old.now new.now) }
-{
-    if old == new {
-        Ok(None)
-    } else {
-        Ok(Some(difference(old, new, column)?))
-    }
 }
 
 // The edits of the shown columns that lead from one row to another.
@@ -108,19 +58,8 @@ fn edits_between(
     Ok(edits)
 }
 
-/// Whether something is written of a column.
-pub(crate) fn has_edit(edits: &[Option<Datum>]) -> bool
-    ensures value { result ≡ list_any is_some edits.now }
-{
-    edits.iter().any(|edit| edit.is_some())
-}
-
-/// The columns of which something is written, each under its name.
-pub(crate) fn modify_json(
-    alloc: Global,
-    shown: &[Shown],
-    edits: &[Option<Datum>],
-) -> Result<Value, NoMemory>
+// The columns of which something is written, each under its name.
+fn modify_json(alloc: Global, shown: &[Shown], edits: &[Option<Datum>]) -> Result<Value, NoMemory>
     ensures value { IfOk result (λ v. view v ≡ modify_json (shown_columns shown.now) edits.now) }
     ensures spelled { OnOk result (AreSpelled as_edited (shown_columns shown.now) edits.now) }
 {
@@ -129,6 +68,28 @@ pub(crate) fn modify_json(
         put_cell(alloc, &mut members, &part.named, edit.as_ref())?;
     }
     Ok(Value::Object(members))
+}
+
+// What is told of a row whose data are others, or nothing where they are the same.
+fn changed_json(
+    alloc: Global,
+    shown: &[Shown],
+    id: RowId,
+    old: &Row,
+    new: &Row,
+) -> Result<Option<Value>, NoMemory>
+    requires old { AreDataOf (shown_columns shown.now) (shown_data shown.now id old.now) }
+    requires new { AreDataOf (shown_columns shown.now) (shown_data shown.now id new.now) }
+    ensures value { IfOk result (λ o. option_map view o ≡ option_map (action_json (shown_columns shown.now)) (update_between (shown_columns shown.now) (Some (shown_data shown.now id old.now)) (Some (shown_data shown.now id new.now)))) }
+    ensures spelled { OnOk result (IfSome (update_between (shown_columns shown.now) (Some (shown_data shown.now id old.now)) (Some (shown_data shown.now id new.now))) (IsSpelledAction (shown_columns shown.now))) }
+{
+    let edits = edits_between(alloc, shown, id, old, new)?;
+    if has_edit(&edits) {
+        let row = modify_json(alloc, shown, &edits)?;
+        Ok(Some(under_name(alloc, "modify", row)?))
+    } else {
+        Ok(None)
+    }
 }
 
 /// What is told of a row, if anything.
@@ -163,10 +124,8 @@ pub(crate) fn row_update2(
             }
         }
         (Some(old), Some(new)) => {
-            let edits = edits_between(alloc, shown, id, old, new)?;
-            if has_edit(&edits) && watched.kinds.modify {
-                let row = modify_json(alloc, shown, &edits)?;
-                Ok(Some(under_name(alloc, "modify", row)?))
+            if watched.kinds.modify {
+                changed_json(alloc, shown, id, old, new)
             } else {
                 Ok(None)
             }

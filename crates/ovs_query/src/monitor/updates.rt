@@ -15,18 +15,17 @@ use crate::monitor::row_update1::row_update1;
 use crate::monitor::row_update2::row_update2;
 use crate::monitor::tables::{put_row, put_table};
 use crate::monitor::{Notation, Watched};
-use ovs_rows::{Row, Touched};
+use ovs_rows::{Row, SharedRow, Touched};
 use ovs_types::NoMemory;
 use serde_json::{Map, Value};
 use std::alloc::Global;
-use std::sync::Arc;
 
-// The row behind a pointer, if there is one.
-fn row_of(row: &Option<Arc<Row>>) -> Option<&Row>
-    ensures value { option_copied result ≡ option_map (λ a. a.value) row.now }
+// The row that is shared there, if there is one.
+fn row_of(row: &Option<SharedRow>) -> Option<&Row>
+    ensures value { option_copied result ≡ row.now }
 {
     match row {
-        Some(row) => Some(&**row),
+        Some(row) => Some(row.row()),
         None => None,
     }
 }

@@ -114,8 +114,8 @@ impl Monitor {
     /// `Notation::Update`; and "select", by default all kinds of updates.
     ///
     /// # Errors
-    /// The first of `UnknownTable`, `UnknownColumn`, `BadCondition`, `ManyRequests` and `BadSelect` that a part of it has; or
-    /// `NoMemory`.
+    /// The first of `UnknownTable`, `UnknownColumn`, `BadCondition`, `ManyRequests` and `BadSelect` that a part of it has, of
+    /// several requests for a table any; or `NoMemory`.
     pub fn read(
         alloc: Global,
         notation: Notation,

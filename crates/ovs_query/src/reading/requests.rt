@@ -1,11 +1,11 @@
 //! What a monitor asks of one table, out of JSON (RFC 7047 section 4.1.5; ovsdb-server(7)).
 
-ghost use Rattle.std.specs.Prelude.{◌≡◌, IfOk, option_map};
+ghost use Rattle.std.specs.Prelude.{◌≡◌, IfOk, option_map, slice_get};
 ghost use Rattle.serde_json.specs.View.{view, items_view};
-ghost use Rattle.ovs_json.specs.Results.{result_map};
+ghost use Rattle.ovs_json.specs.FirstFault.{items_of};
 ghost use Rattle.ovs_query.specs.declared.error.QueryError.TheVariants as faults;
 ghost use Rattle.ovs_query.specs.ConditionReading.{all_but_id, read_columns};
-ghost use Rattle.ovs_query.specs.MonitorReading.{read_kind, read_each_kind, all_kinds, read_kinds, read_clause, read_each_clause, read_clauses, where_in, read_parts, read_request, at_most_one_of, one_request, read_requests};
+ghost use Rattle.ovs_query.specs.MonitorReading.{read_kind, read_each_kind, all_kinds, read_kinds, read_clause, read_each_clause, read_clauses, where_in, read_parts, read_request, read_each_request, at_most_one, read_array, read_requests};
 
 use crate::clauses::{Clause, Clauses};
 use crate::error::QueryError;
@@ -186,28 +186,56 @@ fn read_request(
     }
 }
 
-// The one of a list, which has one at most.
-fn at_most_one<T>(items: &[T]) -> Result<Option<&T>, QueryError>
-    ensures exact { result_map (option_map (λ v. v.now)) result ≡ at_most_one_of items.now }
+// The requests of an array, all of which are looked at.
+fn read_each_request(
+    alloc: Global,
+    notation: Notation,
+    table: &Table,
+    values: &[Value],
+) -> Result<Result<Vec<Watched>, QueryError>, NoMemory>
+    ensures exact { IfOk result (λ r. items_of r ≡ read_each_request notation table.now (items_view values.now)) }
 {
-    match items {
-        [] => Ok(None),
-        [request] => Ok(Some(request)),
+    let mut so_far = Ok(Vec::new(alloc));
+    for value in values {
+        so_far = with_one(so_far, read_request(alloc, notation, table, value)?)?;
+    }
+    Ok(so_far)
+}
+
+// An array has one request at most.
+fn at_most_one(values: &[Value]) -> Result<(), QueryError>
+    ensures exact { result ≡ at_most_one (items_view values.now) }
+{
+    match values {
+        [] => Ok(()),
+        [_] => Ok(()),
         _ => Err(QueryError::ManyRequests),
     }
 }
 
-// The request that stands alone or in an array, if there is one.
-fn one_request(value: &Value) -> Result<Option<&Value>, QueryError>
-    ensures exact { result_map (option_map (λ v. view v.now)) result ≡ one_request (view value.now) }
+fn first(watched: Vec<Watched>) -> Option<Watched>
+    ensures value { result ≡ slice_get watched.items 0 }
 {
-    match value {
-        Value::Array(items) => at_most_one(items),
-        _ => Ok(Some(value)),
+    watched.into_iter().next()
+}
+
+// The request of an array, if it has one. All are looked at for faults.
+fn read_array(
+    alloc: Global,
+    notation: Notation,
+    table: &Table,
+    values: &[Value],
+) -> Result<Result<Option<Watched>, QueryError>, NoMemory>
+    ensures exact { IfOk result (λ r. r ≡ read_array notation table.now (items_view values.now)) }
+{
+    let each = read_each_request(alloc, notation, table, values)?;
+    match both(each, at_most_one(values)) {
+        Ok((watched, _)) => Ok(Ok(first(watched))),
+        Err(fault) => Ok(Err(fault)),
     }
 }
 
-/// What is asked of a table, if anything is.
+/// What is asked of a table, if anything is: by a request that stands alone or in an array.
 pub(crate) fn read_requests(
     alloc: Global,
     notation: Notation,
@@ -216,12 +244,11 @@ pub(crate) fn read_requests(
 ) -> Result<Result<Option<Watched>, QueryError>, NoMemory>
     ensures exact { IfOk result (λ r. r ≡ read_requests notation table.now (view value.now)) }
 {
-    match one_request(value) {
-        Ok(Some(request)) => match read_request(alloc, notation, table, request)? {
+    match value {
+        Value::Array(values) => read_array(alloc, notation, table, values),
+        _ => match read_request(alloc, notation, table, value)? {
             Ok(watched) => Ok(Ok(Some(watched))),
             Err(fault) => Ok(Err(fault)),
         },
-        Ok(None) => Ok(Ok(None)),
-        Err(fault) => Ok(Err(fault)),
     }
 }

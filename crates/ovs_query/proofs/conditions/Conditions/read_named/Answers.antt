@@ -1,8 +1,7 @@
-use Rattle.std.proofs.Common.{◌≡◌, List, Some, Ok}
+use Rattle.std.proofs.Common.{Some}
 use Rattle.serde_json.specs.View.{view}
 use Rattle.ovs_json.proofs.Given.{given_found, given_only, given_worst}
 use Rattle.ovs_types.specs.NamedReading.{SpellsNamed}
-use Rattle.ovs_query.specs.declared.conditions.Condition.{Condition}
 use Rattle.ovs_query.specs.declared.error.QueryError.TheVariants as faults
 use Rattle.ovs_query.specs.Faults.{rank}
 use Rattle.ovs_query.specs.ConditionReading.{named}
