@@ -1,9 +1,8 @@
 -- What is read is an operation on the tables.
-use Rattle.std.proofs.Common.{◌≡◌, ℕ, List, [], ◌∷◌, ◌++◌, Bool, true, false, cond, ◌&&◌, ◌||◌, not, Option, Some, None, Result, Ok, Err, refl, sym, ap, subst, ◌∙◌, eqb}
-use Rattle.std.specs.Prelude.{IfOk, ◌<◌, is_none, is_some, codes, option_and_then, length, slice_get, nat_eq}
-use Rattle.std.specs.FinMap as map
+use Rattle.std.proofs.Common.{◌≡◌, ℕ, List, [], ◌∷◌, ◌++◌, Bool, true, false, cond, ◌&&◌, Option, Some, None, Result, Ok, Err, refl, sym, ap, subst}
+use Rattle.std.specs.Prelude.{IfOk, ◌<◌, is_none, codes, option_and_then, length, slice_get}
 use Rattle.std.specs.List.{AllByRecursion}
-use Rattle.std.specs.Option.{ok_or, option_eq}
+use Rattle.std.specs.Option.{ok_or}
 use Rattle.std.proofs.lemmas.Option.{slice_get_within}
 use Rattle.serde_json.specs.Data.{Data, Items, no_items, item, Members, no_members, member}
 use Rattle.serde_json.specs.Find.{get, as_str, as_array, as_object, as_bool}
@@ -20,7 +19,7 @@ use Rattle.ovs_data.specs.NamedReading.{NamedIds, read_named, read_named_atom, S
 use Rattle.ovs_data.proofs.Spellings.{column_found, column_kept, named_atoms}
 use Rattle.ovs_types.specs.declared.schema.NamedColumn.{NamedColumn}
 use Rattle.ovs_types.specs.declared.schema.Table.{Table}
-use Rattle.ovs_types.specs.Column.{is_single, loose}
+use Rattle.ovs_types.specs.Column.{loose}
 use Rattle.ovs_types.specs.Datum.{IsDatumOf}
 use Rattle.ovs_types.specs.Finding.{column_named, table_named}
 use Rattle.ovs_types.proofs.Finders.{column_at, table_at}
@@ -28,7 +27,7 @@ use Rattle.ovs_rows.specs.Row.{columns_at, columns_in}
 use Rattle.ovs_query.specs.ConditionReading.{named, is_integer}
 use Rattle.ovs_query.specs.SelectReading.{read_select}
 use Rattle.ovs_operations.specs.declared.fault.Fault.{Fault}
-use Rattle.ovs_operations.specs.declared.fault.Fault.TheVariants.{UnknownTable, UnknownColumn, DuplicateName, NotSupported, Aborted, NotOwner, BadOperation}
+use Rattle.ovs_operations.specs.declared.fault.Fault.TheVariants.{UnknownTable, UnknownColumn, NotSupported, Aborted, NotOwner, BadOperation}
 use Rattle.ovs_operations.specs.declared.operation.Mutator.{Mutator}
 use Rattle.ovs_operations.specs.declared.operation.Mutator.TheVariants.{Set, Add, Subtract, Insert, Delete}
 use Rattle.ovs_operations.specs.declared.operation.Mutation.{Mutation}
@@ -38,7 +37,7 @@ use Rattle.ovs_operations.specs.declared.operation.Operation.{Operation}
 use Rattle.ovs_operations.specs.declared.operation.Operation.TheVariants as does
 use Rattle.ovs_operations.specs.Fault.{Read, rank, in_value, in_query}
 use Rattle.ovs_operations.specs.Operation.{IsValueOf, IsMutationOf, AreMutationsOf, IsOperationOf}
-use Rattle.ovs_operations.specs.Reading.{is, is_scalar, summed_column, value_column, read_column, read_mutator, read_items, read_members, read_mutation_of, read_mutation, read_mutations, read_cell, read_row, read_conditions, read_own_name, read_table, altered_by, read_updated, read_mutated, read_deleted, read_inserted, read_insert, read_alteration, read_comment, read_commit, read_assert, read_named_operation, read_operation}
+use Rattle.ovs_operations.specs.Reading.{is, is_scalar, summed_column, value_column, read_column, read_mutator, read_items, read_members, read_mutation_of, read_mutation, read_mutations, read_cell, read_row, read_conditions, read_own_name, read_table, read_updated, read_mutated, read_deleted, read_inserted, read_insert, read_alteration, read_comment, read_commit, read_assert, read_named_operation, read_operation}
 
 read_so : {X : Type 0} (P : X → Type 0) (x y : X) → ◌≡◌ {A = Read X} (Ok x) (Ok y) → P x → P y
 read_so P x y e h = subst P (let same : x ≡ y = cc in same) h

@@ -1,5 +1,5 @@
 -- What a transaction does: its answers, and the rows after it (RFC 7047 section 4.1.3).
-use Rattle.std.specs.Prelude.{ℕ, List, [], ◌∷◌, ◌++◌, Bool, map, Option, Some, None, Result, Ok, Err, if◌then◌else◌, codes}
+use Rattle.std.specs.Prelude.{ℕ, List, [], ◌∷◌, Bool, map, Option, Some, None, Ok, Err, codes}
 use Rattle.serde_json.specs.Data.{Data, null, string}
 use Rattle.ovs_json.specs.Putting.{under_name}
 use Rattle.ovs_json.specs.Results.{◌>>=◌}

@@ -1,7 +1,7 @@
 -- What a transaction's operations are given, as calls lend it.
-use Rattle.std.specs.Prelude.{◌≡◌, Option, Some, None, IfSome}
-use Rattle.ovs_rows.specs.Database.{DatabaseValue}
-use Rattle.ovs_rows.specs.DatabaseDifference.{IsCommit}
+use Rattle.std.specs.Prelude.{◌≡◌, Option, Some, None}
+use Rattle.ovs_rows.specs.DatabaseDifference.{database_difference, IsCommit}
+use Rattle.ovs_rows.specs.Change.{Actions}
 use Rattle.ovs_rows.specs.Row.{Rows}
 use Rattle.ovs_operations.specs.declared.setting.Setting.{Setting as Lent}
 use Rattle.ovs_operations.specs.Effect.{Setting}
@@ -17,15 +17,12 @@ setting_of s = record {
   before = s.before.now.rows;
 }
 
--- the rows that a transaction has come to: those of its copy of the database, or those before it where it has none yet
-abbrev pub rows_in : Lent → Option DatabaseValue → Rows
-rows_in s None = s.before.now.rows
-rows_in s (Some copy) = copy.rows
-
--- a copy has the schema of the database
-abbrev pub IsCopy : Lent → Option DatabaseValue → Type 0
-IsCopy s copy = IfSome copy (λ d. d.schema ≡ s.before.now.schema)
-
 -- these rows may be committed
 abbrev pub MayCommit : Lent → Rows → Type 0
 MayCommit s rows = IsCommit s.before.now.schema.description.tables s.before.now.rows rows s.commit
+
+-- what is to be committed after the operations: nothing where one of them failed, and else the change from the rows before to those
+-- after them, which may be committed
+abbrev pub ComesTo : Setting → Option Rows → Option Actions → Type 0
+ComesTo s None change = change ≡ None
+ComesTo s (Some rows) change = (change ≡ Some (database_difference s.tables s.before rows)) × IsCommit s.tables s.before rows s.commit

@@ -1,15 +1,13 @@
 -- The operations that JSON values stand for, with the first fault of those that stand for none (RFC 7047 section 5.2).
-use Rattle.std.specs.Prelude.{◌≡◌, ℕ, List, [], ◌∷◌, Bool, true, false, not, ◌&&◌, ◌||◌, Option, Some, None, is_none, is_some, Result, Ok, Err, if◌then◌else◌, codes, option_map, option_and_then, nat_eq}
+use Rattle.std.specs.Prelude.{ℕ, List, [], Bool, not, ◌&&◌, ◌||◌, Option, Some, None, is_none, is_some, Ok, Err, if◌then◌else◌, codes, option_and_then, nat_eq}
 use Rattle.std.specs.Cmp.Lexicographic.{pointwise}
 use Rattle.std.specs.FinMap as map
 use Rattle.std.specs.Option.{ok_or, option_eq}
 use Rattle.serde_json.specs.Data.{Data, Items, no_items, item, Members, no_members, member}
 use Rattle.serde_json.specs.Find.{get, as_str, as_array, as_object, as_bool}
 use Rattle.ovs_json.specs.FirstFault.{both, with_one}
-use Rattle.ovs_json.specs.Parts.{begins_with, is_first, three_items}
+use Rattle.ovs_json.specs.Parts.{begins_with, three_items}
 use Rattle.ovs_json.specs.Results.{◌>>=◌, result_map}
-use Rattle.ovs_data.specs.declared.atom.AtomKind.{AtomKind}
-use Rattle.ovs_data.specs.declared.atom.AtomKind.TheVariants as kinds
 use Rattle.ovs_data.specs.declared.column.Column.{Column}
 use Rattle.ovs_types.specs.declared.schema.NamedColumn.{NamedColumn}
 use Rattle.ovs_types.specs.declared.schema.Table.{Table}
@@ -20,13 +18,14 @@ use Rattle.ovs_types.specs.Names.{is_id}
 use Rattle.ovs_query.specs.declared.conditions.Condition.{Condition}
 use Rattle.ovs_query.specs.ConditionReading.{named, is_integer}
 use Rattle.ovs_query.specs.SelectReading.{read_where, read_select}
-use Rattle.ovs_operations.specs.declared.fault.Fault.{Fault}
 use Rattle.ovs_operations.specs.declared.fault.Fault.TheVariants.{UnknownTable, UnknownColumn, DuplicateName, NotSupported, Aborted, NotOwner, BadOperation}
 use Rattle.ovs_operations.specs.declared.operation.Mutator.{Mutator}
 use Rattle.ovs_operations.specs.declared.operation.Mutator.TheVariants.{Set, Add, Subtract, Insert, Delete}
 use Rattle.ovs_operations.specs.declared.operation.Mutation.{Mutation}
 use Rattle.ovs_operations.specs.declared.operation.Alteration.{Alteration}
 use Rattle.ovs_operations.specs.declared.operation.Alteration.TheVariants as alters
+use Rattle.ovs_operations.specs.declared.operation.Altering.{Altering}
+use Rattle.ovs_operations.specs.declared.operation.Altering.TheVariants as ways
 use Rattle.ovs_operations.specs.declared.operation.Operation.{Operation}
 use Rattle.ovs_operations.specs.declared.operation.Operation.TheVariants as does
 use Rattle.ovs_operations.specs.Fault.{Read, rank, in_value, in_query}
@@ -160,6 +159,12 @@ module _ (names : NamedIds) where
 -- the rows that match go
 abbrev pub read_deleted : List NamedColumn → Data → Read Alteration
 read_deleted columns d = Ok alters.Delete
+
+-- what becomes of the rows that match
+abbrev pub read_altered : NamedIds → Altering → List NamedColumn → Data → Read Alteration
+read_altered names ways.Update columns d = read_updated names columns d
+read_altered names ways.Mutate columns d = read_mutated names columns d
+read_altered names ways.Delete columns d = read_deleted columns d
 
 -- ---- operations on no rows
 

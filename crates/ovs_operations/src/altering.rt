@@ -12,7 +12,7 @@ use crate::mutating::write_all;
 use crate::operation::Alteration;
 use ovs_json::NoMemory;
 use ovs_query::Conditions;
-use ovs_rows::{Columns, Database, Place, Row};
+use ovs_rows::{Columns, Draft, Place, Row, SharedRow};
 use ovs_types::{NamedColumn, RowId, Table, TxnId};
 use std::alloc::Global;
 
@@ -26,9 +26,9 @@ pub(crate) fn columns_at(tables: &[Table], number: usize) -> &[NamedColumn]
     }
 }
 
-/// The row of these columns: it keeps the version that it had before the transaction where its columns are those from then, and
-/// else has the commit's id. So a row that is changed and changed back isn't changed.
-pub(crate) fn row_of(commit: TxnId, before: Option<&Row>, columns: Columns) -> Row
+// The row of these columns: it keeps the version that it had before the transaction where its columns are those from then, and
+// else has the commit's id. So a row that is changed and changed back isn't changed.
+fn row_of(commit: TxnId, before: Option<&Row>, columns: Columns) -> Row
     ensures value { result ≡ row_of commit (option_copied before.entry) columns }
 {
     let version = match before {
@@ -44,13 +44,21 @@ pub(crate) fn row_of(commit: TxnId, before: Option<&Row>, columns: Columns) -> R
     Row { version, columns }
 }
 
-// The same where there may be none.
-fn row_or_none(commit: TxnId, before: Option<&Row>, columns: Option<Columns>) -> Option<Row>
-    ensures value { result ≡ option_map (row_of commit (option_copied before.entry)) columns }
+/// The row to be put where these columns are to stand, or none where none are.
+///
+/// # Errors
+/// `NoMemory` alone.
+pub(crate) fn row_or_none(
+    alloc: Global,
+    commit: TxnId,
+    before: Option<&Row>,
+    columns: Option<Columns>,
+) -> Result<Option<SharedRow>, NoMemory>
+    ensures value { IfOk result (λ row. row ≡ option_map (row_of commit (option_copied before.entry)) columns) }
 {
     match columns {
-        Some(columns) => Some(row_of(commit, before, columns)),
-        None => None,
+        Some(columns) => Ok(Some(SharedRow::new(alloc, row_of(commit, before, columns))?)),
+        None => Ok(None),
     }
 }
 
@@ -80,26 +88,25 @@ fn altered(
 // Alters the row of this id, if it is there and matches. Answers how many have matched: one or none.
 fn alter_row(
     alloc: Global,
-    work: &mut Database,
-    before: &Database,
+    work: &mut Draft<'_>,
     commit: TxnId,
     table: usize,
     id: RowId,
     conditions: &Conditions,
     alteration: &Alteration,
 ) -> Result<Result<usize, Fault>, NoMemory>
-    requires alteration { IsAlterationOf (columns_at work.old.schema.description.tables table) alteration.now }
+    requires alteration { IsAlterationOf (columns_at work.old.before.schema.description.tables table) alteration.now }
     ensures done { IfOk result (λ r. IfOk r (λ n. (count : ℕ) →
-        alter_at commit before.now.rows (columns_at work.old.schema.description.tables table) (matches conditions.now) alteration.now
+        alter_at commit work.old.before.rows (columns_at work.old.before.schema.description.tables table) (matches conditions.now) alteration.now
         (record { rows = work.old.rows; count = count }) (record { table = table; id = id }) (row_in table id work.old.rows)
         ≡ Ok (record { rows = work.new.rows; count = count + n }))) }
     ensures fault { IfOk result (λ r. IfErr r (λ e. (count : ℕ) →
-        alter_at commit before.now.rows (columns_at work.old.schema.description.tables table) (matches conditions.now) alteration.now
+        alter_at commit work.old.before.rows (columns_at work.old.before.schema.description.tables table) (matches conditions.now) alteration.now
         (record { rows = work.old.rows; count = count }) (record { table = table; id = id }) (row_in table id work.old.rows) ≡ Err e)) }
     ensures most { IfOk result (λ r. IfOk r (λ n. n ≤ 1)) }
-    ensures schema { work.new.schema ≡ work.old.schema }
-    ensures commit { IsCommit work.old.schema.description.tables before.now.rows work.old.rows commit
-        → IfOk result (λ r. IfOk r (λ n. IsCommit work.old.schema.description.tables before.now.rows work.new.rows commit)) }
+    ensures before { work.new.before ≡ work.old.before }
+    ensures commit { IsCommit work.old.before.schema.description.tables work.old.before.rows work.old.rows commit
+        → IfOk result (λ r. IfOk r (λ n. IsCommit work.old.before.schema.description.tables work.old.before.rows work.new.rows commit)) }
 {
     let schema = work.schema();
     let Some(row) = work.row(Place { table, id }) else {
@@ -111,7 +118,8 @@ fn alter_row(
     let columns = columns_at(schema.tables(), table);
     match altered(alloc, columns, alteration, &row.columns)? {
         Ok(columns) => {
-            let row = row_or_none(commit, before.row(Place { table, id }), columns);
+            let before = work.base().row(Place { table, id });
+            let row = row_or_none(alloc, commit, before, columns)?;
             work.set_row(Place { table, id }, row)?;
             Ok(Ok(1))
         }
@@ -122,30 +130,27 @@ fn alter_row(
 // Alters the rows of the table one after the other.
 fn alter_rows(
     alloc: Global,
-    work: &mut Database,
-    before: &Database,
+    work: &mut Draft<'_>,
     commit: TxnId,
     table: usize,
     conditions: &Conditions,
     alteration: &Alteration,
 ) -> Result<Result<usize, Fault>, NoMemory>
-    requires alteration { IsAlterationOf (columns_at work.old.schema.description.tables table) alteration.now }
+    requires alteration { IsAlterationOf (columns_at work.old.before.schema.description.tables table) alteration.now }
     ensures done { IfOk result (λ r. IfOk r (λ count.
-        alter_all commit before.now.rows (columns_at work.old.schema.description.tables table) (matches conditions.now) alteration.now table work.old.rows
+        alter_all commit work.old.before.rows (columns_at work.old.before.schema.description.tables table) (matches conditions.now) alteration.now table work.old.rows
         ≡ Ok (record { rows = work.new.rows; count = count }))) }
     ensures fault { IfOk result (λ r. IfErr r (λ e.
-        alter_all commit before.now.rows (columns_at work.old.schema.description.tables table) (matches conditions.now) alteration.now table work.old.rows ≡ Err e)) }
-    ensures schema { work.new.schema ≡ work.old.schema }
-    ensures commit { IsCommit work.old.schema.description.tables before.now.rows work.old.rows commit
-        → IfOk result (λ r. IfOk r (λ count. IsCommit work.old.schema.description.tables before.now.rows work.new.rows commit)) }
+        alter_all commit work.old.before.rows (columns_at work.old.before.schema.description.tables table) (matches conditions.now) alteration.now table work.old.rows ≡ Err e)) }
+    ensures before { work.new.before ≡ work.old.before }
+    ensures commit { IsCommit work.old.before.schema.description.tables work.old.before.rows work.old.rows commit
+        → IfOk result (λ r. IfOk r (λ count. IsCommit work.old.before.schema.description.tables work.old.before.rows work.new.rows commit)) }
 {
-    let most = work.len();
+    let most = work.len_bound();
     let mut count = 0;
     let mut last = None;
     while let Some((id, _row)) = work.next_row(table, last) {
-        match alter_row(
-            alloc, work, before, commit, table, id, conditions, alteration,
-        )? {
+        match alter_row(alloc, work, commit, table, id, conditions, alteration)? {
             Ok(n) => count += n,
             Err(fault) => return Ok(Err(fault)),
         }
@@ -162,27 +167,24 @@ fn alter_rows(
 /// `NoMemory` alone.
 pub(crate) fn alter(
     alloc: Global,
-    work: &mut Database,
-    before: &Database,
+    work: &mut Draft<'_>,
     commit: TxnId,
     table: usize,
     conditions: &Conditions,
     alteration: &Alteration,
 ) -> Result<Result<usize, Fault>, NoMemory>
-    requires alteration { IsAlterationOf (columns_at work.old.schema.description.tables table) alteration.now }
+    requires alteration { IsAlterationOf (columns_at work.old.before.schema.description.tables table) alteration.now }
     ensures done { IfOk result (λ r. IfOk r (λ count.
-        alter_all commit before.now.rows (columns_at work.old.schema.description.tables table) (matches conditions.now) alteration.now table work.old.rows
+        alter_all commit work.old.before.rows (columns_at work.old.before.schema.description.tables table) (matches conditions.now) alteration.now table work.old.rows
         ≡ Ok (record { rows = work.new.rows; count = count }))) }
     ensures fault { IfOk result (λ r. IfErr r (λ e.
-        alter_all commit before.now.rows (columns_at work.old.schema.description.tables table) (matches conditions.now) alteration.now table work.old.rows ≡ Err e)) }
-    ensures schema { work.new.schema ≡ work.old.schema }
-    ensures commit { IsCommit work.old.schema.description.tables before.now.rows work.old.rows commit
-        → IfOk result (λ r. IfOk r (λ count. IsCommit work.old.schema.description.tables before.now.rows work.new.rows commit)) }
+        alter_all commit work.old.before.rows (columns_at work.old.before.schema.description.tables table) (matches conditions.now) alteration.now table work.old.rows ≡ Err e)) }
+    ensures before { work.new.before ≡ work.old.before }
+    ensures commit { IsCommit work.old.before.schema.description.tables work.old.before.rows work.old.rows commit
+        → IfOk result (λ r. IfOk r (λ count. IsCommit work.old.before.schema.description.tables work.old.before.rows work.new.rows commit)) }
 {
     match conditions.row_id() {
-        Some(id) => alter_row(
-            alloc, work, before, commit, table, id, conditions, alteration,
-        ),
-        None => alter_rows(alloc, work, before, commit, table, conditions, alteration),
+        Some(id) => alter_row(alloc, work, commit, table, id, conditions, alteration),
+        None => alter_rows(alloc, work, commit, table, conditions, alteration),
     }
 }

@@ -7,13 +7,13 @@ ghost use Rattle.ovs_rows.specs.DatabaseDifference.{IsCommit};
 ghost use Rattle.ovs_operations.specs.Operation.{AreMutationsOf, IsOperationOf};
 ghost use Rattle.ovs_operations.specs.Carrying.{inserted_json, count_json, inserted_row, carried_out};
 
-use crate::altering::{alter, columns_at, row_of};
+use crate::altering::{alter, columns_at, row_or_none};
 use crate::fault::Fault;
 use crate::mutating::{default_row, write_all};
 use crate::operation::{Alteration, Mutation, Operation};
 use ovs_json::{NoMemory, under_name};
 use ovs_query::Conditions;
-use ovs_rows::{Columns, Database, Place};
+use ovs_rows::{Columns, Draft, Place};
 use ovs_types::{Atom, RowId, Table, TxnId};
 use serde_json::{Map, Value};
 use std::alloc::Global;
@@ -49,26 +49,26 @@ fn inserted_row(
 
 fn insert(
     alloc: Global,
-    work: &mut Database,
-    before: &Database,
+    work: &mut Draft<'_>,
     commit: TxnId,
     place: Place,
     mutations: &[Mutation],
 ) -> Result<Result<Value, Fault>, NoMemory>
-    requires operation { IsOperationOf work.old.schema.description.tables (Operation.Insert place mutations.now) }
+    requires operation { IsOperationOf work.old.before.schema.description.tables (Operation.Insert place mutations.now) }
     ensures done { IfOk result (λ r. IfOk r (λ v.
-        carried_out work.old.schema.description.tables commit before.now.rows (Operation.Insert place mutations.now) work.old.rows
+        carried_out work.old.before.schema.description.tables commit work.old.before.rows (Operation.Insert place mutations.now) work.old.rows
         ≡ Ok (record { rows = work.new.rows; answer = view v }))) }
     ensures fault { IfOk result (λ r. IfErr r (λ e.
-        carried_out work.old.schema.description.tables commit before.now.rows (Operation.Insert place mutations.now) work.old.rows ≡ Err e)) }
-    ensures schema { work.new.schema ≡ work.old.schema }
-    ensures commit { IsCommit work.old.schema.description.tables before.now.rows work.old.rows commit
-        → IfOk result (λ r. IfOk r (λ v. IsCommit work.old.schema.description.tables before.now.rows work.new.rows commit)) }
+        carried_out work.old.before.schema.description.tables commit work.old.before.rows (Operation.Insert place mutations.now) work.old.rows ≡ Err e)) }
+    ensures before { work.new.before ≡ work.old.before }
+    ensures commit { IsCommit work.old.before.schema.description.tables work.old.before.rows work.old.rows commit
+        → IfOk result (λ r. IfOk r (λ v. IsCommit work.old.before.schema.description.tables work.old.before.rows work.new.rows commit)) }
 {
     match inserted_row(alloc, work.schema().tables(), place, mutations)? {
         Ok(columns) => {
-            let row = row_of(commit, before.row(place), columns);
-            work.set_row(place, Some(row))?;
+            let before = work.base().row(place);
+            let row = row_or_none(alloc, commit, before, Some(columns))?;
+            work.set_row(place, row)?;
             Ok(Ok(inserted_json(alloc, place.id)?))
         }
         Err(fault) => Ok(Err(fault)),
@@ -77,30 +77,29 @@ fn insert(
 
 fn alter_counted(
     alloc: Global,
-    work: &mut Database,
-    before: &Database,
+    work: &mut Draft<'_>,
     commit: TxnId,
     table: usize,
     conditions: &Conditions,
     alteration: &Alteration,
 ) -> Result<Result<Value, Fault>, NoMemory>
-    requires operation { IsOperationOf work.old.schema.description.tables (Operation.Alter table conditions.now alteration.now) }
+    requires operation { IsOperationOf work.old.before.schema.description.tables (Operation.Alter table conditions.now alteration.now) }
     ensures done { IfOk result (λ r. IfOk r (λ v.
-        carried_out work.old.schema.description.tables commit before.now.rows (Operation.Alter table conditions.now alteration.now) work.old.rows
+        carried_out work.old.before.schema.description.tables commit work.old.before.rows (Operation.Alter table conditions.now alteration.now) work.old.rows
         ≡ Ok (record { rows = work.new.rows; answer = view v }))) }
     ensures fault { IfOk result (λ r. IfErr r (λ e.
-        carried_out work.old.schema.description.tables commit before.now.rows (Operation.Alter table conditions.now alteration.now) work.old.rows ≡ Err e)) }
-    ensures schema { work.new.schema ≡ work.old.schema }
-    ensures commit { IsCommit work.old.schema.description.tables before.now.rows work.old.rows commit
-        → IfOk result (λ r. IfOk r (λ v. IsCommit work.old.schema.description.tables before.now.rows work.new.rows commit)) }
+        carried_out work.old.before.schema.description.tables commit work.old.before.rows (Operation.Alter table conditions.now alteration.now) work.old.rows ≡ Err e)) }
+    ensures before { work.new.before ≡ work.old.before }
+    ensures commit { IsCommit work.old.before.schema.description.tables work.old.before.rows work.old.rows commit
+        → IfOk result (λ r. IfOk r (λ v. IsCommit work.old.before.schema.description.tables work.old.before.rows work.new.rows commit)) }
 {
-    match alter(alloc, work, before, commit, table, conditions, alteration)? {
+    match alter(alloc, work, commit, table, conditions, alteration)? {
         Ok(count) => Ok(Ok(count_json(alloc, count)?)),
         Err(fault) => Ok(Err(fault)),
     }
 }
 
-/// Carries out an operation on the rows that those before it left, in a transaction that began with the database `before`. Answers
+/// Carries out an operation on the rows that those before it left, in a transaction that began with the draft's base. Answers
 /// the member of the result that stands for it, or its fault (RFC 7047 section 5.2):
 ///
 /// - `RangeError`: a sum or a difference that doesn't fit 64 bits.
@@ -112,32 +111,31 @@ fn alter_counted(
 /// `NoMemory` alone.
 pub(crate) fn carried_out(
     alloc: Global,
-    work: &mut Database,
-    before: &Database,
+    work: &mut Draft<'_>,
     commit: TxnId,
     operation: &Operation,
 ) -> Result<Result<Value, Fault>, NoMemory>
-    requires operation { IsOperationOf work.old.schema.description.tables operation.now }
+    requires operation { IsOperationOf work.old.before.schema.description.tables operation.now }
     ensures done { IfOk result (λ r. IfOk r (λ v.
-        carried_out work.old.schema.description.tables commit before.now.rows operation.now work.old.rows
+        carried_out work.old.before.schema.description.tables commit work.old.before.rows operation.now work.old.rows
         ≡ Ok (record { rows = work.new.rows; answer = view v }))) }
     ensures fault { IfOk result (λ r. IfErr r (λ e.
-        carried_out work.old.schema.description.tables commit before.now.rows operation.now work.old.rows ≡ Err e)) }
-    ensures schema { work.new.schema ≡ work.old.schema }
+        carried_out work.old.before.schema.description.tables commit work.old.before.rows operation.now work.old.rows ≡ Err e)) }
+    ensures before { work.new.before ≡ work.old.before }
     // Versions stay those of a commit with this id.
-    ensures commit { IsCommit work.old.schema.description.tables before.now.rows work.old.rows commit
-        → IfOk result (λ r. IfOk r (λ v. IsCommit work.old.schema.description.tables before.now.rows work.new.rows commit)) }
+    ensures commit { IsCommit work.old.before.schema.description.tables work.old.before.rows work.old.rows commit
+        → IfOk result (λ r. IfOk r (λ v. IsCommit work.old.before.schema.description.tables work.old.before.rows work.new.rows commit)) }
 {
     match operation {
         Operation::Insert { place, mutations } => {
-            insert(alloc, work, before, commit, *place, mutations.as_slice())
+            insert(alloc, work, commit, *place, mutations.as_slice())
         }
         Operation::Alter {
             table,
             conditions,
             alteration,
-        } => alter_counted(alloc, work, before, commit, *table, conditions, alteration),
-        Operation::Select(select) => Ok(Ok(select.run(alloc, work)?)),
+        } => alter_counted(alloc, work, commit, *table, conditions, alteration),
+        Operation::Select(select) => Ok(Ok(select.run_draft(alloc, work)?)),
         Operation::Nothing => Ok(Ok(Value::Object(Map::new(alloc)))),
     }
 }

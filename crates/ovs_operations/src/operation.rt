@@ -70,6 +70,17 @@ pub(crate) enum Alteration {
     Delete,
 }
 
+/// The operations that alter the rows that match.
+#[derive(Clone, Copy, Debug, PartialEq, Eq)]
+pub(crate) enum Altering {
+    /// "update"
+    Update,
+    /// "mutate"
+    Mutate,
+    /// "delete"
+    Delete,
+}
+
 /// An operation of a transaction.
 #[derive(Drop)]
 pub(crate) enum Operation {

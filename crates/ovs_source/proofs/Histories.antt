@@ -8,12 +8,12 @@ use Rattle.std.specs.Cmp.{nat_cmp_total}
 use Rattle.std.specs.FinMap.{get, insert, empty, get-insert, get-empty}
 use Rattle.ovs_types.specs.Schema.{SchemaValue}
 use Rattle.ovs_types.specs.declared.schema.Table.{Table}
-use Rattle.ovs_rows.specs.Database.{DatabaseValue}
 use Rattle.ovs_rows.specs.Row.{Rows, no_rows}
 use Rattle.ovs_rows.specs.Change.{Actions}
 use Rattle.ovs_rows.specs.After.{after}
 use Rattle.ovs_rows.specs.DatabaseDifference.{database_difference, IsCommit}
 use Rattle.ovs_rows.proofs.Laws.{difference_after}
+use Rattle.ovs_rows.proofs.NoDifference.{nothing_exactly}
 use Rattle.ovs_links.specs.Sets.{Holds, Among}
 use Rattle.ovs_links.specs.Chains.{head_after, rows_after}
 use Rattle.ovs_links.specs.History.{Commit, IsNoId, AreDistinct, NoneIsStart, CommitsFrom, IsHistory, links_of}
@@ -21,7 +21,7 @@ use Rattle.ovs_links.specs.Store.{Stored, tables_of, head_of, rows_of}
 use Rattle.ovs_links.specs.Answers.{SettlesAs, after_append, AreOfOneSource}
 use Rattle.ovs_links.specs.declared.link.Link.{Link}
 use Rattle.ovs_links.specs.declared.answer.Settled.TheVariants.{Done}
-use Rattle.ovs_source.specs.Commits.{commits_of, history_of, IsSource, HoldsHistory, IsTaken, link_to}
+use Rattle.ovs_source.specs.Commits.{commits_of, history_of, IsSource, HoldsHistory, IsTaken, link_to, LeadsBy}
 
 -- ---- the last commit
 
@@ -201,17 +201,15 @@ one_source s id rows k n c =
 
 -- ---- the link that is made
 
-pub is_difference : (s t : Stored) (d : DatabaseValue) (rows : Rows) (change : Actions) → s ≡ t → d ≡ record { schema = s.schema; rows = rows_of s }
-    → change ≡ database_difference d.schema.description.tables d.rows rows → change ≡ database_difference (tables_of t) (rows_of t) rows
-is_difference s t d rows change same value difference =
-    difference ∙ ap (λ (x : DatabaseValue). database_difference x.schema.description.tables x.rows rows) (value ∙ ap (λ (v : Stored). record { schema = v.schema; rows = rows_of v }) same)
+-- a change that leads to rows is none exactly where they are the same
+pub no_change : (s : Stored) (id : ℕ) (change : Actions) (rows : Rows) → LeadsBy s id change rows → change ≡ empty → rows ≡ rows_of s
+no_change s id change rows leads none = (nothing_exactly (tables_of s) (rows_of s) rows id leads.commit).0 (sym leads.difference ∙ none)
 
-pub is_link_to : (s t : Stored) (id : ℕ) (rows : Rows) (l : Link) (prev : ℕ) (change : Actions) → s ≡ t → l ≡ record { prev = prev; id = id; change = change }
-    → prev ≡ head_of s → change ≡ database_difference (tables_of t) (rows_of t) rows → l ≡ link_to t id rows
-is_link_to s t id rows l prev change same value head difference =
-    value
-    ∙ ap (λ (x : ℕ). record { prev = x; id = id; change = change }) (head ∙ ap head_of same)
-    ∙ ap (λ (x : Actions). record { prev = head_of t; id = id; change = x }) difference
+pub some_change : (s : Stored) (id : ℕ) (change : Actions) (rows : Rows) → LeadsBy s id change rows → change ≢ empty → rows ≢ rows_of s
+some_change s id change rows leads some same = some (leads.difference ∙ (nothing_exactly (tables_of s) (rows_of s) rows id leads.commit).1 same)
+
+pub is_link_to : (s : Stored) (id : ℕ) (change : Actions) (rows : Rows) (l : Link) → LeadsBy s id change rows → l ≡ record { prev = head_of s; id = id; change = change } → l ≡ link_to s id rows
+is_link_to s id change rows l leads is = is ∙ ap (λ (c : Actions). record { prev = head_of s; id = id; change = c }) leads.difference
 
 -- ---- the first store
 

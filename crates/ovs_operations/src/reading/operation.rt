@@ -8,11 +8,11 @@ ghost use Rattle.ovs_query.specs.SelectReading.{read_select};
 ghost use Rattle.ovs_operations.specs.Fault.{in_query};
 ghost use Rattle.ovs_operations.specs.Operation.{IsOperationOf};
 ghost use Rattle.ovs_operations.specs.Owning.{owns};
-ghost use Rattle.ovs_operations.specs.Reading.{read_inserted, read_insert, read_updated, read_mutated, read_deleted, altered_by, read_alteration, read_comment, read_commit, read_assert, read_named_operation, read_operation};
+ghost use Rattle.ovs_operations.specs.Reading.{read_inserted, read_insert, altered_by, read_altered, read_alteration, read_comment, read_commit, read_assert, read_named_operation, read_operation};
 ghost use Rattle.ovs_operations.specs.declared.operation.Operation.TheVariants as does;
 
 use crate::fault::Fault;
-use crate::operation::{Alteration, Operation};
+use crate::operation::{Alteration, Altering, Operation};
 use crate::reading::mutations::{read_mutations, read_row};
 use crate::reading::parts::{query_fault, read_conditions, read_own_name, read_table};
 use crate::setting::Setting;
@@ -64,31 +64,23 @@ fn read_insert(
     }
 }
 
-// What becomes of the rows of an "update".
-fn read_updated(
+// What becomes of the rows that match.
+fn read_altered(
     alloc: Global,
     names: &NamedIds,
+    altering: Altering,
     table: &Table,
     operation: &Value,
 ) -> Result<Result<Alteration, Fault>, NoMemory>
-    ensures exact { IfOk result (λ r. r ≡ read_updated names.now table.now.columns (view operation.now)) }
+    ensures exact { IfOk result (λ r. r ≡ read_altered names.now altering table.now.columns (view operation.now)) }
 {
-    match read_row(alloc, names, &table.columns, operation.get("row"))? {
-        Ok(mutations) => Ok(Ok(Alteration::Write(mutations))),
-        Err(fault) => Ok(Err(fault)),
-    }
-}
-
-// What becomes of the rows of a "mutate".
-fn read_mutated(
-    alloc: Global,
-    names: &NamedIds,
-    table: &Table,
-    operation: &Value,
-) -> Result<Result<Alteration, Fault>, NoMemory>
-    ensures exact { IfOk result (λ r. r ≡ read_mutated names.now table.now.columns (view operation.now)) }
-{
-    match read_mutations(alloc, names, &table.columns, operation.get("mutations"))? {
+    let columns = &table.columns;
+    let mutations = match altering {
+        Altering::Update => read_row(alloc, names, columns, operation.get("row"))?,
+        Altering::Mutate => read_mutations(alloc, names, columns, operation.get("mutations"))?,
+        Altering::Delete => return Ok(Ok(Alteration::Delete)),
+    };
+    match mutations {
         Ok(mutations) => Ok(Ok(Alteration::Write(mutations))),
         Err(fault) => Ok(Err(fault)),
     }
@@ -116,57 +108,20 @@ fn altered(
     }
 }
 
-fn read_update(
+fn read_alteration(
     alloc: Global,
     names: &NamedIds,
     schema: &Schema,
+    altering: Altering,
     operation: &Value,
 ) -> Result<Result<Operation, Fault>, NoMemory>
-    ensures exact { IfOk result (λ r. r ≡ read_alteration names.now schema.now.description.tables (read_updated names.now) (view operation.now)) }
+    ensures exact { IfOk result (λ r. r ≡ read_alteration names.now schema.now.description.tables (read_altered names.now altering) (view operation.now)) }
 {
     match read_table(schema, operation) {
         Ok((number, table)) => {
-            let alteration = read_updated(alloc, names, table, operation)?;
+            let alteration = read_altered(alloc, names, altering, table, operation)?;
             altered(alloc, names, number, table, alteration, operation)
         }
-        Err(fault) => Ok(Err(fault)),
-    }
-}
-
-fn read_mutate(
-    alloc: Global,
-    names: &NamedIds,
-    schema: &Schema,
-    operation: &Value,
-) -> Result<Result<Operation, Fault>, NoMemory>
-    ensures exact { IfOk result (λ r. r ≡ read_alteration names.now schema.now.description.tables (read_mutated names.now) (view operation.now)) }
-{
-    match read_table(schema, operation) {
-        Ok((number, table)) => {
-            let alteration = read_mutated(alloc, names, table, operation)?;
-            altered(alloc, names, number, table, alteration, operation)
-        }
-        Err(fault) => Ok(Err(fault)),
-    }
-}
-
-fn read_delete(
-    alloc: Global,
-    names: &NamedIds,
-    schema: &Schema,
-    operation: &Value,
-) -> Result<Result<Operation, Fault>, NoMemory>
-    ensures exact { IfOk result (λ r. r ≡ read_alteration names.now schema.now.description.tables read_deleted (view operation.now)) }
-{
-    match read_table(schema, operation) {
-        Ok((number, table)) => altered(
-            alloc,
-            names,
-            number,
-            table,
-            Ok(Alteration::Delete),
-            operation,
-        ),
         Err(fault) => Ok(Err(fault)),
     }
 }
@@ -245,11 +200,11 @@ fn read_named_operation(
             None => Ok(Err(Fault::BadOperation)),
         }
     } else if name == "update" {
-        read_update(alloc, names, schema, operation)
+        read_alteration(alloc, names, schema, Altering::Update, operation)
     } else if name == "mutate" {
-        read_mutate(alloc, names, schema, operation)
+        read_alteration(alloc, names, schema, Altering::Mutate, operation)
     } else if name == "delete" {
-        read_delete(alloc, names, schema, operation)
+        read_alteration(alloc, names, schema, Altering::Delete, operation)
     } else if name == "select" {
         read_selected(alloc, names, schema, operation)
     } else if name == "comment" {

@@ -7,14 +7,14 @@ use Rattle.ovs_operations.proofs.altering.alter_rows.Given as goal
 
 abbrev pub invariant-loop-id : goal.invariant-loop-id
 invariant-loop-id l =
-    let tables = l.fn.work.schema.description.tables in
+    let tables = l.fn.work.before.schema.description.tables in
     let columns = columns_at tables l.table in
     record {
-      rest : alter_each l.commit l.before.rows columns (matches l.conditions) l.alteration (record { rows = l.work.rows; count = l.count }) (rows_past l.table l.last l.work.rows)
-          ≡ alter_all l.commit l.before.rows columns (matches l.conditions) l.alteration l.table l.fn.work.rows;
+      rest : alter_each l.commit l.fn.work.before.rows columns (matches l.conditions) l.alteration (record { rows = l.work.rows; count = l.count }) (rows_past l.table l.last l.work.rows)
+          ≡ alter_all l.commit l.fn.work.before.rows columns (matches l.conditions) l.alteration l.table l.fn.work.rows;
       most : l.count + length (rows_past l.table l.last l.work.rows) ≤ l.most;
-      schema : l.work.schema ≡ l.fn.work.schema;
-      commit : IsCommit tables l.before.rows l.fn.work.rows l.commit → IsCommit tables l.before.rows l.work.rows l.commit;
+      before : l.work.before ≡ l.fn.work.before;
+      commit : IsCommit tables l.fn.work.before.rows l.fn.work.rows l.commit → IsCommit tables l.fn.work.before.rows l.work.rows l.commit;
     }
 
 abbrev pub decreases-loop-id : goal.decreases-loop-id
