@@ -6,8 +6,8 @@ use Rattle.ovs_script.specs.Lines.{lines_of, kept}
 use Rattle.ovs_script.specs.Texts.{MayHearSecond}
 use Rattle.ovs_script.specs.Functions.{state_from}
 use Rattle.ovs_script.proofs.OneRun.{second_heard}
-use Rattle.ovs_schema_line.specs.declared.refusal.SchemaRefusal.{SchemaRefusal}
-use Rattle.ovs_schema_line.specs.Reading.{schema_of_line}
+use Rattle.ovs_script.specs.declared.refusal.SchemaRefusal.{SchemaRefusal}
+use Rattle.ovs_script.specs.FirstLine.{schema_of_line}
 use Rattle.ovs_fold.specs.declared.fold.Fold.{Fold}
 use Rattle.ovs_fold.specs.Folding.{fold_functions, fold_rules, beginning, has_schema, stage_after_schema}
 

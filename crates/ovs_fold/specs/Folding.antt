@@ -6,10 +6,11 @@ use Rattle.ovs_script.specs.Lines.{kept}
 use Rattle.ovs_script.specs.Rules.{Rules}
 use Rattle.ovs_script.specs.Texts.{Texts}
 use Rattle.ovs_script.specs.Functions.{Functions, rules_of, script_output, is_content_with}
-use Rattle.ovs_schema_line.specs.declared.refusal.SchemaRefusal.{SchemaRefusal}
-use Rattle.ovs_schema_line.specs.declared.refusal.SchemaRefusal.TheVariants.{BadJson}
-use Rattle.ovs_schema_line.specs.Reading.{schema_of_line}
-use Rattle.ovs_schema_line.specs.Refusal.{schema_line, schema_answer}
+use Rattle.ovs_script.specs.declared.line_json.LineFault.TheVariants.{BadJson}
+use Rattle.ovs_script.specs.declared.refusal.SchemaRefusal.{SchemaRefusal}
+use Rattle.ovs_script.specs.declared.refusal.SchemaRefusal.TheVariants.{BadLine}
+use Rattle.ovs_script.specs.FirstLine.{schema_of_line}
+use Rattle.ovs_script.specs.Refusal.{schema_line, schema_answer}
 use Rattle.ovs_fold.specs.declared.fold.Stage.{Stage}
 use Rattle.ovs_fold.specs.declared.fold.Stage.TheVariants.{Schema, Links, Both, Missing, Over}
 use Rattle.ovs_fold.specs.declared.fold.Fold.{Fold}
@@ -65,10 +66,10 @@ is_over_at Over = true
 
 -- the last words; no line at all is a refused schema
 abbrev pub closing_at : Stage → List ℕ
-closing_at Schema = schema_line BadJson
+closing_at Schema = schema_line (BadLine BadJson)
 closing_at (Links s) = end_text s
 closing_at (Both stores) = stores_closing stores
-closing_at Missing = schema_line BadJson
+closing_at Missing = schema_line (BadLine BadJson)
 closing_at Over = []
 
 -- no line was refused, nor the merge, and the chain isn't stuck

@@ -1,9 +1,9 @@
 -- What a link's line says.
-use Rattle.std.specs.Prelude.{ℕ, List, Bool, not, ◌&&◌, ◌==◌, ◌^◌, Option, Some, None, Result, Ok, Err, nat_le, if◌then◌else◌, option_map, option_and_then}
+use Rattle.std.specs.Prelude.{ℕ, List, Bool, not, ◌&&◌, ◌==◌, ◌^◌, Option, Result, Ok, Err, nat_le, if◌then◌else◌, option_map, option_and_then}
 use Rattle.std.specs.Option.{ok_or}
 use Rattle.serde_json.specs.Data.{Data}
 use Rattle.serde_json.specs.Find.{as_str, as_object}
-use Rattle.ovs_json.specs.Parts.{json_of, three_items}
+use Rattle.ovs_json.specs.Parts.{three_items}
 use Rattle.ovs_types.specs.Id.{read_id}
 use Rattle.ovs_types.specs.Results.{◌>>=◌}
 use Rattle.ovs_types.specs.declared.schema.Table.{Table}
@@ -11,6 +11,7 @@ use Rattle.ovs_rows.specs.declared.error.ChangeError.{ChangeError}
 use Rattle.ovs_rows.specs.Change.{Actions}
 use Rattle.ovs_rows.specs.ChangeReading.{read_change}
 use Rattle.ovs_links.specs.Link.{LinkValue}
+use Rattle.ovs_script.specs.LineJson.{json_of_line, with_json}
 use Rattle.ovs_fold.specs.declared.words.Refusal.{Refusal}
 use Rattle.ovs_fold.specs.declared.words.Refusal.TheVariants as link
 
@@ -44,7 +45,6 @@ link_of_parts tables parts = do
 abbrev pub link_of_json : List Table → Data → Result LinkValue Refusal
 link_of_json tables d = ok_or (parts_of d) link.BadShape >>= link_of_parts tables
 
--- the link that a line gives, or why it is refused before it is taken
+-- the link that a line gives, or why it is refused before it is taken; None is a line above the limit
 abbrev pub link_of_line : List Table → Option (List ℕ) → Result LinkValue Refusal
-link_of_line tables None = Err link.TooLong
-link_of_line tables (Some line) = ok_or (json_of line) link.BadJson >>= link_of_json tables
+link_of_line tables line = with_json link.BadLine (link_of_json tables) (json_of_line line)

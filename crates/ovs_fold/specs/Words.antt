@@ -3,6 +3,8 @@ use Rattle.std.specs.Prelude.{ℕ, List, ◌++◌, Result, Ok, Err, codes}
 use Rattle.std.specs.Fmt.{decimal}
 use Rattle.ovs_types.specs.Id.{id_text}
 use Rattle.ovs_rows.specs.Faults.{change_word}
+use Rattle.ovs_script.specs.LineJson.{line_word}
+use Rattle.ovs_script.specs.Refusal.{refused_line}
 use Rattle.ovs_fold.specs.declared.words.Refusal.{Refusal}
 use Rattle.ovs_fold.specs.declared.words.Refusal.TheVariants as link
 use Rattle.ovs_fold.specs.declared.words.Outcome.{Outcome}
@@ -10,8 +12,7 @@ use Rattle.ovs_fold.specs.declared.words.Outcome.TheVariants.{Took, Held, Refuse
 
 -- why a link's line is refused; of a fork, the two ids of the held link
 abbrev pub link_word : Refusal → List ℕ
-link_word link.TooLong = codes "too-long"
-link_word link.BadJson = codes "bad-json"
+link_word (link.BadLine fault) = line_word fault
 link_word link.BadShape = codes "bad-shape"
 link_word link.BadId = codes "bad-id"
 link_word (link.BadChange fault) = change_word fault
@@ -22,7 +23,7 @@ link_word link.Full = codes "full"
 abbrev pub outcome_line : ℕ → Outcome → List ℕ
 outcome_line n Took = decimal n ++ codes " took\n"
 outcome_line n Held = decimal n ++ codes " held\n"
-outcome_line n (Refused refusal) = decimal n ++ (codes " refused " ++ (link_word refusal ++ codes "\n"))
+outcome_line n (Refused refusal) = refused_line n (link_word refusal)
 
 -- the line that tells how two stores were merged
 abbrev pub merge_line : Result (Unit {0}) Refusal → List ℕ

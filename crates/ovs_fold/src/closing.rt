@@ -53,13 +53,13 @@ fn counts_line(
     format!(in alloc; "links {links} chain {chain} parked {parked}\n")
 }
 
-fn database_line(alloc: Global, database: &Database) -> Result<String, NoMemory>
-    ensures text { IfOk result (λ line. string_bytes line ≡ database_line database.now) }
+// The text, and behind it the line with the database, which is long: so it is written where it stands at last.
+fn with_database(alloc: Global, text: String, database: &Database) -> Result<String, NoMemory>
+    ensures text { IfOk result (λ t. string_bytes t ≡ string_bytes text ++ database_line database.now) }
 {
-    let value = database.to_json(alloc)?;
-    let mut line = value.to_string(alloc)?;
-    line.push('\n')?;
-    Ok(line)
+    let mut text = database.json_behind(alloc, text)?;
+    text.push_str("\n")?;
+    Ok(text)
 }
 
 fn last_lines(alloc: Global, store: &LinkStore, settled: Settled) -> Result<String, NoMemory>
@@ -70,9 +70,7 @@ fn last_lines(alloc: Global, store: &LinkStore, settled: Settled) -> Result<Stri
     text.push_str(head.as_str())?;
     let counts = counts_line(alloc, store.len(), store.chain_len(), store.parked())?;
     text.push_str(counts.as_str())?;
-    let database = database_line(alloc, store.database())?;
-    text.push_str(database.as_str())?;
-    Ok(text)
+    with_database(alloc, text, store.database())
 }
 
 /// Folds the longest chain and tells of it. It is content where no line was refused and the chain isn't stuck.

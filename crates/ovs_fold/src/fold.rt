@@ -8,15 +8,14 @@ ghost use Rattle.ovs_script.specs.RunEnd.{is_whole};
 ghost use Rattle.ovs_script.specs.Counts.{CountsRun};
 ghost use Rattle.ovs_script.specs.Texts.{texts_of, AreFirstAnswers, HearsAllRead};
 ghost use Rattle.ovs_script.specs.Said.{WritesSaid};
-ghost use Rattle.ovs_schema_line.specs.Reading.{schema_of_line};
-ghost use Rattle.ovs_schema_line.specs.Refusal.{schema_answer};
+ghost use Rattle.ovs_script.specs.FirstLine.{schema_of_line};
+ghost use Rattle.ovs_script.specs.Refusal.{schema_answer};
 ghost use Rattle.ovs_fold.specs.declared.fold.Fold.{Fold};
 ghost use Rattle.ovs_fold.specs.Folding.{fold_rules, beginning, fold_output, is_clean, has_schema, stage_after_schema};
 
 use crate::intake::answer_line;
 use crate::stores::{OneStore, TwoStores};
-use ovs_schema_line::{SchemaRefusal, schema_of_line};
-use ovs_script::{Closing, RunEnd, Script, run_script};
+use ovs_script::{Closing, LineFault, RunEnd, SchemaRefusal, Script, run_script, schema_of_line};
 use ovs_types::NoMemory;
 use ovs_wire::Counted;
 use std::alloc::Global;
@@ -110,7 +109,7 @@ impl Script for Fold {
     fn close(&mut self, alloc: Global) -> Result<Closing, NoMemory> {
         match &mut self.stage {
             Stage::Schema | Stage::Missing => Ok(Closing {
-                text: SchemaRefusal::BadJson.line(alloc)?,
+                text: SchemaRefusal::BadLine(LineFault::BadJson).line(alloc)?,
                 is_content: false,
             }),
             Stage::Links(store) => store.close(alloc, self.refused),
@@ -130,6 +129,8 @@ impl Script for Fold {
 /// most 1,000,000 read and write calls, and at `TurnsSpent` all of them are made, as far as 64-bit counts can tell. Where
 /// it breaks off, a beginning of the output is written: at `ReadFault` the answers to all lines that left the readers
 /// whole, at `NoMemory` those to some first lines, of the input before the second text.
+///
+/// A run is the last thing that a process does: the memory of what it held is not given back.
 pub fn fold_run<R: Read, M: Read, W: Write>(
     alloc: Global,
     reader: &mut Counted<R>,
@@ -154,5 +155,9 @@ pub fn fold_run<R: Read, M: Read, W: Write>(
     ensures unread { IfSome (R.remaining reader.old.device) (λ input.
         has_schema (lines_of input) ≡ false → merge.new ≡ merge.old) }
 {
-    run_script(alloc, &mut Fold::new(), reader, merge, writer)
+    let mut fold = Fold::new();
+    let end = run_script(alloc, &mut fold, reader, merge, writer);
+    // To give back each link of a large store takes long, and with the process all of its memory goes.
+    mem::forget(fold);
+    end
 }

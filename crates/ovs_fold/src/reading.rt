@@ -7,9 +7,10 @@ ghost use Rattle.ovs_rows.specs.Change.{IsChangeOf};
 ghost use Rattle.ovs_fold.specs.Reading.{parts_of, change_or_refusal, link_between, link_of_parts, link_of_json, link_of_line};
 
 use crate::words::Refusal;
-use ovs_json::{read_json, three_items};
+use ovs_json::three_items;
 use ovs_links::Link;
 use ovs_rows::{Change, ChangeError};
+use ovs_script::json_of_line;
 use ovs_types::{DatumError, NoMemory, Schema, TxnId};
 use serde_json::Value;
 use std::alloc::Global;
@@ -104,11 +105,8 @@ pub(crate) fn link_of_line(
     ensures value { IfOk result (λ link. link ≡ link_of_line schema.now.description.tables (option_map (λ l. l.now) line.entry)) }
     ensures tables { IfOk result (λ link. IfOk link (λ l. IsChangeOf schema.now.description.tables l.change)) }
 {
-    let Some(line) = line else {
-        return Ok(Err(Refusal::TooLong));
-    };
-    match read_json(alloc, line)? {
-        None => Ok(Err(Refusal::BadJson)),
-        Some(value) => link_of_json(alloc, &value, schema),
+    match json_of_line(alloc, line)? {
+        Ok(value) => link_of_json(alloc, &value, schema),
+        Err(fault) => Ok(Err(Refusal::BadLine(fault))),
     }
 }

@@ -1,21 +1,19 @@
 //! The words for what becomes of a link's line.
 
 ghost use Rattle.std.specs.Prelude.{◌≡◌, ◌++◌, IfOk, codes, string_bytes};
-ghost use Rattle.std.specs.Fmt.{decimal};
 ghost use Rattle.ovs_types.specs.Id.{id_text};
 ghost use Rattle.ovs_fold.specs.Words.{link_word, outcome_line, merge_line};
 
 use ovs_rows::ChangeError;
+use ovs_script::{LineFault, refused_line};
 use ovs_types::{NoMemory, TxnId};
 use std::alloc::{AllocError, Global};
 
 /// Why a line with a link is refused, in the order of checking.
 #[derive(Debug, Clone, Copy, PartialEq, Eq)]
 pub(crate) enum Refusal {
-    /// More than 16,777,216 bytes.
-    TooLong,
-    /// No JSON of UTF-8, or nested too deeply.
-    BadJson,
+    /// It has no JSON, for this fault.
+    BadLine(LineFault),
     /// No array of two strings and an object.
     BadShape,
     /// A text that is no id, or an id that no link can have.
@@ -65,8 +63,7 @@ impl Refusal {
         ensures text { IfOk result (λ word. string_bytes word ≡ link_word self.now) }
     {
         match self {
-            Refusal::TooLong => word(alloc, "too-long"),
-            Refusal::BadJson => word(alloc, "bad-json"),
+            Refusal::BadLine(fault) => word(alloc, fault.word()),
             Refusal::BadShape => word(alloc, "bad-shape"),
             Refusal::BadId => word(alloc, "bad-id"),
             Refusal::BadChange(fault) => word(alloc, fault.word()),
@@ -74,12 +71,6 @@ impl Refusal {
             Refusal::Full => word(alloc, "full"),
         }
     }
-}
-
-fn refused_line(alloc: Global, number: u64, word: &str) -> Result<String, AllocError>
-    ensures text { IfOk result (λ line. string_bytes line ≡ decimal number ++ (codes " refused " ++ (word.now ++ codes "\n"))) }
-{
-    format!(in alloc; "{number} refused {word}\n")
 }
 
 impl Outcome {
@@ -92,7 +83,7 @@ impl Outcome {
             Outcome::Held => Ok(format!(in alloc; "{number} held\n")?),
             Outcome::Refused(refusal) => {
                 let word = refusal.word(alloc)?;
-                Ok(refused_line(alloc, number, word.as_str())?)
+                refused_line(alloc, number, word.as_str())
             }
         }
     }

@@ -13,17 +13,17 @@ use Rattle.ovs_script.proofs.Way.{Answered, Begun, all_but_none}
 
 -- ---- claims of texts that may be unknown
 
-pub of_input : (start : Option (List ℕ)) (A : List ℕ → Type 0) (P : Texts → Type 0) → ((input : List ℕ) → A input → P (record { input = input; second = None }))
-    → IfSome start A → IfSome (input_known start) P
-of_input None A P f holds = tt
-of_input (Some input) A P f holds = f input holds
-
-pub of_first : (start second : Option (List ℕ)) (A : List ℕ → Type 0) (P : Texts → Type 0)
-    → ((input text : List ℕ) → second ≡ Some text → A input → P (record { input = input; second = Some text }))
-    → IfSome start A → IfSome (both_known start second) P
-of_first None second A P f holds = tt
-of_first (Some input) None A P f holds = tt
-of_first (Some input) (Some text) A P f holds = f input text refl holds
+pub of_input : {M : Type 0} (start : Option (List ℕ)) (remaining : M → Option (List ℕ)) (second : Option M) (A : List ℕ → Type 0) (P : Texts → Type 0)
+    → ((input : List ℕ) (text : Option (List ℕ)) → option_and_then remaining second ≡ text → A input → P (record { input = input; second = text }))
+    → IfSome start A → IfSome (texts_of start remaining second) P
+of_input None remaining None A P f holds = tt
+of_input (Some input) remaining None A P f holds = f input None refl holds
+of_input start remaining (Some m) A P f holds = known start (remaining m) refl holds
+  where
+    known : (start text : Option (List ℕ)) → remaining m ≡ text → IfSome start A → IfSome (both_known start text) P
+    known None text is holds = tt
+    known (Some input) None is holds = tt
+    known (Some input) (Some text) is holds = f input (Some text) is holds
 
 pub of_each : (start second : Option (List ℕ)) (A B : List ℕ → Type 0) (P : Texts → Type 0)
     → ((input text : List ℕ) → A input → B text → P (record { input = input; second = Some text }))
@@ -71,39 +71,26 @@ closed_so_far rules s t said last words says (inl none) =
 closed_so_far rules s t said last words says (inr (is_content, closes)) = inr (is_content, closed rules s t said last words is_content says closes)
 
 module _ {S : Type 0} (rules : Rules S) (s : S) (start before now : Option (List ℕ)) (waited waiting : List ℕ) where
-  -- ---- the input alone
+  -- ---- a fault before the second text, if there is one
 
-  pub begun_alone : Begun rules s start before now waited waiting
-      → IfSome (input_known start) (λ t. (said : List ℕ) × AreFirstAnswers rules s t said × (others : List ℕ) × AppendsAllBut before now (waited ++ said) (waiting ++ others))
-  begun_alone so_far = of_input start _ _ (λ input told. (told.0, inl told.1, told.2, told.3)) so_far
+  module _ {M : Type 0} (remaining : M → Option (List ℕ)) (second : Option M) where
+    pub begun_input : Begun rules s start before now waited waiting
+        → IfSome (texts_of start remaining second) (λ t. (said : List ℕ) × AreFirstAnswers rules s t said × (others : List ℕ) × AppendsAllBut before now (waited ++ said) (waiting ++ others))
+    begun_input so_far = of_input start remaining second _ _ (λ input text is told. (told.0, inl told.1, told.2, told.3)) so_far
 
-  pub said_alone : (s' : S) (left : Option (List ℕ)) (fault : Fault)
-      → IfSome start (λ text. TellsSaid fault (HearsRead rules s s' text left) (AreAnswersToFirst rules s text) before now waited waiting)
-      → IfSome (input_known start) (λ t. TellsSaid fault (HearsAllRead rules s s' t left None) (AreFirstAnswers rules s t) before now waited waiting)
-  said_alone s' left ReadFault said = of_input start _ _ (λ input told. (told.0, inl (told.1, refl), told.2)) said
-  said_alone s' left NoMemory said = of_input start _ _ (λ input told. (told.0, inl told.1, told.2)) said
-  said_alone s' left WriteFault said = of_input start _ _ (λ input told. tt) said
-  said_alone s' left TurnsSpent said = of_input start _ _ (λ input told. tt) said
-
-  -- ---- a fault before the second text
+    pub said_input : (s' : S) (left : Option (List ℕ)) (fault : Fault)
+        → IfSome start (λ text. TellsSaid fault (HearsRead rules s s' text left) (AreAnswersToFirst rules s text) before now waited waiting)
+        → IfSome (texts_of start remaining second) (λ t. TellsSaid fault (HearsAllRead rules s s' t left (option_and_then remaining second)) (AreFirstAnswers rules s t) before now waited waiting)
+    said_input s' left ReadFault said = of_input start remaining second _ _ (λ input text is told. (told.0, inl (told.1, is), told.2)) said
+    said_input s' left NoMemory said = of_input start remaining second _ _ (λ input text is told. (told.0, inl told.1, told.2)) said
+    said_input s' left WriteFault said = of_input start remaining second _ _ (λ input text is told. tt) said
+    said_input s' left TurnsSpent said = of_input start remaining second _ _ (λ input text is told. tt) said
 
   module _ (second : Option (List ℕ)) where
-    pub begun_first : Begun rules s start before now waited waiting
-        → IfSome (both_known start second) (λ t. (said : List ℕ) × AreFirstAnswers rules s t said × (others : List ℕ) × AppendsAllBut before now (waited ++ said) (waiting ++ others))
-    begun_first so_far = of_first start second _ _ (λ input text is told. (told.0, inl told.1, told.2, told.3)) so_far
-
-    pub said_first : (s' : S) (left : Option (List ℕ)) (fault : Fault)
-        → IfSome start (λ text. TellsSaid fault (HearsRead rules s s' text left) (AreAnswersToFirst rules s text) before now waited waiting)
-        → IfSome (both_known start second) (λ t. TellsSaid fault (HearsAllRead rules s s' t left second) (AreFirstAnswers rules s t) before now waited waiting)
-    said_first s' left ReadFault said = of_first start second _ _ (λ input text is told. (told.0, inl (told.1, is), told.2)) said
-    said_first s' left NoMemory said = of_first start second _ _ (λ input text is told. (told.0, inl told.1, told.2)) said
-    said_first s' left WriteFault said = of_first start second _ _ (λ input text is told. tt) said
-    said_first s' left TurnsSpent said = of_first start second _ _ (λ input text is told. tt) said
-
     -- the input is answered, and memory runs out before the second text
     pub begun_between : (mid : S) → Answered rules s start before now waited waiting mid
         → IfSome (both_known start second) (λ t. (said : List ℕ) × AreFirstAnswers rules s t said × (others : List ℕ) × AppendsAllBut before now (waited ++ said) (waiting ++ others))
-    begun_between mid answered = of_first start second _ _ (λ input text is told.
+    begun_between mid answered = of_input start (λ (known : Option (List ℕ)). known) (Some second) _ _ (λ input text is told.
         (told.0, inl (all_to_first rules s input told.0 mid told.1), [], all_but_none before now (waited ++ told.0) waiting told.2)) answered
 
     -- ---- the second text
@@ -146,17 +133,3 @@ module _ {S : Type 0} (rules : Rules S) (s : S) (start before now : Option (List
       )) answered more
       both_said last left second_left WriteFault more = of_each start second _ _ _ (λ input text a b. tt) answered more
       both_said last left second_left TurnsSpent more = of_each start second _ _ _ (λ input text a b. tt) answered more
-
--- ---- with a second reader or without
-
-module _ {S M : Type 0} (rules : Rules S) (s : S) (start before now : Option (List ℕ)) (waited waiting : List ℕ) (remaining : M → Option (List ℕ)) where
-  pub begun_input : (second : Option M) → Begun rules s start before now waited waiting
-      → IfSome (texts_of start remaining second) (λ t. (said : List ℕ) × AreFirstAnswers rules s t said × (others : List ℕ) × AppendsAllBut before now (waited ++ said) (waiting ++ others))
-  begun_input None so_far = begun_alone rules s start before now waited waiting so_far
-  begun_input (Some m) so_far = begun_first rules s start before now waited waiting (remaining m) so_far
-
-  pub said_input : (second : Option M) (s' : S) (left : Option (List ℕ)) (fault : Fault)
-      → IfSome start (λ text. TellsSaid fault (HearsRead rules s s' text left) (AreAnswersToFirst rules s text) before now waited waiting)
-      → IfSome (texts_of start remaining second) (λ t. TellsSaid fault (HearsAllRead rules s s' t left (option_and_then remaining second)) (AreFirstAnswers rules s t) before now waited waiting)
-  said_input None s' left fault said = said_alone rules s start before now waited waiting s' left fault said
-  said_input (Some m) s' left fault said = said_first rules s start before now waited waiting (remaining m) s' left fault said

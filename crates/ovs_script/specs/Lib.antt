@@ -7,3 +7,6 @@ pub mod Rules
 pub mod Texts
 pub mod Functions
 pub mod Said
+pub mod LineJson
+pub mod Refusal
+pub mod FirstLine

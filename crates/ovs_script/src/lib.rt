@@ -3,10 +3,13 @@
 #![tactic(auto)]
 
 mod fault;
+mod first_line;
 mod laws;
 mod line;
+mod line_json;
 mod lines;
 mod pending;
+mod refusal;
 mod run;
 mod run_end;
 mod script;
@@ -14,7 +17,10 @@ mod sending;
 mod turns;
 mod window;
 
+pub use first_line::schema_of_line;
 pub use laws::functions_have_one_run;
+pub use line_json::{LineFault, json_of_line};
+pub use refusal::{SchemaRefusal, refused_line};
 pub use run::run_script;
 pub use run_end::RunEnd;
 pub use script::{Closing, Script};

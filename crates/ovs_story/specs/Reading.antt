@@ -7,10 +7,11 @@ use Rattle.ovs_wire.specs.Reading.{list_of}
 use Rattle.ovs_json.specs.Parts.{json_of, is_word, two_items, three_items}
 use Rattle.ovs_json.specs.Results.{◌>>=◌}
 use Rattle.ovs_types.specs.Id.{read_id}
+use Rattle.ovs_script.specs.LineJson.{json_of_line, with_json}
 use Rattle.ovs_world.specs.declared.event.Event.{Event}
 use Rattle.ovs_world.specs.declared.event.Event.TheVariants.{Commit, Connect, Deliver, Cut, Restart, MergeFrom, Read}
 use Rattle.ovs_story.specs.declared.words.Refusal.{Refusal}
-use Rattle.ovs_story.specs.declared.words.Refusal.TheVariants.{TooLong, BadJson, BadShape, BadId}
+use Rattle.ovs_story.specs.declared.words.Refusal.TheVariants.{BadLine, BadShape, BadId}
 
 -- a whole number from 0 on
 abbrev pub number_of : Data → Option ℕ
@@ -86,5 +87,4 @@ event_of_json d = event_of_parts (two_items d) (three_items d)
 
 -- the event that a line spells, or why it is refused before it happens; None is a line above the limit
 abbrev pub event_of_line : Option (List ℕ) → Result Event Refusal
-event_of_line None = Err TooLong
-event_of_line (Some line) = ok_or (json_of line) BadJson >>= event_of_json
+event_of_line line = with_json BadLine event_of_json (json_of_line line)

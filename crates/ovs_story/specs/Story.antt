@@ -7,10 +7,11 @@ use Rattle.ovs_script.specs.declared.run_end.RunEnd.{RunEnd}
 use Rattle.ovs_script.specs.Counts.{CountsRun}
 use Rattle.ovs_script.specs.Rules.{Rules}
 use Rattle.ovs_script.specs.Texts.{Texts, IsOutput, IsOutputSoFar}
-use Rattle.ovs_schema_line.specs.declared.refusal.SchemaRefusal.{SchemaRefusal}
-use Rattle.ovs_schema_line.specs.declared.refusal.SchemaRefusal.TheVariants.{BadJson}
-use Rattle.ovs_schema_line.specs.Reading.{schema_of_line}
-use Rattle.ovs_schema_line.specs.Refusal.{schema_line, schema_answer}
+use Rattle.ovs_script.specs.declared.line_json.LineFault.TheVariants.{BadJson}
+use Rattle.ovs_script.specs.declared.refusal.SchemaRefusal.{SchemaRefusal}
+use Rattle.ovs_script.specs.declared.refusal.SchemaRefusal.TheVariants.{BadLine}
+use Rattle.ovs_script.specs.FirstLine.{schema_of_line}
+use Rattle.ovs_script.specs.Refusal.{schema_line, schema_answer}
 use Rattle.ovs_story.specs.declared.story.Stage.{Stage}
 use Rattle.ovs_story.specs.declared.story.Stage.TheVariants.{Schema, Relays, Events, Over}
 use Rattle.ovs_story.specs.declared.story.Story.{Story}
@@ -64,7 +65,7 @@ is_over_at Over = true
 
 -- the last words; no first line at all is a refused schema, and no second one a refused number of relays
 abbrev pub closing_at : Stage → List ℕ
-closing_at Schema = schema_line BadJson
+closing_at Schema = schema_line (BadLine BadJson)
 closing_at (Relays schema) = relays_refused
 closing_at (Events w) = last_lines w
 closing_at Over = []

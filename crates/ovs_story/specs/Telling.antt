@@ -4,6 +4,7 @@ use Rattle.std.specs.Fmt.{decimal}
 use Rattle.serde_json.specs.Data.{Data, depth}
 use Rattle.serde_json.specs.Read.{read, max_depth}
 use Rattle.serde_json.specs.Written.{has_float, compact_text}
+use Rattle.ovs_script.specs.Refusal.{refused_line}
 use Rattle.ovs_world.specs.Steps.{Steps}
 use Rattle.ovs_world.specs.Worlds.{WorldValue}
 use Rattle.ovs_world.specs.declared.error.WorldError.{WorldError}
@@ -13,7 +14,7 @@ use Rattle.ovs_world.specs.declared.event.Reply.{Reply}
 use Rattle.ovs_world.specs.declared.event.Reply.TheVariants.{Results, Session, Took, Done}
 use Rattle.ovs_story.specs.declared.words.Refusal.{Refusal}
 use Rattle.ovs_story.specs.declared.words.Refusal.TheVariants.{Event}
-use Rattle.ovs_story.specs.Words.{refused_line}
+use Rattle.ovs_story.specs.Words.{event_word}
 
 -- compact JSON text of a value, which reads back as the value
 pub record IsJsonText (d : Data) (text : List ℕ) : Type 0 where
@@ -30,10 +31,10 @@ IsReplyText Done text = text ≡ codes "ok"
 -- the line that tells of event n: its reply, or the word for its refusal; want of memory isn't told
 abbrev pub Tells : ℕ → Result Reply WorldError → List ℕ → Type 0
 Tells n (Ok reply) line = (text : List ℕ) × IsReplyText reply text × (line ≡ decimal n ++ (codes " " ++ (text ++ codes "\n")))
-Tells n (Err e) line = (e ≢ NoMemory) × (line ≡ refused_line n (Event e))
+Tells n (Err e) line = (e ≢ NoMemory) × (line ≡ refused_line n (event_word (Event e)))
 
 -- The line that tells of event n where a line spells it or is refused before it happens, whether it is refused, and the
 -- world then.
 abbrev pub TellsLine : WorldValue → ℕ → Result Happening Refusal → List ℕ → Bool → WorldValue → Type 0
 TellsLine w n (Ok event) line is_refused v = (answer : Result Reply WorldError) × Steps w event answer v × Tells n answer line × (is_refused ≡ is_err answer)
-TellsLine w n (Err refusal) line is_refused v = (line ≡ refused_line n refusal) × (is_refused ≡ true) × (v ≡ w)
+TellsLine w n (Err refusal) line is_refused v = (line ≡ refused_line n (event_word refusal)) × (is_refused ≡ true) × (v ≡ w)

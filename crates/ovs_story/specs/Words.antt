@@ -1,21 +1,16 @@
 -- The words for lines that are refused.
-use Rattle.std.specs.Prelude.{ℕ, List, ◌++◌, codes}
-use Rattle.std.specs.Fmt.{decimal}
+use Rattle.std.specs.Prelude.{ℕ, List, codes}
+use Rattle.ovs_script.specs.LineJson.{line_word}
 use Rattle.ovs_world.specs.Refusals.{world_word}
 use Rattle.ovs_story.specs.declared.words.Refusal.{Refusal}
-use Rattle.ovs_story.specs.declared.words.Refusal.TheVariants.{TooLong, BadJson, BadShape, BadId, Event}
+use Rattle.ovs_story.specs.declared.words.Refusal.TheVariants.{BadLine, BadShape, BadId, Event}
 
 -- why an event's line is refused
 abbrev pub event_word : Refusal → List ℕ
-event_word TooLong = codes "too-long"
-event_word BadJson = codes "bad-json"
+event_word (BadLine fault) = line_word fault
 event_word BadShape = codes "bad-shape"
 event_word BadId = codes "bad-id"
 event_word (Event e) = world_word e
-
--- the line that tells it of line n
-abbrev pub refused_line : ℕ → Refusal → List ℕ
-refused_line n refusal = decimal n ++ (codes " refused " ++ (event_word refusal ++ codes "\n"))
 
 -- the line that is all there is where it isn't said how many relays there are
 abbrev pub relays_refused : List ℕ

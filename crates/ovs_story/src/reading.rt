@@ -6,6 +6,7 @@ ghost use Rattle.ovs_story.specs.Reading.{number_of, relays_of_line, numbers_of,
 
 use crate::words::Refusal;
 use ovs_json::{is_word, read_json, three_items, two_items};
+use ovs_script::json_of_line;
 use ovs_types::{NoMemory, TxnId};
 use ovs_wire::Params;
 use ovs_world::Event;
@@ -159,11 +160,8 @@ pub(crate) fn event_of_line(
 ) -> Result<Result<Event, Refusal>, NoMemory>
     ensures value { IfOk result (λ event. event ≡ event_of_line (option_map (λ l. l.now) line.entry)) }
 {
-    let Some(line) = line else {
-        return Ok(Err(Refusal::TooLong));
-    };
-    match read_json(alloc, line)? {
-        None => Ok(Err(Refusal::BadJson)),
-        Some(value) => event_of_json(&value),
+    match json_of_line(alloc, line)? {
+        Ok(value) => event_of_json(&value),
+        Err(fault) => Ok(Err(Refusal::BadLine(fault))),
     }
 }

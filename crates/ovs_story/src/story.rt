@@ -4,8 +4,8 @@ ghost use Rattle.std.specs.Prelude.{◌≡◌, IfOk, IfSome, List, ℕ, option_m
 ghost use Rattle.ovs_script.specs.Sending.{AppendsBeginning};
 ghost use Rattle.ovs_script.specs.Texts.{AreAnswersToFirst, HearsRead};
 ghost use Rattle.ovs_script.specs.Said.{WritesOutput, WritesSaid};
-ghost use Rattle.ovs_schema_line.specs.Reading.{schema_of_line};
-ghost use Rattle.ovs_schema_line.specs.Refusal.{schema_answer};
+ghost use Rattle.ovs_script.specs.FirstLine.{schema_of_line};
+ghost use Rattle.ovs_script.specs.Refusal.{schema_answer};
 ghost use Rattle.ovs_story.specs.declared.story.Story.{Story};
 ghost use Rattle.ovs_story.specs.Reading.{relays_of_line};
 ghost use Rattle.ovs_story.specs.Words.{relays_refused};
@@ -14,8 +14,7 @@ ghost use Rattle.ovs_story.specs.Story.{story_rules, beginning, stage_after_sche
 use crate::closing::last_lines;
 use crate::events::answer_line;
 use crate::reading::relays_of_line;
-use ovs_schema_line::{SchemaRefusal, schema_of_line};
-use ovs_script::{Closing, RunEnd, Script, run_script};
+use ovs_script::{Closing, LineFault, RunEnd, SchemaRefusal, Script, run_script, schema_of_line};
 use ovs_types::{NoMemory, Schema};
 use ovs_wire::Counted;
 use ovs_world::{World, WorldError};
@@ -138,7 +137,10 @@ impl Script for Story {
 
     fn close(&mut self, alloc: Global) -> Result<Closing, NoMemory> {
         let (text, is_content) = match &self.stage {
-            Stage::Schema => (SchemaRefusal::BadJson.line(alloc)?, false),
+            Stage::Schema => (
+                SchemaRefusal::BadLine(LineFault::BadJson).line(alloc)?,
+                false,
+            ),
             Stage::Relays(_) => (relays_refused(alloc)?, false),
             Stage::Events(world) => (last_lines(alloc, world)?, !self.refused),
             Stage::Over => (String::new(alloc), false),

@@ -1,9 +1,10 @@
 //! The words for lines that are refused.
 
-ghost use Rattle.std.specs.Prelude.{◌≡◌, ◌++◌, IfOk, codes, string_bytes};
-ghost use Rattle.std.specs.Fmt.{decimal};
-ghost use Rattle.ovs_story.specs.Words.{event_word, refused_line};
+ghost use Rattle.std.specs.Prelude.{◌≡◌, IfOk, string_bytes};
+ghost use Rattle.ovs_script.specs.Refusal.{refused_line};
+ghost use Rattle.ovs_story.specs.Words.{event_word};
 
+use ovs_script::{LineFault, refused_line};
 use ovs_types::NoMemory;
 use ovs_world::WorldError;
 use std::alloc::Global;
@@ -11,10 +12,8 @@ use std::alloc::Global;
 /// Why a line with an event is refused, in the order of checking.
 #[derive(Debug, Clone, Copy, PartialEq, Eq)]
 pub(crate) enum Refusal {
-    /// More than 16,777,216 bytes.
-    TooLong,
-    /// No JSON of UTF-8, or nested too deeply.
-    BadJson,
+    /// It has no JSON, for this fault.
+    BadLine(LineFault),
     /// No array that spells an event.
     BadShape,
     /// The id of a commit is no id.
@@ -29,8 +28,7 @@ impl Refusal {
         ensures text { result.now ≡ event_word self }
     {
         match self {
-            Refusal::TooLong => "too-long",
-            Refusal::BadJson => "bad-json",
+            Refusal::BadLine(fault) => fault.word(),
             Refusal::BadShape => "bad-shape",
             Refusal::BadId => "bad-id",
             Refusal::Event(error) => error.word(),
@@ -39,14 +37,8 @@ impl Refusal {
 
     /// The line that tells it of line `number`.
     pub(crate) fn line(self, alloc: Global, number: u64) -> Result<String, NoMemory>
-        ensures text { IfOk result (λ line. string_bytes line ≡ refused_line number self) }
+        ensures text { IfOk result (λ line. string_bytes line ≡ refused_line number (event_word self)) }
     {
-        refused_text(alloc, number, self.word())
+        refused_line(alloc, number, self.word())
     }
-}
-
-fn refused_text(alloc: Global, number: u64, word: &str) -> Result<String, NoMemory>
-    ensures text { IfOk result (λ line. string_bytes line ≡ decimal number ++ (codes " refused " ++ (word.now ++ codes "\n"))) }
-{
-    Ok(format!(in alloc; "{number} refused {word}\n")?)
 }

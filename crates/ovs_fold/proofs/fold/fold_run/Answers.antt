@@ -14,36 +14,36 @@ pub returns-clause-whole : goal.returns-clause-whole
 returns-clause-whole g c =
     let texts = texts_of (g.R.Read.remaining c.args.reader.now.device) (λ (m : Counting _). g.M.Read.remaining m.device) c.args.merge.now in
     let before = g.W.Write.contents c.args.writer.now.device in
-    let now = g.W.Write.contents c.run_script.new.writer.device in
-    let wrote : Fold → Type 0 = λ f. IfSome texts (λ (t : Texts). WritesOutput c.run_script.result (IsOutput fold_rules f t) before now) in
-    whole before now texts c.run_script.result (subst wrote c.new.ensures.value c.run_script.ensures.whole)
+    let now = g.W.Write.contents c.run_script-end.new.writer.device in
+    let wrote : Fold → Type 0 = λ f. IfSome texts (λ (t : Texts). WritesOutput c.run_script-end.result (IsOutput fold_rules f t) before now) in
+    whole before now texts c.run_script-end.result (subst wrote c.new-fold.ensures.value c.run_script-end.ensures.whole)
 
 pub returns-clause-status : goal.returns-clause-status
 returns-clause-status g c =
     let texts = texts_of (g.R.Read.remaining c.args.reader.now.device) (λ (m : Counting _). g.M.Read.remaining m.device) c.args.merge.now in
     let before = g.W.Write.contents c.args.writer.now.device in
-    let now = g.W.Write.contents c.run_script.new.writer.device in
-    let wrote : Fold → Type 0 = λ f. IfSome texts (λ (t : Texts). WritesOutput c.run_script.result (IsOutput fold_rules f t) before now) in
-    status before now texts c.run_script.result (subst wrote c.new.ensures.value c.run_script.ensures.whole)
+    let now = g.W.Write.contents c.run_script-end.new.writer.device in
+    let wrote : Fold → Type 0 = λ f. IfSome texts (λ (t : Texts). WritesOutput c.run_script-end.result (IsOutput fold_rules f t) before now) in
+    status before now texts c.run_script-end.result (subst wrote c.new-fold.ensures.value c.run_script-end.ensures.whole)
 
 pub returns-clause-begun : goal.returns-clause-begun
 returns-clause-begun g c =
     let texts = texts_of (g.R.Read.remaining c.args.reader.now.device) (λ (m : Counting _). g.M.Read.remaining m.device) c.args.merge.now in
     let before = g.W.Write.contents c.args.writer.now.device in
-    let now = g.W.Write.contents c.run_script.new.writer.device in
+    let now = g.W.Write.contents c.run_script-end.new.writer.device in
     let so_far : Fold → Type 0 = λ f. IfSome texts (λ (t : Texts). (output : List ℕ) × IsOutputSoFar fold_rules f t output × AppendsBeginning before now output) in
-    begun before now texts (subst so_far c.new.ensures.value c.run_script.ensures.begun)
+    begun before now texts (subst so_far c.new-fold.ensures.value c.run_script-end.ensures.begun)
 
 pub returns-clause-said : goal.returns-clause-said
 returns-clause-said g c =
     let texts = texts_of (g.R.Read.remaining c.args.reader.now.device) (λ (m : Counting _). g.M.Read.remaining m.device) c.args.merge.now in
-    let last = c.run_script.new.script in
-    let left = g.R.Read.remaining c.run_script.new.reader.device in
-    let left_behind = option_and_then (λ (m : Counting _). g.M.Read.remaining m.device) c.run_script.new.second in
-    let said : Fold → Type 0 = λ f. IfSome texts (λ (t : Texts). WritesSaid c.run_script.result (HearsAllRead fold_rules f last t left left_behind) (AreFirstAnswers fold_rules f t)
-    (g.W.Write.contents c.args.writer.now.device) (g.W.Write.contents c.run_script.new.writer.device)) in
-    (last, subst said c.new.ensures.value c.run_script.ensures.said)
+    let last = c.run_script-end.new.script in
+    let left = g.R.Read.remaining c.run_script-end.new.reader.device in
+    let left_behind = option_and_then (λ (m : Counting _). g.M.Read.remaining m.device) c.run_script-end.new.second in
+    let said : Fold → Type 0 = λ f. IfSome texts (λ (t : Texts). WritesSaid c.run_script-end.result (HearsAllRead fold_rules f last t left left_behind) (AreFirstAnswers fold_rules f t)
+    (g.W.Write.contents c.args.writer.now.device) (g.W.Write.contents c.run_script-end.new.writer.device)) in
+    (last, subst said c.new-fold.ensures.value c.run_script-end.ensures.said)
 
 pub returns-clause-unread : goal.returns-clause-unread
 returns-clause-unread g c =
-    not_read (g.R.Read.remaining c.args.reader.now.device) _ c.new.result c.new.ensures.value c.run_script.ensures.unread.behind
+    not_read (g.R.Read.remaining c.args.reader.now.device) _ c.new-fold.result c.new-fold.ensures.value c.run_script-end.ensures.unread.behind

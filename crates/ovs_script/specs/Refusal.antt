@@ -1,14 +1,21 @@
--- How a refused schema is told.
+-- How a refused line is told.
 use Rattle.std.specs.Prelude.{ℕ, List, [], ◌++◌, Result, Ok, Err, codes}
+use Rattle.std.specs.Fmt.{decimal}
 use Rattle.ovs_types.specs.Schema.{SchemaValue}
 use Rattle.ovs_types.specs.SchemaFaults as schemas
-use Rattle.ovs_schema_line.specs.declared.refusal.SchemaRefusal.{SchemaRefusal}
-use Rattle.ovs_schema_line.specs.declared.refusal.SchemaRefusal.TheVariants.{TooLong, BadJson, BadSchema}
+use Rattle.ovs_script.specs.declared.refusal.SchemaRefusal.{SchemaRefusal}
+use Rattle.ovs_script.specs.declared.refusal.SchemaRefusal.TheVariants.{BadLine, BadSchema}
+use Rattle.ovs_script.specs.LineJson.{line_word}
+
+-- the line that tells, with this word, that line n is refused
+abbrev pub refused_line : ℕ → List ℕ → List ℕ
+refused_line n word = decimal n ++ (codes " refused " ++ (word ++ codes "\n"))
+
+-- ---- the first line
 
 -- why a schema's line is refused
 abbrev pub schema_word : SchemaRefusal → List ℕ
-schema_word TooLong = codes "too-long"
-schema_word BadJson = codes "bad-json"
+schema_word (BadLine fault) = line_word fault
 schema_word (BadSchema fault) = schemas.schema_word fault
 
 -- the line that is all there is of a refused schema

@@ -1,12 +1,13 @@
-//! What a script's first line says.
+//! What a script's first line says: a schema.
 
 ghost use Rattle.std.specs.Prelude.{◌≡◌, ◌≢◌, IfOk, OnOk, option_map};
 ghost use Rattle.serde_json.specs.View.{view};
-ghost use Rattle.ovs_schema_line.specs.Reading.{schema_of_json, schema_of_line};
+ghost use Rattle.ovs_script.specs.FirstLine.{schema_of_json, schema_of_line};
 
+use crate::line_json::json_of_line;
 use crate::refusal::SchemaRefusal;
-use ovs_json::read_json;
-use ovs_types::{NoMemory, Schema, SchemaError};
+use ovs_json::NoMemory;
+use ovs_types::{Schema, SchemaError};
 use serde_json::Value;
 use std::alloc::Global;
 
@@ -41,11 +42,8 @@ pub fn schema_of_line(
 ) -> Result<Result<Schema, SchemaRefusal>, NoMemory>
     ensures value { IfOk result (λ schema. schema ≡ schema_of_line (option_map (λ l. l.now) line.entry)) }
 {
-    let Some(line) = line else {
-        return Ok(Err(SchemaRefusal::TooLong));
-    };
-    match read_json(alloc, line)? {
-        None => Ok(Err(SchemaRefusal::BadJson)),
-        Some(value) => schema_of_json(alloc, &value),
+    match json_of_line(alloc, line)? {
+        Ok(value) => schema_of_json(alloc, &value),
+        Err(fault) => Ok(Err(SchemaRefusal::BadLine(fault))),
     }
 }
