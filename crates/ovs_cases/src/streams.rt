@@ -1,7 +1,7 @@
 //! Streams of bytes, cut into messages. A piece is a text, whose characters below 256 stand for bytes, or a list of a
 //! text and how many times it comes.
 
-use crate::case::{list, text, word};
+use crate::case::{list, text};
 use crate::fault::Fault;
 use ovs_wire::{FrameError, Framer};
 use serde_json::Value;
@@ -73,7 +73,7 @@ fn waiting(alloc: Global, framer: &mut Framer) -> Result<String, Fault> {
     let mut told = String::new(alloc);
     for _ in 0..u64::MAX {
         match framer.next() {
-            Some(message) => add_message(alloc, &mut told, message.as_slice())?,
+            Some(message) => add_message(alloc, &mut told, message)?,
             None => break,
         }
     }
@@ -101,20 +101,26 @@ pub(crate) fn frames(alloc: Global, parts: &[Value]) -> Result<String, Fault> {
     Ok(told)
 }
 
+// How many bytes the next message has, if one waits.
+fn next_length(framer: &mut Framer) -> Option<usize> {
+    match framer.next() {
+        Some(message) => Some(message.len()),
+        None => None,
+    }
+}
+
 // Whether two pieces give the one message, and the first alone none.
-fn is_one(alloc: Global, first: &[u8], second: &[u8]) -> Result<bool, Fault> {
+fn is_one(alloc: Global, first: &[u8], second: &[u8]) -> bool {
     let mut framer = Framer::new(alloc);
     let before = framer.feed(first);
-    let early = framer.next();
+    let early = next_length(&mut framer);
     let after = framer.feed(second);
-    let message = framer.next();
+    let message = next_length(&mut framer);
     if before.is_err() || after.is_err() || framer.next().is_some() {
-        return Ok(false);
+        return false;
     }
-    match if second.is_empty() { early } else { message } {
-        Some(bytes) => Ok(bytes.len() == first.len() + second.len()),
-        None => Ok(false),
-    }
+    let one = if second.is_empty() { early } else { message };
+    one == Some(first.len() + second.len())
 }
 
 /// `["cut anywhere", TEXT]`: how many cuts of the text into two pieces there are, where each gives the text as the one
@@ -122,7 +128,7 @@ fn is_one(alloc: Global, first: &[u8], second: &[u8]) -> Result<bool, Fault> {
 pub(crate) fn cut_anywhere(alloc: Global, parts: &[Value]) -> Result<String, Fault> {
     let text = text(parts, 1)?.as_bytes();
     for cut in 0..text.len() + 1 {
-        if !is_one(alloc, &text[..cut], &text[cut..])? {
+        if !is_one(alloc, &text[..cut], &text[cut..]) {
             return Ok(format!(in alloc; "not at {cut}")?);
         }
     }

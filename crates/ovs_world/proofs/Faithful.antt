@@ -6,6 +6,7 @@ use Rattle.std.proofs.Common.{◌≡◌, ◌+◌, ℕ, zero, suc, List, [], ◌�
 use Rattle.std.proofs.lemmas.List.{replicate_more}
 use Rattle.ovs_types.specs.Schema.{SchemaValue}
 use Rattle.ovs_rows.specs.Row.{no_rows}
+use Rattle.ovs_links.proofs.GrowLemmas.{grows_by}
 use Rattle.ovs_links.specs.Answers.{IsSourceChain}
 use Rattle.ovs_links.specs.Chains.{IsLongestChain, rows_after}
 use Rattle.ovs_links.specs.History.{IsHeldCount}
@@ -66,7 +67,7 @@ empty_is_store schema = record {
   changes = λ l held. absurd (none_held l held);
   few = omega (arith, len-empty nat_cmp Link);
   chain = record { members = tt; joined = tt };
-  prefix = λ ls chain. (ls, refl);
+  grows = λ ls chain. grows_by [] ls ls refl;
 }
 
 pub empty_tier : (schema : SchemaValue) (n : ℕ) → IsTier (empty_store schema) (replicate n (empty_store schema))

@@ -1,8 +1,9 @@
 -- A relay takes links of the source's chain, and settles.
 use Rattle.std.specs.FinMap.{get, insert, len}
-use Rattle.std.proofs.Common.{◌≡◌, ◌≢◌, ◌+◌, ◌⊎◌, inl, inr, ⊎_elim, ℕ, zero, suc, List, [], ◌∷◌, ◌++◌, Option, Some, None, Err, length, take, refl, sym, ◌∙◌, ap, subst, arith}
+use Rattle.std.proofs.Common.{◌≡◌, ◌≢◌, ◌+◌, ◌⊎◌, inl, inr, ⊎_elim, ℕ, List, [], ◌∷◌, ◌++◌, Option, Some, None, Err, length, take, refl, sym, ◌∙◌, ap, subst, arith}
 use Rattle.std.proofs.lemmas.Bool.{cases_eq}
 use Rattle.ovs_rows.specs.Row.{no_rows}
+use Rattle.ovs_links.proofs.GrowLemmas.{grown_first}
 use Rattle.ovs_links.specs.Answers.{IsSourceChain, AreOfOneSource, NonePrev, TakesAs}
 use Rattle.ovs_links.specs.History.{links_of}
 use Rattle.ovs_links.specs.Runs.{HoldsBoth, IsRefusedAt}
@@ -22,15 +23,6 @@ use Rattle.ovs_world.specs.Nodes.{IsNode}
 use Rattle.ovs_world.proofs.Counting.{few_among, chain_few}
 
 -- of a beginning of a list's first links
-front_of : (xs rest ls : List Link) (n : ℕ) → xs ++ rest ≡ take n ls → xs ≡ take (length xs) ls
-front_of [] rest ls n e = refl
-front_of (x ∷ xs) rest ls zero e = absurd cc
-front_of (x ∷ xs) rest [] (suc n) e = absurd cc
-front_of (x ∷ xs) rest (l ∷ ls) (suc n) e =
-    let first : x ≡ l = cc e in
-    let later : xs ++ rest ≡ take n ls = cc e in
-    (λ i. first i ∷ front_of xs rest ls n later i)
-
 module _ (source : Stored) (is : IsSource source) where
   abbrev all : List Link
   all = links_of (tables_of source) 0 no_rows (history_of source)
@@ -46,12 +38,11 @@ module _ (source : Stored) (is : IsSource source) where
       let chain : chain_of mid ≡ take (length (chain_of mid)) source.folded = place.1 ∙ ap (take (length (chain_of mid))) is.links in
       let longest : IsChainOf new (chain_of mid) = subst (λ (v : _). IsChainOf (record { schema = v; links = new.links; folded = new.folded }) (chain_of mid)) (sym keeps.schema)
       (subst (λ (v : _). IsChainOf (record { schema = mid.schema; links = v; folded = new.folded }) (chain_of mid)) (sym keeps.links) whole.longest) in
-      let prefix = store.prefix (chain_of mid) longest in
       record {
         schema = same;
         store = store;
         within = λ l held. within l (subst (λ (v : _). Holds v l) keeps.links held);
-        front = front_of new.folded prefix.0 source.folded (length (chain_of mid)) (prefix.1 ∙ chain);
+        front = grown_first new.folded (chain_of mid) source.folded (length (chain_of mid)) (store.grows (chain_of mid) longest) chain;
       }
 
   among_all : (xs : List Link) (x : Link) → AllOf (Among source.folded) xs → Among xs x → Among source.folded x

@@ -5,6 +5,7 @@ use Rattle.std.specs.Prelude.{slice_get}
 use Rattle.std.proofs.lemmas.List.{take-append-le}
 use Rattle.serde_json.specs.Data.{Data}
 use Rattle.ovs_types.specs.declared.schema.Table.{Table}
+use Rattle.ovs_links.proofs.GrowLemmas.{grows_by}
 use Rattle.ovs_links.specs.Chains.{head_after}
 use Rattle.ovs_links.specs.Sets.{AllOf, Among, Holds}
 use Rattle.ovs_links.specs.Store.{Stored, IsStore, tables_of}
@@ -153,7 +154,7 @@ module _ (s t : Stored) (more : List Link) (schema : t.schema ≡ s.schema) (fol
     tier_more tier = record { is_source = source; store = store; each = each_more relays tier.each }
 
     at_node : (n : ℕ) (x : Session) → n ≤ length relays → IsLed s (node_at s relays n) x → IsLed t (node_at t relays n) x
-    at_node zero x le is = led_grows t s t x (record { schema = schema; store = store; keeps = keeps; prefix = (more, sym folded) }) (led_more s x is)
+    at_node zero x le is = led_grows t s t x (record { schema = schema; store = store; keeps = keeps; grows = grows_by s.folded more t.folded (sym folded) }) (led_more s x is)
     at_node (suc i) x le is = subst (λ (v : Stored). IsLed t v x) (same relays i (omega (arith, le))) (led_more (get_or relays i s) x is)
       where
         same : (ss : List Stored) (i : ℕ) → i < length ss → get_or ss i s ≡ get_or ss i t

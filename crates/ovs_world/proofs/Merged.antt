@@ -49,7 +49,7 @@ module _ (source s t : Stored) (is : IsSource source) (store : IsStore source) (
     schema = keeps.schema;
     store = is_store;
     keeps = λ l h. subst (λ (m : _). Holds m l) (sym keeps.links) (join_left s.links t.links l h);
-    prefix = keeps.prefix;
+    grows = keeps.grows;
   }
 
 -- ---- two nodes of a tier

@@ -1,8 +1,8 @@
 -- Sessions between nodes of which some take links.
 use Rattle.std.specs.List.{AllByRecursion}
-use Rattle.std.proofs.Common.{◌≡◌, ◌≤◌, ◌<◌, ℕ, zero, suc, List, [], ◌∷◌, ◌++◌, length, get_or, slice_set, refl, sym, ◌∙◌, ap, arith, append-nil, append_assoc}
+use Rattle.std.proofs.Common.{◌≡◌, ◌≤◌, ◌<◌, ℕ, zero, suc, List, [], ◌∷◌, length, get_or, slice_set, refl, sym, ◌∙◌, ap, arith}
 use Rattle.std.proofs.Math.Seq.{take-length}
-use Rattle.ovs_links.specs.Chains.{IsPrefixOf}
+use Rattle.ovs_links.proofs.GrowLemmas.{grown_length, grows_itself, grows_on}
 use Rattle.ovs_links.specs.Store.{Stored, IsStore}
 use Rattle.ovs_links.specs.declared.link.Link.{Link}
 use Rattle.ovs_reader.specs.declared.subscription.Subscription.{Subscription}
@@ -19,14 +19,14 @@ use Rattle.ovs_world.specs.declared.session.Session.{Session}
 -- ---- nodes
 
 extends_itself : (s : Stored) → IsStore s → Extends s s
-extends_itself s is = record { schema = refl; store = is; keeps = λ l h. h; prefix = ([], append-nil s.folded) }
+extends_itself s is = record { schema = refl; store = is; keeps = λ l h. h; grows = grows_itself s.folded }
 
 extends_on : (s t u : Stored) → Extends s t → Extends t u → Extends s u
 extends_on s t u a b = record {
   schema = b.schema ∙ a.schema;
   store = b.store;
   keeps = λ l h. b.keeps l (a.keeps l h);
-  prefix = (a.prefix.0 ++ b.prefix.0, sym (append_assoc s.folded a.prefix.0 b.prefix.0) ∙ ap (λ (ls : List Link). ls ++ b.prefix.0) a.prefix.1 ∙ b.prefix.1);
+  grows = grows_on s.folded t.folded u.folded a.grows b.grows;
 }
 
 source_node : (source : Stored) → IsSource source → IsStore source → IsNode source source
@@ -106,11 +106,6 @@ node_grows source ss ts store g (suc n) = at ss ts g n
     at (s ∷ ss) (t ∷ ts) g zero = g.0
     at (s ∷ ss) (t ∷ ts) g (suc n) = at ss ts g.1 n
 
-prefix_long : (xs ys : List Link) → IsPrefixOf xs ys → length xs ≤ length ys
-prefix_long [] ys p = omega arith
-prefix_long (x ∷ xs) [] p = absurd (let e : x ∷ (xs ++ p.0) ≡ [] = p.1 in cc)
-prefix_long (x ∷ xs) (y ∷ ys) p = let e : xs ++ p.0 ≡ ys = cc p.1 in let t = prefix_long xs ys (p.0, e) in omega (arith, t)
-
 has_more : (source : Stored) (n k : ℕ) (monitors : List Subscription) (m : Subscription) → n ≤ k → HasMonitor source n monitors m → HasMonitor source k monitors m
 has_more source n k monitors m le has = record { only = has.only; relay = has.relay; within = omega (arith, has.within, le) }
 
@@ -136,9 +131,9 @@ led_grows source node more s extends is = record {
   schema = is.schema;
   says = is.says;
   goes_on = is.goes_on;
-  shown = more_shown node more s.reader extends.store extends.schema extends.prefix is.shown;
+  shown = more_shown node more s.reader extends.store extends.schema extends.grows is.shown;
   idle = is.idle;
   messages = is.messages;
   carried = is.carried;
-  awaits = awaits_more source (length node.folded) (length more.folded) s.up.asked s.up.stage s.reader.monitors is.messages (prefix_long node.folded more.folded extends.prefix) is.awaits;
+  awaits = awaits_more source (length node.folded) (length more.folded) s.up.asked s.up.stage s.reader.monitors is.messages (grown_length node.folded more.folded extends.grows) is.awaits;
 }

@@ -2,7 +2,7 @@
 use Rattle.std.specs.Prelude.{◌≡◌, ◌⊎◌, ◌+◌, ◌-◌, ◌^◌, ℕ, min, List, ◌∷◌, Ok, length, take, slice_index_or, slice_set}
 use Rattle.std.specs.List.{AllByRecursion, AllZip}
 use Rattle.std.specs.FinMap.{len}
-use Rattle.ovs_links.specs.Chains.{IsPrefixOf}
+use Rattle.ovs_links.specs.Chains.{GrowsInto}
 use Rattle.ovs_links.specs.Outcomes.{taken_all, merge_answer, merged}
 use Rattle.ovs_links.specs.Settling.{KeepsLinks, after_settle}
 use Rattle.ovs_links.specs.Sets.{Holds, Among}
@@ -30,7 +30,7 @@ pub record Extends (s t : Stored) : Type 0 where
   pub schema : t.schema ≡ s.schema
   pub store : IsStore t
   pub keeps : (l : Link) → Holds s.links l → Holds t.links l
-  pub prefix : IsPrefixOf s.folded t.folded
+  pub grows : GrowsInto s.folded t.folded
 
 -- the store after it took links, and settled
 abbrev pub held : Stored → List Link → Stored

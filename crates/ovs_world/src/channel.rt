@@ -158,6 +158,6 @@ impl Channel {
         let Some(text) = self.framer.next() else {
             return Ok(None);
         };
-        Ok(Some(Message::read(alloc, &text)?))
+        Ok(Some(Message::read(alloc, text)?))
     }
 }

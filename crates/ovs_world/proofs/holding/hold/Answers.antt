@@ -1,5 +1,5 @@
 use Rattle.std.proofs.Common.{rules, ◌≡◌, ◌∙◌, List, Result, Err, IfErr, subst}
-use Rattle.ovs_links.specs.Chains.{IsPrefixOf}
+use Rattle.ovs_links.specs.Chains.{GrowsInto}
 use Rattle.ovs_links.specs.Sets.{Holds}
 use Rattle.ovs_links.specs.declared.link.Link.{Link}
 use Rattle.ovs_links.specs.declared.answer.TakeError.{TakeError}
@@ -40,7 +40,7 @@ returns-in-Err-clause-extends c = record {
   schema = c.settle-settled.ensures.links.schema ∙ c.take_all-taken.ensures.schema;
   store = c.settle-settled.ensures.store;
   keeps = keeps_taken c.args.store.now c.take_all-taken.new.store c.settle-settled.new.self c.in-Err.ensures.refused.before c.in-Err.ensures.refused.held c.settle-settled.ensures.links;
-  prefix = subst (λ (ls : List Link). IsPrefixOf ls c.settle-settled.new.self.folded) c.take_all-taken.ensures.folded c.settle-settled.ensures.links.prefix;
+  grows = subst (λ (ls : List Link). GrowsInto ls c.settle-settled.new.self.folded) c.take_all-taken.ensures.folded c.settle-settled.ensures.links.grows;
 }
 
 pub returns-clause-held : goal.returns-clause-held
