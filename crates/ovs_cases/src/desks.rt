@@ -3,7 +3,8 @@
 use crate::case::{add, list, part, text, word};
 use crate::fault::Fault;
 use crate::messages::text_of;
-use ovs_source::{Ask, Authority, FreshRows, Source, SourceDesk, Verb};
+use ovs_authority::{Ask, Authority, Verb};
+use ovs_source::{FreshRows, Source, SourceDesk};
 use ovs_types::{RowId, Schema, Text, TxnId};
 use ovs_wire::{Id, Message};
 use serde_json::Value;

@@ -3,8 +3,9 @@
 use crate::case::{add, list, part, text, word};
 use crate::fault::Fault;
 use crate::messages::text_of;
+use ovs_authority::{Answer, Request};
 use ovs_json::Json;
-use ovs_upstream::{Answer, ForwardError, Forwards, Request};
+use ovs_upstream::{ForwardError, Forwards};
 use ovs_wire::{Id, Message, Method, Params};
 use serde_json::Value;
 use std::alloc::Global;

@@ -11,9 +11,9 @@ use crate::folds::{shortened, spelled_out};
 use crate::messages::text_of;
 use crate::stores::take;
 use crate::upstreams::message_of;
+use ovs_authority::Verb;
 use ovs_links::LinkStore;
 use ovs_reader::{ReaderSession, Turn, what_a_store_folded_may_be_shown};
-use ovs_source::Verb;
 use ovs_types::Schema;
 use ovs_wire::Message;
 use serde_json::Value;
@@ -88,7 +88,7 @@ fn answer(
     ensures shown { MayBeShown session.new (folded_of store.now.schema store.now.folded) }
 {
     let message = message_of(alloc, message)?;
-    let turn = session.take_message(alloc, &message, store.folded())?;
+    let turn = session.take_message(alloc, message, store.folded())?;
     turn_text(alloc, &turn)
 }
 

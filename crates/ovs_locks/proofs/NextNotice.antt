@@ -1,26 +1,19 @@
 -- The first notice that a session is owed, and what it is owed after it.
-use Rattle.std.proofs.Common.{◌≡◌, ℕ, List, [], ◌∷◌, ◌++◌, Bool, true, false, cond, Option, Some, None, refl, sym, ap, subst, ◌∙◌, drop}
-use Rattle.std.specs.Prelude.{◌==◌, ◌≢◌, ◌&&◌, ◌||◌, unwrap_or, slice_get, is_some}
-use Rattle.std.specs.Ordering.{nat_cmp}
-use Rattle.std.specs.Cmp.{eq_by_cmp_equiv}
-use Rattle.std.specs.Cmp.Lexicographic.{slice_cmp, nat_list_cmp_total}
+use Rattle.std.proofs.Common.{◌≡◌, ℕ, List, [], ◌∷◌, ◌++◌, Bool, true, false, cond, Some, None, refl, sym, ap, ◌∙◌, drop}
+use Rattle.std.specs.Prelude.{◌==◌, ◌≢◌, ◌&&◌, ◌||◌, slice_get, is_some}
 use Rattle.std.specs.List.{list_any}
-use Rattle.std.specs.List.Sorted.{IsStrictlySortedBy}
-use Rattle.std.specs.Map.{lookup, keys_of, set_value}
-use Rattle.std.specs.BTreeMap as tree
-use Rattle.std.specs.BTreeMap.{BTreeMap, is_at}
 use Rattle.std.proofs.lemmas.Bool.{eqb-true}
-use Rattle.std.proofs.lemmas.Map.{lookup-none, keys-set_value}
-use Rattle.std.proofs.lemmas.Map.Keys.{sorted_tail, IsDistinct-from_sorted}
-use Rattle.std.proofs.lemmas.Map.Entries.{none_past_head}
 use Rattle.ovs_locks.specs.declared.asker.Asker.{Asker}
 use Rattle.ovs_locks.specs.declared.asker.Owed.{Owed}
 use Rattle.ovs_locks.specs.declared.asker.Owed.TheVariants.{Nothing, Locked, Stolen, LockedAndStolen}
 use Rattle.ovs_locks.specs.declared.notice.LockNotice.{LockNotice}
 use Rattle.ovs_locks.specs.declared.notice.LockNotice.TheVariants as told
-use Rattle.ovs_locks.specs.Lock.{LockValue, no_lock, is_in, first_who, notices_of, owed_in, owed_for, name_told, is_due, after_first, awaits, first_due, told_first, heard_first, after_one, sessions, SameSessions}
-use Rattle.ovs_locks.specs.LockTable.{Locks, AscendByName, lock_at, owed_to, after_one_of, KeepsSessions}
-use Rattle.ovs_locks.proofs.Tables.{by_test, lent_is}
+use Rattle.ovs_locks.specs.Lock.{LockValue, no_lock, is_in, first_who, notices_of, owed_in, owed_for, name_told, is_idle, is_due, after_first, awaits, first_due, told_first, heard_first, after_one, sessions, SameSessions}
+use Rattle.ovs_locks.specs.LockTable.{Locks, AscendByName, NoneIdle, ChangesAt, owed_to, KeepsSessions}
+use Rattle.ovs_locks.proofs.ByName.{change_relates}
+use Rattle.ovs_locks.proofs.Gathering.{gathered_same, first_given}
+use Rattle.ovs_locks.proofs.Idle.{idle_owes, one_idle}
+use Rattle.ovs_locks.proofs.Tables.{by_test}
 
 -- ---- the first of a list
 
@@ -90,10 +83,10 @@ first_in who name (a ∷ xs) = by (awaits who a) refl (first_in who name xs)
         rw is.0 (first_front (notices_of name a.owed) (owed_in who name xs) (due_first name a.owed ∙ is.1))
     by false e rest = ap (λ ns. slice_get (ns ++ owed_in who name xs) 0) (unawaited who name a e) ∙ rest
 
-none_due : (who : ℕ) (name : List ℕ) (xs : List Asker) → is_due (first_due who xs) ≡ false → owed_in who name xs ≡ []
+pub none_due : (who : ℕ) (name : List ℕ) (xs : List Asker) → is_due (first_due who xs) ≡ false → owed_in who name xs ≡ []
 none_due who name xs e = no_first (owed_in who name xs) (first_in who name xs ∙ ap (λ ns. slice_get ns 0) (no_notices name (first_due who xs) e))
 
-some_due : (who : ℕ) (name : List ℕ) (xs : List Asker) → is_due (first_due who xs) ≡ true → is_some (slice_get (owed_in who name xs) 0) ≡ true
+pub some_due : (who : ℕ) (name : List ℕ) (xs : List Asker) → is_due (first_due who xs) ≡ true → is_some (slice_get (owed_in who name xs) 0) ≡ true
 some_due who name xs e = ap is_some (first_in who name xs) ∙ due_first name (first_due who xs) ∙ e
 
 owed_heard : (who : ℕ) (name : List ℕ) (xs : List Asker) → owed_in who name (heard_first who xs) ≡ drop 1 (owed_in who name xs)
@@ -120,15 +113,27 @@ pub first_in_stolen : (who : ℕ) (name : List ℕ) (l : LockValue) → is_due (
     → slice_get (owed_for who name l) 0 ≡ slice_get (notices_of name (first_due who l.stolen)) 0
 first_in_stolen who name l e = ap (λ ns. slice_get (ns ++ owed_in who name l.stolen) 0) (none_due who name l.queue e) ∙ first_in who name l.stolen
 
+-- whether it owes the session a notice
+pub lock_owes : (who : ℕ) (name : List ℕ) (l : LockValue) → is_some (slice_get (owed_for who name l) 0) ≡ (is_due (first_due who l.queue) || is_due (first_due who l.stolen))
+lock_owes who name l = by (is_due (first_due who l.queue)) refl
+  where
+    by : (b : Bool) → is_due (first_due who l.queue) ≡ b → is_some (slice_get (owed_for who name l) 0) ≡ (b || is_due (first_due who l.stolen))
+    by true d = ap is_some (first_in_queue who name l d) ∙ due_first name (first_due who l.queue) ∙ d
+    by false d = ap is_some (first_in_stolen who name l d) ∙ due_first name (first_due who l.stolen)
+
+-- a lock that owes the session a notice is the first to owe one
+pub first_owes : (xs ys : List LockNotice) → is_some (slice_get xs 0) ≡ true → is_some (slice_get (xs ++ ys) 0) ≡ true
+first_owes xs ys e = ap is_some (first_front xs ys e) ∙ e
+
 -- its first notice tells of it
-named_for : (who : ℕ) (name : List ℕ) (l : LockValue) (x : LockNotice) → slice_get (owed_for who name l) 0 ≡ Some x → name_told x ≡ name
+pub named_for : (who : ℕ) (name : List ℕ) (l : LockValue) (x : LockNotice) → slice_get (owed_for who name l) 0 ≡ Some x → name_told x ≡ name
 named_for who name l x e = by (is_due (first_due who l.queue)) refl
   where
     by : (b : Bool) → is_due (first_due who l.queue) ≡ b → name_told x ≡ name
     by true d = named_of name (first_due who l.queue) x (sym (first_in_queue who name l d) ∙ e)
     by false d = named_of name (first_due who l.stolen) x (sym (first_in_stolen who name l d) ∙ e)
 
-lock_heard : (who : ℕ) (name : List ℕ) (l : LockValue) → owed_for who name (after_one who l) ≡ drop 1 (owed_for who name l)
+pub lock_heard : (who : ℕ) (name : List ℕ) (l : LockValue) → owed_for who name (after_one who l) ≡ drop 1 (owed_for who name l)
 lock_heard who name l = by (is_due (first_due who l.queue)) refl
   where
     by : (b : Bool) → is_due (first_due who l.queue) ≡ b
@@ -154,7 +159,7 @@ heard_apart who other name ne (a ∷ xs) = by (awaits who a) refl (heard_apart w
         rw not_other refl
     by false e rest = ap (λ ns. cond (a.who == other) (notices_of name a.owed) [] ++ ns) rest
 
-lock_apart : (who other : ℕ) (name : List ℕ) → other ≢ who → (l : LockValue) → owed_for other name (after_one who l) ≡ owed_for other name l
+pub lock_apart : (who other : ℕ) (name : List ℕ) → other ≢ who → (l : LockValue) → owed_for other name (after_one who l) ≡ owed_for other name l
 lock_apart who other name ne l =
     ap (λ ns. ns ++ owed_in other name (after_one who l).stolen) (heard_apart who other name ne l.queue)
     ∙ ap (λ ns. owed_in other name l.queue ++ ns) (by (is_due (first_due who l.queue)))
@@ -195,7 +200,7 @@ same_sessions l m q s = record {
 itself : (l : LockValue) → SameSessions l l
 itself l = same_sessions l l refl refl
 
-one_heard : (who : ℕ) (l : LockValue) → SameSessions l (after_one who l)
+pub one_heard : (who : ℕ) (l : LockValue) → SameSessions l (after_one who l)
 one_heard who l = same_sessions l (after_one who l) (sessions_heard who l.queue) (by (is_due (first_due who l.queue)))
   where
     by : (b : Bool) → sessions (cond b l.stolen (heard_first who l.stolen)) ≡ sessions l.stolen
@@ -204,116 +209,15 @@ one_heard who l = same_sessions l (after_one who l) (sessions_heard who l.queue)
 
 -- ---- the table
 
-pub keeps_sessions : (who : ℕ) (name : List ℕ) (es : Locks) → KeepsSessions es (after_one_of who name es)
-keeps_sessions who name [] other = itself no_lock
-keeps_sessions who name (e ∷ es) other = by (is_at (slice_cmp nat_cmp name) e.0) (is_at (slice_cmp nat_cmp other) e.0) refl (keeps_sessions who name es other)
-  where
-    by : (b at : Bool) → is_at (slice_cmp nat_cmp other) e.0 ≡ at → SameSessions (lock_at other es) (lock_at other (after_one_of who name es))
-        → SameSessions (unwrap_or (cond at (Some e.1) (lookup (is_at (slice_cmp nat_cmp other)) es)) no_lock)
-        (lock_at other (cond b ((e.0, after_one who (unwrap_or (cond b (Some e.1) (lookup (is_at (slice_cmp nat_cmp name)) es)) no_lock)) ∷ es)
-        (e ∷ set_value (is_at (slice_cmp nat_cmp name)) es (after_one who (unwrap_or (cond b (Some e.1) (lookup (is_at (slice_cmp nat_cmp name)) es)) no_lock)))))
-    by true true p rest = rw p (one_heard who e.1)
-    by true false p rest = rw p (itself (lock_at other es))
-    by false true p rest = rw p (itself e.1)
-    by false false p rest = rw p rest
+module _ (who : ℕ) (old new : Locks) where
+  pub keeps_sessions : (name : List ℕ) → ChangesAt name (after_one who) old new → KeepsSessions old new
+  keeps_sessions name change other = change_relates is_idle no_lock SameSessions itself name (after_one who) (one_idle who) (one_heard who) old new change other
 
-pub others_owed : (who other : ℕ) (name : List ℕ) → other ≢ who → (es : Locks) → owed_to other (after_one_of who name es) ≡ owed_to other es
-others_owed who other name ne [] = refl
-others_owed who other name ne (e ∷ es) = by (is_at (slice_cmp nat_cmp name) e.0) (others_owed who other name ne es)
-  where
-    by : (b : Bool) → owed_to other (after_one_of who name es) ≡ owed_to other es
-        → owed_to other (cond b ((e.0, after_one who (unwrap_or (cond b (Some e.1) (lookup (is_at (slice_cmp nat_cmp name)) es)) no_lock)) ∷ es)
-        (e ∷ set_value (is_at (slice_cmp nat_cmp name)) es (after_one who (unwrap_or (cond b (Some e.1) (lookup (is_at (slice_cmp nat_cmp name)) es)) no_lock))))
-        ≡ owed_for other e.0 e.1 ++ owed_to other es
-    by true rest = ap (λ ns. ns ++ owed_to other es) (lock_apart who other e.0 ne e.1)
-    by false rest = ap (λ ns. owed_for other e.0 e.1 ++ ns) rest
+  pub others_owed : (other : ℕ) (name : List ℕ) → other ≢ who → ChangesAt name (after_one who) old new → owed_to other new ≡ owed_to other old
+  others_owed other name ne change = gathered_same is_idle no_lock (owed_for other) (idle_owes other) name (after_one who) old new change (lock_apart who other name ne change.lock)
 
--- the key of a lock is found by its name
-found : (name key : List ℕ) → name ≡ key → is_at (slice_cmp nat_cmp name) key ≡ true
-found name key is = ap (λ k. is_at (slice_cmp nat_cmp k) key) is ∙ (eq_by_cmp_equiv nat_list_cmp_total).refl key
-
--- the first notice of a table tells of its first lock, where that has one, and else it is the first of the others
-in_first : (who : ℕ) (x y : LockNotice) (e : List ℕ × LockValue) (es : Locks) → slice_get (owed_to who (e ∷ es)) 0 ≡ Some x
-    → slice_get (owed_for who e.0 e.1) 0 ≡ Some y → name_told x ≡ e.0
-in_first who x y e es first p =
-    let is : y ≡ x = cc (first_front (owed_for who e.0 e.1) (owed_to who es) (ap is_some p)) in
-    ap name_told (sym is) ∙ named_for who e.0 e.1 y p
-
-in_others : (who : ℕ) (x : LockNotice) (e : List ℕ × LockValue) (es : Locks) → slice_get (owed_to who (e ∷ es)) 0 ≡ Some x
-    → slice_get (owed_for who e.0 e.1) 0 ≡ None → slice_get (owed_to who es) 0 ≡ Some x
-in_others who x e es first p = sym (ap (λ ns. slice_get (ns ++ owed_to who es) 0) (no_first (owed_for who e.0 e.1) p)) ∙ first
-
--- the lock of which the first notice tells is there
-is_there : (who : ℕ) (x : LockNotice) (es : Locks) → slice_get (owed_to who es) 0 ≡ Some x → lookup (is_at (slice_cmp nat_cmp (name_told x))) es ≡ None → ⊥
-is_there who x [] first none = absurd cc
-is_there who x (e ∷ es) first none = by (slice_get (owed_for who e.0 e.1) 0) refl (is_there who x es)
-  where
-    past : (b : Bool) → cond b (Some e.1) (lookup (is_at (slice_cmp nat_cmp (name_told x))) es) ≡ None → lookup (is_at (slice_cmp nat_cmp (name_told x))) es ≡ None
-    past true n = absurd cc
-    past false n = n
-
-    not_first : (b : Bool) → b ≡ true → cond b (Some e.1) (lookup (is_at (slice_cmp nat_cmp (name_told x))) es) ≡ None → ⊥
-    not_first true p n = absurd cc
-    not_first false p n = absurd cc
-
-    by : (o : Option LockNotice) → slice_get (owed_for who e.0 e.1) 0 ≡ o
-        → (slice_get (owed_to who es) 0 ≡ Some x → lookup (is_at (slice_cmp nat_cmp (name_told x))) es ≡ None → ⊥) → ⊥
-    by None p more = more (in_others who x e es first p) (past (is_at (slice_cmp nat_cmp (name_told x)) e.0) none)
-    by (Some y) p more = not_first (is_at (slice_cmp nat_cmp (name_told x)) e.0) (found (name_told x) e.0 (in_first who x y e es first p)) none
-
--- the session is owed the rest
-pub rest_owed : (who : ℕ) (x : LockNotice) (es : Locks) → IsStrictlySortedBy (slice_cmp nat_cmp) (keys_of es) → slice_get (owed_to who es) 0 ≡ Some x
-    → owed_to who (after_one_of who (name_told x) es) ≡ drop 1 (owed_to who es)
-rest_owed who x [] s first = refl
-rest_owed who x (e ∷ es) s first = by (slice_get (owed_for who e.0 e.1) 0) refl (rest_owed who x es (sorted_tail (slice_cmp nat_cmp) e.0 (keys_of es) s))
-  where
-    -- what is left, by whether this is the lock of the first notice
-    left : Bool → List LockNotice
-    left b = owed_to who (cond b ((e.0, after_one who (unwrap_or (cond b (Some e.1) (lookup (is_at (slice_cmp nat_cmp (name_told x))) es)) no_lock)) ∷ es)
-        (e ∷ set_value (is_at (slice_cmp nat_cmp (name_told x))) es (after_one who (unwrap_or (cond b (Some e.1) (lookup (is_at (slice_cmp nat_cmp (name_told x))) es)) no_lock))))
-
-    elsewhere : slice_get (owed_to who es) 0 ≡ Some x → is_at (slice_cmp nat_cmp (name_told x)) e.0 ≡ false
-    elsewhere more = by_test (is_at (slice_cmp nat_cmp (name_told x)) e.0)
-        (λ at. is_there who x es more (lookup-none (is_at (slice_cmp nat_cmp (name_told x))) es (none_past_head (eq_by_cmp_equiv nat_list_cmp_total) (name_told x) e es (IsDistinct-from_sorted (slice_cmp nat_cmp) (keys_of (e ∷ es)) s) at)))
-
-    by : (o : Option LockNotice) → slice_get (owed_for who e.0 e.1) 0 ≡ o
-        → (slice_get (owed_to who es) 0 ≡ Some x → owed_to who (after_one_of who (name_told x) es) ≡ drop 1 (owed_to who es))
-        → left (is_at (slice_cmp nat_cmp (name_told x)) e.0) ≡ drop 1 (owed_for who e.0 e.1 ++ owed_to who es)
-    by None p more =
-        let later = in_others who x e es first p in
-        let none = no_first (owed_for who e.0 e.1) p in
-        ap left (elsewhere later)
-        ∙ ap (λ ns. ns ++ owed_to who (after_one_of who (name_told x) es)) none
-        ∙ more later
-        ∙ sym (ap (λ ns. drop 1 (ns ++ owed_to who es)) none)
-    by (Some y) p more =
-        ap left (found (name_told x) e.0 (in_first who x y e es first p))
-        ∙ ap (λ ns. ns ++ owed_to who es) (lock_heard who e.0 e.1)
-        ∙ sym (drop_front (owed_for who e.0 e.1) (owed_to who es) (ap is_some p))
-
--- ---- a lock that was lent
-
--- what is written through the loan is what the table becomes
-pub one_written : (who : ℕ) (name : List ℕ) (lock new : LockValue) (m n : BTreeMap (List ℕ) LockValue)
-    → Some lock ≡ tree.get_by (slice_cmp nat_cmp name) m → tree.WritesThrough (slice_cmp nat_cmp) (slice_cmp nat_cmp name) m new n → new ≡ after_one who lock
-    → n.entries ≡ after_one_of who name m.entries
-one_written who name lock new m n e w is = w.0 ∙ ap (set_value (is_at (slice_cmp nat_cmp name)) m.entries) (is ∙ ap (after_one who) (sym (lent_is name lock m e)))
-
--- where no lock has the name, none changes
-pub none_heard : (who : ℕ) (name : List ℕ) (es : Locks) → lookup (is_at (slice_cmp nat_cmp name)) es ≡ None → after_one_of who name es ≡ es
-none_heard who name es none = unset es (after_one who (lock_at name es)) none
-  where
-    unset : (fs : Locks) (w : LockValue) → lookup (is_at (slice_cmp nat_cmp name)) fs ≡ None → set_value (is_at (slice_cmp nat_cmp name)) fs w ≡ fs
-    unset [] w n = refl
-    unset (f ∷ fs) w n = by (is_at (slice_cmp nat_cmp name) f.0) n (unset fs w)
-      where
-        by : (b : Bool) → cond b (Some f.1) (lookup (is_at (slice_cmp nat_cmp name)) fs) ≡ None
-            → (lookup (is_at (slice_cmp nat_cmp name)) fs ≡ None → set_value (is_at (slice_cmp nat_cmp name)) fs w ≡ fs)
-            → cond b ((f.0, w) ∷ fs) (f ∷ set_value (is_at (slice_cmp nat_cmp name)) fs w) ≡ f ∷ fs
-        by true n more = absurd cc
-        by false n more = ap (λ gs. f ∷ gs) (more n)
-
--- the locks still ascend by their names
-pub ascend_after_one : (who : ℕ) (name : List ℕ) (locks : Locks) → AscendByName locks → AscendByName (after_one_of who name locks)
-ascend_after_one who name locks ascend =
-    subst (IsStrictlySortedBy (slice_cmp nat_cmp)) (sym (keys-set_value (is_at (slice_cmp nat_cmp name)) locks (after_one who (lock_at name locks)))) ascend
+  -- the session is owed the rest
+  pub rest_owed : (x : LockNotice) → AscendByName old → NoneIdle old → slice_get (owed_to who old) 0 ≡ Some x → ChangesAt (name_told x) (after_one who) old new
+      → owed_to who new ≡ drop 1 (owed_to who old)
+  rest_owed x ascend none_idle first change =
+      first_given is_idle no_lock (owed_for who) name_told (named_for who) (idle_owes who) (after_one who) old new x ascend none_idle first (λ l. lock_heard who (name_told x) l) change

@@ -1,11 +1,9 @@
 -- Where sessions stand, and that others don't come to stand anywhere by what one of them asks.
-use Rattle.std.proofs.Common.{◌≡◌, ℕ, List, [], ◌∷◌, ◌++◌, Bool, true, false, cond, ◌||◌, Option, Some, None, refl, sym, ap, subst, ◌∙◌, eqb}
+use Rattle.std.proofs.Common.{◌≡◌, ℕ, List, [], ◌∷◌, ◌++◌, Bool, true, false, cond, ◌||◌, Some, None, refl, sym, ap, ◌∙◌}
 use Rattle.std.specs.Prelude.{◌≢◌, ◌==◌, not, unwrap_or}
 use Rattle.std.specs.BTreeMap.{is_at}
 use Rattle.std.specs.Cmp.{eq_by_cmp_equiv, tied_itself}
 use Rattle.std.specs.Cmp.Lexicographic.{slice_cmp, nat_list_cmp_total}
-use Rattle.std.specs.List.{list_any}
-use Rattle.std.specs.List.Sorted.{IsStrictlySortedBy}
 use Rattle.std.specs.Map.{lookup, keys_of}
 use Rattle.std.specs.Ordering.{nat_cmp, is_eq}
 use Rattle.std.proofs.lemmas.Bool.{ne_eqb}
@@ -43,7 +41,7 @@ stands_nowhere who (e ∷ es) none name =
       | false ↦ stands_nowhere who es n.1 name
     ]
 
-not_owed_for : (who : ℕ) (name : List ℕ) (l : LockValue) → stands who l ≡ false → owed_for who name l ≡ []
+pub not_owed_for : (who : ℕ) (name : List ℕ) (l : LockValue) → stands who l ≡ false → owed_for who name l ≡ []
 not_owed_for who name l none =
     let n = neither (is_in who l.queue) (is_in who l.stolen) none in
     rw (not_owed who name l.queue n.0, not_owed who name l.stolen n.1) refl
@@ -93,7 +91,7 @@ module _ (who other : ℕ) (apart : other ≢ who) where
       let n = neither (is_in other l.queue) (is_in other l.stolen) none in
       stolen_from_alone l.queue l.stolen n.0 n.1
 
-in_dropped : (who other : ℕ) (xs : List Asker) → is_in other xs ≡ false → is_in other (dropped who xs) ≡ false
+pub in_dropped : (who other : ℕ) (xs : List Asker) → is_in other xs ≡ false → is_in other (dropped who xs) ≡ false
 in_dropped who other [] none = refl
 in_dropped who other (a ∷ xs) none =
     let n = neither (a.who == other) (is_in other xs) none in

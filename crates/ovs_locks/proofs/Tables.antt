@@ -1,6 +1,6 @@
 -- Tables of locks: one lock changed, and all of them.
-use Rattle.std.proofs.Common.{◌≡◌, ℕ, List, [], ◌∷◌, ◌++◌, Bool, true, false, cond, Option, Some, None, refl, sym, ap, subst, ◌∙◌}
-use Rattle.std.specs.Prelude.{◌==◌, ◌≢◌, ◌&&◌, ◌||◌, not, map, unwrap_or, option_map, IsSome}
+use Rattle.std.proofs.Common.{◌≡◌, ℕ, List, [], ◌∷◌, ◌++◌, Bool, true, false, cond, Option, Some, None, refl, sym, ap, ◌∙◌}
+use Rattle.std.specs.Prelude.{◌==◌, ◌≢◌, ◌||◌, not, map, unwrap_or, option_map, IsSome}
 use Rattle.std.specs.declared.cmp.Ordering.{Ordering}
 use Rattle.std.specs.declared.cmp.Ordering.TheVariants.{Less, Equal, Greater}
 use Rattle.std.specs.Ordering.{nat_cmp, is_eq}
@@ -9,17 +9,18 @@ use Rattle.std.specs.Cmp.Lexicographic.{slice_cmp, nat_list_cmp_total}
 use Rattle.std.specs.FinMap.{nat_cmp-IsAntisymmetric, slice_cmp-IsAntisymmetric}
 use Rattle.std.specs.List.Sorted.{IsStrictlySortedBy}
 use Rattle.std.specs.Map.{lookup, keys_of, set_value}
-use Rattle.std.specs.Map.Calls.{RetainsPairs}
 use Rattle.std.specs.BTreeMap as tree
 use Rattle.std.specs.BTreeMap.{BTreeMap, is_at}
-use Rattle.std.proofs.lemmas.Map.{NonePasses, lookup-none}
+use Rattle.std.proofs.lemmas.Map.{lookup-none}
 use Rattle.std.proofs.lemmas.Map.Keys.{sorted_tail, IsDistinct-from_sorted}
 use Rattle.std.proofs.lemmas.Map.Entries.{none_past_head}
 use Rattle.std.proofs.lemmas.Map.Made.{lookup-map_values}
 use Rattle.std.proofs.lemmas.Map.Steps.{set_value_same}
 use Rattle.ovs_locks.specs.declared.asker.Asker.{Asker}
-use Rattle.ovs_locks.specs.declared.asker.Owed.TheVariants.{Nothing}
-use Rattle.ovs_locks.specs.Lock.{LockValue, no_lock, asker, is_who, is_in, stands, is_first, dropped, granted, without, is_free, is_idle, heard, after_telling, notices_of, owed_in, owed_for}
+use Rattle.ovs_locks.specs.Lock.{LockValue, no_lock, asker, is_in, stands, is_first, dropped, granted, without, is_idle, heard, after_telling, notices_of, owed_in, owed_for}
+use Rattle.ovs_locks.specs.ByName.{changed}
+use Rattle.ovs_locks.proofs.Gathering.{gathered_changed, gathers_nothing}
+use Rattle.ovs_locks.proofs.Idle.{idle_is_none, idle_owes}
 use Rattle.ovs_locks.specs.LockTable.{Locks, lock_at, Becomes, owed_to}
 
 tied : (o : Ordering) → is_eq o ≡ true → o ≡ Equal
@@ -50,31 +51,12 @@ becomes_twice a b c name x y p q = (q.0, λ other ne. q.1 other ne ∙ p.1 other
 
 -- ---- all locks
 
--- the locks after a change of each, less those in which nobody stands
-abbrev pub kept_by : (LockValue → LockValue) → Locks → Locks
-kept_by f [] = []
-kept_by f (e ∷ es) = cond (is_idle (f e.1)) (kept_by f es) ((e.0, f e.1) ∷ kept_by f es)
-
-not_cond : {X : Type 0} (b : Bool) (x y : X) → cond (not b) x y ≡ cond b y x
-not_cond true x y = refl
-not_cond false x y = refl
-
-pub left_pairs : {F : Type 0} (T : F → List ℕ → LockValue → Bool → LockValue → F → Type 0) (f : LockValue → LockValue) (g : F)
-    → ((k : List ℕ) (v : LockValue) (b : Bool) (w : LockValue) (g' : F) → T g k v b w g' → (b ≡ not (is_idle (f v))) × (w ≡ f v) × (g' ≡ g))
-    → (es kept : Locks) → RetainsPairs T g es kept → kept ≡ kept_by f es
-left_pairs T f g h [] kept r = r
-left_pairs T f g h (e ∷ es) kept (b, w, g', rest, t, more, is) =
-    let x = h e.0 e.1 b w g' t in
-    let same = left_pairs T f g h es rest (subst (λ q. RetainsPairs T q es rest) x.2 more) in
-    let there : kept ≡ cond (not (is_idle (f e.1))) ((e.0, f e.1) ∷ kept_by f es) (kept_by f es) = cc in
-    there ∙ not_cond (is_idle (f e.1)) ((e.0, f e.1) ∷ kept_by f es) (kept_by f es)
-
-nothing_kept : (f : LockValue → LockValue) (test : List ℕ → Bool) (es : Locks) → lookup test es ≡ None → lookup test (kept_by f es) ≡ None
+nothing_kept : (f : LockValue → LockValue) (test : List ℕ → Bool) (es : Locks) → lookup test es ≡ None → lookup test (changed is_idle f es) ≡ None
 nothing_kept f test [] none = refl
 nothing_kept f test (e ∷ es) none = at_head (test e.0) (is_idle (f e.1)) refl none (λ n. nothing_kept f test es n)
   where
-    at_head : (b i : Bool) → test e.0 ≡ b → cond b (Some e.1) (lookup test es) ≡ None → (lookup test es ≡ None → lookup test (kept_by f es) ≡ None)
-        → lookup test (cond i (kept_by f es) ((e.0, f e.1) ∷ kept_by f es)) ≡ None
+    at_head : (b i : Bool) → test e.0 ≡ b → cond b (Some e.1) (lookup test es) ≡ None → (lookup test es ≡ None → lookup test (changed is_idle f es) ≡ None)
+        → lookup test (cond i (changed is_idle f es) ((e.0, f e.1) ∷ changed is_idle f es)) ≡ None
     at_head true i p n more = absurd cc
     at_head false true p n more = more n
     at_head false false p n more = rw p (more n)
@@ -82,27 +64,18 @@ nothing_kept f test (e ∷ es) none = at_head (test e.0) (is_idle (f e.1)) refl 
 is_none_at : {X : Type 0} → (o : Option X) → (d : X) → o ≡ None → unwrap_or o d ≡ d
 is_none_at o d e = ap (λ o. unwrap_or o d) e
 
--- nobody stands in a lock that is idle
-pub idle_is_none : (l : LockValue) → is_idle l ≡ true → l ≡ no_lock
-idle_is_none l e = of l.queue l.stolen e
-  where
-    of : (q s : List Asker) → (is_free q && is_free s) ≡ true → record { queue = q; stolen = s } ≡ no_lock
-    of [] [] e = refl
-    of [] (a ∷ s) e = absurd cc
-    of (a ∷ q) s e = absurd cc
-
 -- each lock is what f makes of it, also those that are taken out
 pub lock_at-kept : (f : LockValue → LockValue) → f no_lock ≡ no_lock → (name : List ℕ) (es : Locks) → IsStrictlySortedBy (slice_cmp nat_cmp) (keys_of es)
-    → lock_at name (kept_by f es) ≡ f (lock_at name es)
+    → lock_at name (changed is_idle f es) ≡ f (lock_at name es)
 lock_at-kept f none name [] s = sym none
 lock_at-kept f none name (e ∷ es) s = at_head (is_at (slice_cmp nat_cmp name) e.0) (is_idle (f e.1)) refl refl (lock_at-kept f none name es (sorted_tail (slice_cmp nat_cmp) e.0 (keys_of es) s))
   where
-    gone : is_at (slice_cmp nat_cmp name) e.0 ≡ true → lookup (is_at (slice_cmp nat_cmp name)) (kept_by f es) ≡ None
+    gone : is_at (slice_cmp nat_cmp name) e.0 ≡ true → lookup (is_at (slice_cmp nat_cmp name)) (changed is_idle f es) ≡ None
     gone p = nothing_kept f (is_at (slice_cmp nat_cmp name)) es (lookup-none (is_at (slice_cmp nat_cmp name)) es (none_past_head (eq_by_cmp_equiv nat_list_cmp_total) name e es (IsDistinct-from_sorted (slice_cmp nat_cmp) (keys_of (e ∷ es)) s) p))
 
-    at_head : (b i : Bool) → is_at (slice_cmp nat_cmp name) e.0 ≡ b → is_idle (f e.1) ≡ i → lock_at name (kept_by f es) ≡ f (lock_at name es)
-        → lock_at name (cond i (kept_by f es) ((e.0, f e.1) ∷ kept_by f es)) ≡ f (unwrap_or (cond b (Some e.1) (lookup (is_at (slice_cmp nat_cmp name)) es)) no_lock)
-    at_head true true p q more = is_none_at (lookup (is_at (slice_cmp nat_cmp name)) (kept_by f es)) no_lock (gone p) ∙ sym (idle_is_none (f e.1) q)
+    at_head : (b i : Bool) → is_at (slice_cmp nat_cmp name) e.0 ≡ b → is_idle (f e.1) ≡ i → lock_at name (changed is_idle f es) ≡ f (lock_at name es)
+        → lock_at name (cond i (changed is_idle f es) ((e.0, f e.1) ∷ changed is_idle f es)) ≡ f (unwrap_or (cond b (Some e.1) (lookup (is_at (slice_cmp nat_cmp name)) es)) no_lock)
+    at_head true true p q more = is_none_at (lookup (is_at (slice_cmp nat_cmp name)) (changed is_idle f es)) no_lock (gone p) ∙ sym (idle_is_none (f e.1) q)
     at_head true false p q more = rw p refl
     at_head false true p q more = more
     at_head false false p q more = rw p more
@@ -130,6 +103,9 @@ owed_nothing who name [] = refl
 owed_nothing who name (a ∷ xs) = ap (λ ns. ns ++ owed_in who name (heard who xs)) (told_nothing who name a (a.who == who) refl) ∙ owed_nothing who name xs
 
 -- a session that was told all is owed nothing
+pub told_all : (who : ℕ) (name : List ℕ) (l : LockValue) → owed_for who name (after_telling who l) ≡ []
+told_all who name l = rw (owed_nothing who name l.queue, owed_nothing who name l.stolen) refl
+
 pub all_told : (who : ℕ) (es : Locks) → owed_to who (map (λ e. (e.0, after_telling who e.1)) es) ≡ []
 all_told who [] = refl
 all_told who (e ∷ es) =
@@ -166,7 +142,7 @@ then_gone name l a b d p i q = (q.0 ∙ sym (idle_is_none l i), λ other ne. q.1
 -- ---- a session that left
 
 -- it stands in no list
-none_left : (who : ℕ) (xs : List Asker) → is_in who (dropped who xs) ≡ false
+pub none_left : (who : ℕ) (xs : List Asker) → is_in who (dropped who xs) ≡ false
 none_left who [] = refl
 none_left who (a ∷ xs) = by (a.who == who) refl (none_left who xs)
   where
@@ -199,10 +175,5 @@ left_owed who name l =
     (not_owed who name (granted (is_first who l.queue) (dropped who l.queue)) (in_granted who (is_first who l.queue) (dropped who l.queue) ∙ none_left who l.queue))
     ∙ not_owed who name (dropped who l.stolen) (none_left who l.stolen)
 
-pub none_owed : (who : ℕ) (es : Locks) → owed_to who (kept_by (without who) es) ≡ []
-none_owed who [] = refl
-none_owed who (e ∷ es) = by (is_idle (without who e.1)) (none_owed who es)
-  where
-    by : (b : Bool) → owed_to who (kept_by (without who) es) ≡ [] → owed_to who (cond b (kept_by (without who) es) ((e.0, without who e.1) ∷ kept_by (without who) es)) ≡ []
-    by true rest = rest
-    by false rest = ap (λ ns. ns ++ owed_to who (kept_by (without who) es)) (left_owed who e.0 e.1) ∙ rest
+pub none_owed : (who : ℕ) (es : Locks) → owed_to who (changed is_idle (without who) es) ≡ []
+none_owed who es = gathered_changed is_idle no_lock (owed_for who) (idle_owes who) (without who) (λ name l. []) (λ name l. left_owed who name l) es ∙ gathers_nothing es

@@ -1,2 +1,3 @@
+pub mod ByName
 pub mod Lock
 pub mod LockTable

@@ -1,25 +1,26 @@
 -- The locks of a server, by name.
-use Rattle.std.specs.Prelude.{◌≡◌, ◌≢◌, ℕ, Bool, true, false, not, ◌&&◌, List, [], ◌∷◌, ◌++◌, Result, Ok, Err, codes, nat_eq, unwrap_or}
-use Rattle.std.specs.Ordering.{nat_cmp}
-use Rattle.std.specs.Cmp.Lexicographic.{slice_cmp, pointwise}
+use Rattle.std.specs.Prelude.{◌≡◌, ◌≢◌, ℕ, Bool, true, false, not, ◌&&◌, List, Result, Ok, Err, codes, nat_eq}
+use Rattle.std.specs.Cmp.Lexicographic.{pointwise}
 use Rattle.std.specs.List.{list_any}
-use Rattle.std.specs.List.Sorted.{IsStrictlySortedBy}
-use Rattle.std.specs.Map.{lookup, keys_of, set_value}
-use Rattle.std.specs.BTreeMap.{is_at}
-use Rattle.ovs_types.specs.Names.{is_id}
-use Rattle.ovs_locks.specs.Lock.{LockValue, no_lock, stands, AsksAs, owed_for, after_one, SameSessions}
+use Rattle.ovs_data.specs.Names.{is_id}
+use Rattle.ovs_locks.specs.ByName.{ByName, Ascends, named, gathered}
+use Rattle.ovs_locks.specs.ByName as by_name
+use Rattle.ovs_locks.specs.Lock.{LockValue, no_lock, is_idle, stands, AsksAs, owed_for, SameSessions}
 use Rattle.ovs_locks.specs.declared.notice.LockNotice.{LockNotice}
 use Rattle.ovs_locks.specs.declared.asker.Asking.{Asking}
 use Rattle.ovs_locks.specs.declared.error.LockError.{LockError}
 use Rattle.ovs_locks.specs.declared.error.LockError.TheVariants.{BadLock, AlreadyAsked, NoMemory}
 
--- locks by name
 abbrev pub Locks : Type 0
-Locks = List (List ℕ × LockValue)
+Locks = ByName LockValue
 
 -- by the bytes of the names, each once
 abbrev pub AscendByName : Locks → Type 0
-AscendByName locks = IsStrictlySortedBy (slice_cmp nat_cmp) (keys_of locks)
+AscendByName locks = Ascends locks
+
+-- in each a session stands
+abbrev pub NoneIdle : Locks → Type 0
+NoneIdle locks = by_name.NoneIdle is_idle locks
 
 -- an <id>, but for `_none`, which no session holds
 abbrev pub is_lock : List ℕ → Bool
@@ -27,7 +28,11 @@ is_lock name = is_id name && not (pointwise nat_eq name (codes "_none"))
 
 -- the lock of a name; nobody asked for one that isn't there
 abbrev pub lock_at : List ℕ → Locks → LockValue
-lock_at name locks = unwrap_or (lookup (is_at (slice_cmp nat_cmp name)) locks) no_lock
+lock_at name locks = named no_lock name locks
+
+-- the lock of this name becomes what f makes of it, and all others stay as they are
+abbrev pub ChangesAt : List ℕ → (LockValue → LockValue) → Locks → Locks → Type 0
+ChangesAt name f old new = by_name.ChangesAt is_idle no_lock name f old new
 
 -- the lock of this name becomes this, and no other changes
 abbrev pub Becomes : Locks → List ℕ → LockValue → Locks → Type 0
@@ -47,12 +52,7 @@ AnswersAs how who name locks (Err NoMemory) = (is_lock name ≡ true) × AsksAs 
 
 -- what a session is owed, lock by lock
 abbrev pub owed_to : ℕ → Locks → List LockNotice
-owed_to who [] = []
-owed_to who (e ∷ es) = owed_for who e.0 e.1 ++ owed_to who es
-
--- the session is told the first notice that it is owed for the lock of this name
-abbrev pub after_one_of : ℕ → List ℕ → Locks → Locks
-after_one_of who name locks = set_value (is_at (slice_cmp nat_cmp name)) locks (after_one who (lock_at name locks))
+owed_to who locks = gathered (owed_for who) locks
 
 -- each lock has the sessions that it had, in the same order
 abbrev pub KeepsSessions : Locks → Locks → Type 0

@@ -1,6 +1,6 @@
 //! Why a call is refused.
 
-use ovs_types::NoMemory;
+use ovs_json::NoMemory;
 use thiserror::Error;
 
 /// Why a lock wasn't asked for.

@@ -10,5 +10,6 @@ mod notice;
 
 pub use asker::Asking;
 pub use error::{LockError, NeverAsked};
-pub use lock_table::LockTable;
+pub use lock::Lock;
+pub use lock_table::{LockTable, is_lock};
 pub use notice::LockNotice;

@@ -1,16 +1,18 @@
 //! One lock.
 
-ghost use Rattle.std.specs.Prelude.{◌≡◌, ◌≤◌, ◌++◌, OnOk, OnErr, IfOk, slice_get, vec_len, vec_capacity};
-ghost use Rattle.ovs_locks.specs.Lock.{no_lock, is_in, stands, owner, is_first, appended, stolen_by, asked, AsksAs, without, after_telling, owed_for, owed_in, heard, dropped, granted, notices_of, is_idle, is_due, first_due, heard_first, after_one};
+ghost use Rattle.std.specs.Prelude.{◌≡◌, ◌≤◌, false, ◌++◌, OnOk, OnErr, IfOk, slice_get, vec_len, vec_capacity};
+ghost use Rattle.ovs_locks.specs.Lock.{no_lock, is_in, stands, owner, is_first, is_free, appended, stolen_by, put_first, asked, AsksAs, without, forgotten, granted_first, robbed_first, after_telling, owed_for, owed_in, is_owed, heard, dropped, granted, notices_of, is_idle, is_due, first_due, heard_first, after_one};
 
 use crate::asker::{Asker, Asking, Owed};
 use crate::error::LockError;
 use crate::notice::LockNotice;
-use ovs_types::{NoMemory, Text};
+use ovs_json::{NoMemory, Text};
 use std::alloc::Global;
 use std::marker::Model;
 
-/// The sessions that asked for one lock: a queue, the first of which owns it, and those from whom it was stolen.
+/// The sessions that asked for one lock: a queue, the first of which owns it, and those from whom it was stolen. A session
+/// stands in one of them from the time that it asks until it leaves, with what it is owed and wasn't told. Each call that puts
+/// a session into the queue makes room for it in both lists, so that no other takes memory.
 #[derive(Drop)]
 pub struct Lock {
     queue: Vec<Asker>,
@@ -153,8 +155,8 @@ fn first_of(owed: Owed, name: &Text) -> Result<Option<LockNotice>, NoMemory>
 }
 
 impl Lock {
-    /// Nobody asked.
-    pub(crate) fn new(alloc: Global) -> Lock
+    /// A lock for which nobody asked.
+    pub fn new(alloc: Global) -> Lock
         ensures value { result ≡ no_lock }
     {
         Lock {
@@ -164,14 +166,14 @@ impl Lock {
     }
 
     /// Whether a session stands in one of the lists.
-    pub(crate) fn stands(&self, who: u64) -> bool
+    pub fn stands(&self, who: u64) -> bool
         ensures value { result ≡ stands who self.now }
     {
         is_in(&self.queue, who) || is_in(&self.stolen, who)
     }
 
     /// The session that owns the lock.
-    pub(crate) fn owner(&self) -> Option<u64>
+    pub fn owner(&self) -> Option<u64>
         ensures value { result ≡ owner self.now }
     {
         match self.queue.as_slice() {
@@ -181,14 +183,24 @@ impl Lock {
     }
 
     /// Whether no session stands in the lists.
-    pub(crate) fn is_idle(&self) -> bool
+    pub fn is_idle(&self) -> bool
         ensures value { result ≡ is_idle self.now }
     {
         self.queue.is_empty() && self.stolen.is_empty()
     }
 
-    // Puts a session last.
-    fn append(&mut self, who: u64) -> Result<(), NoMemory>
+    /// Whether nobody stands in the queue, so that the lock has no owner.
+    pub fn is_free(&self) -> bool
+        ensures value { result ≡ is_free self.now.queue }
+    {
+        self.queue.is_empty()
+    }
+
+    /// Puts a session last in the queue.
+    ///
+    /// # Errors
+    /// `NoMemory` alone; the lock is then as it was.
+    pub fn append(&mut self, who: u64) -> Result<(), NoMemory>
         ensures value { OnOk result (self.new ≡ appended who self.old) }
         ensures unchanged { OnErr result (self.new ≡ self.old) }
     {
@@ -197,8 +209,11 @@ impl Lock {
         Ok(())
     }
 
-    // Puts a session first, in the place of the owner, from whom the lock is stolen.
-    fn steal(&mut self, who: u64) -> Result<(), NoMemory>
+    /// Puts a session first, in the place of the owner, from whom the lock is stolen.
+    ///
+    /// # Errors
+    /// `NoMemory` alone; the lock is then as it was.
+    pub fn steal(&mut self, who: u64) -> Result<(), NoMemory>
         ensures value { OnOk result (self.new ≡ stolen_by who self.old) }
         ensures unchanged { OnErr result (self.new ≡ self.old) }
     {
@@ -213,10 +228,25 @@ impl Lock {
         Ok(())
     }
 
+    /// Puts a session first in the queue. The lock is stolen from nobody.
+    ///
+    /// # Errors
+    /// `NoMemory` alone; the lock is then as it was.
+    pub fn put_first(&mut self, who: u64) -> Result<(), NoMemory>
+        ensures value { OnOk result (self.new ≡ put_first who self.old) }
+        ensures unchanged { OnErr result (self.new ≡ self.old) }
+    {
+        self.stolen.reserve(self.queue.len() + 1)?;
+        self.queue.insert(0, Asker::new(who))?;
+        Ok(())
+    }
+
     /// A session asks for the lock. Answers whether it owns it now.
+    #[tactic(auto, using(crate::proofs::Idle::busy))]
     pub(crate) fn ask(&mut self, who: u64, how: Asking) -> Result<bool, LockError>
         ensures answer { AsksAs how who self.old result }
         ensures after { OnOk result (self.new ≡ asked how who self.old) }
+        ensures busy { OnOk result (is_idle self.new ≡ false) }
         ensures unchanged { OnErr result (self.new ≡ self.old) }
     {
         if self.stands(who) {
@@ -235,26 +265,62 @@ impl Lock {
         }
     }
 
-    /// Takes a session out of both lists. If it was the owner, the next one is.
-    pub(crate) fn leave(&mut self, who: u64)
+    /// Takes a session out of both lists. If it was the owner, the next one is, and is owed the notice of it. No memory is
+    /// taken.
+    pub fn leave(&mut self, who: u64)
         ensures value { self.new ≡ without who self.old }
     {
         let was_owner = is_first(&self.queue, who);
-        drop_session(&mut self.queue, who);
-        drop_session(&mut self.stolen, who);
+        self.forget(who);
         grant(&mut self.queue, was_owner);
     }
 
+    /// Takes a session out of both lists. Nobody is told that it owns the lock for that. No memory is taken.
+    pub fn forget(&mut self, who: u64)
+        ensures value { self.new ≡ forgotten who self.old }
+    {
+        drop_session(&mut self.queue, who);
+        drop_session(&mut self.stolen, who);
+    }
+
+    /// The first of the queue is owed the notice that it owns the lock. No memory is taken.
+    pub fn grant_first(&mut self)
+        ensures value { self.new ≡ granted_first self.old }
+    {
+        grant(&mut self.queue, true);
+    }
+
+    /// The lock is stolen from the first of the queue, and no session here has it for that. No memory is taken.
+    pub fn rob(&mut self)
+        ensures value { self.new ≡ robbed_first self.old }
+    {
+        if self.queue.is_empty() {
+            return;
+        }
+        let first = self.queue.remove(0);
+        self.stolen.push_reserved(first.robbed());
+    }
+
     /// Notes that a session was told what it was owed.
-    pub(crate) fn note_told(&mut self, who: u64)
+    pub fn note_told(&mut self, who: u64)
         ensures value { self.new ≡ after_telling who self.old }
     {
         hear(&mut self.queue, who);
         hear(&mut self.stolen, who);
     }
 
+    /// Whether a session is owed a notice for this lock.
+    pub fn owes(&self, who: u64) -> bool
+        ensures value { result ≡ is_owed who self.now }
+    {
+        first_due(&self.queue, who).is_due() || first_due(&self.stolen, who).is_due()
+    }
+
     /// Adds what a session is owed for this lock, which has this name.
-    pub(crate) fn add_owed(
+    ///
+    /// # Errors
+    /// `NoMemory` alone; some notices may be added then.
+    pub fn add_owed(
         &self,
         who: u64,
         name: &Text,
@@ -266,8 +332,11 @@ impl Lock {
         add_owed(&self.stolen, who, name, notices)
     }
 
-    /// The first notice of what a session is owed for this lock, which has this name.
-    pub(crate) fn first_notice(&self, who: u64, name: &Text) -> Result<Option<LockNotice>, NoMemory>
+    /// The first notice of what a session is owed for this lock, which has this name; `None` where it is owed nothing.
+    ///
+    /// # Errors
+    /// `NoMemory` alone.
+    pub fn first_notice(&self, who: u64, name: &Text) -> Result<Option<LockNotice>, NoMemory>
         ensures value { IfOk result (λ notice. notice ≡ slice_get (owed_for who name.now self.now) 0) }
     {
         let due = first_due(&self.queue, who);
@@ -279,7 +348,7 @@ impl Lock {
     }
 
     /// Notes that a session was told the first notice that it was owed.
-    pub(crate) fn note_one_told(&mut self, who: u64)
+    pub fn note_one_told(&mut self, who: u64)
         ensures value { self.new ≡ after_one who self.old }
     {
         if !hear_first(&mut self.queue, who) {

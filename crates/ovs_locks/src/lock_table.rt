@@ -1,20 +1,26 @@
 //! The locks of a server, by name.
 
-ghost use Rattle.std.specs.Prelude.{◌≡◌, ◌≢◌, ℕ, List, [], true, false, OnOk, OnErr, IfOk, drop, slice_get};
-ghost use Rattle.ovs_locks.specs.Lock.{no_lock, owner, stands, asked, without, after_telling};
-ghost use Rattle.ovs_locks.specs.LockTable.{AscendByName, is_lock, lock_at, Becomes, AllBecome, AnswersAs, owed_to, after_one_of, KeepsSessions};
+ghost use Rattle.std.specs.Prelude.{◌≡◌, ◌≢◌, ℕ, List, [], true, false, OnOk, OnErr, IfOk, drop, is_some, slice_get};
+ghost use Rattle.std.specs.BTreeMap.{IsOrdered, Updates, is_at};
+ghost use Rattle.std.specs.Map.{remove_entry};
+ghost use Rattle.std.specs.Cmp.Lexicographic.{slice_cmp};
+ghost use Rattle.std.specs.Ordering.{nat_cmp};
+ghost use Rattle.ovs_locks.specs.Lock.{owner, stands, is_idle, asked, without, after_telling, after_one};
+ghost use Rattle.ovs_locks.specs.LockTable.{AscendByName, is_lock, lock_at, Becomes, AllBecome, AnswersAs, owed_to, KeepsSessions, NoneIdle, ChangesAt};
 
 use crate::asker::Asking;
 use crate::error::{LockError, NeverAsked};
 use crate::lock::Lock;
 use crate::notice::LockNotice;
-use ovs_types::{NoMemory, Text, is_id};
+use ovs_data::is_id;
+use ovs_json::{NoMemory, Text};
 use std::alloc::Global;
 use std::collections::BTreeMap;
 use std::marker::Model;
 
 /// The locks of a server, by name: for each the sessions that asked for it, in two lists. The first of the queue owns the
-/// lock; those from whom it was stolen stand in the other until they unlock it (RFC 7047 section 4.1.8).
+/// lock; those from whom it was stolen stand in the other until they unlock it (RFC 7047 section 4.1.8). A name in which no
+/// session stands leaves the table.
 #[derive(Drop)]
 pub struct LockTable {
     locks: BTreeMap<Text, Lock>,
@@ -27,7 +33,7 @@ impl Model for LockTable {
     ghost use Rattle.std.specs.Cmp.Lexicographic.{slice_cmp};
     ghost use Rattle.std.specs.Coded.{coded×, coded_ℕ, coded_list};
     ghost use Rattle.ovs_locks.specs.contracts.lock.Lock as lock_row;
-    ghost use Rattle.ovs_locks.specs.LockTable.{Locks};
+    ghost use Rattle.ovs_locks.specs.LockTable.{Locks, NoneIdle};
 
     ghost Value = { Locks };
 
@@ -35,14 +41,23 @@ impl Model for LockTable {
 
     ghost view = { λ t. t.locks.entries };
 
-    ghost invariant = { λ t. IsOrdered (slice_cmp nat_cmp) t.locks };
+    ghost invariant = { λ t. IsOrdered (slice_cmp nat_cmp) t.locks × NoneIdle t.locks.entries };
 }
 
-// Whether a lock may have this name.
-fn is_lock(name: &str) -> bool
+/// Whether a lock may have this name: an `<id>` (RFC 7047 section 3.1), and not `_none`, which no session holds.
+pub fn is_lock(name: &str) -> bool
     ensures value { result ≡ is_lock name.now }
 {
     is_id(name) && name != "_none"
+}
+
+// Takes a lock out. A function of its own, since between a write and the taking out a lock may be idle.
+fn take_out(locks: &mut BTreeMap<Text, Lock>, name: &Text)
+    ensures entries { locks.new.entries ≡ remove_entry (is_at (slice_cmp nat_cmp name.now)) locks.old.entries }
+    ensures updates { Updates (slice_cmp nat_cmp) locks.old locks.new name.now None }
+    ensures ordered { IsOrdered (slice_cmp nat_cmp) locks.new }
+{
+    let _ = locks.remove(name);
 }
 
 impl LockTable {
@@ -70,14 +85,15 @@ impl LockTable {
         }
         let mut lock = Lock::new(alloc);
         let answer = lock.ask(who, how)?;
-        match self.add(name, lock) {
+        match self.put(name, lock) {
             Ok(()) => Ok(answer),
             Err(NoMemory) => Err(LockError::NoMemory),
         }
     }
 
     // Adds a lock that isn't there.
-    fn add(&mut self, name: &Text, lock: Lock) -> Result<(), NoMemory>
+    fn put(&mut self, name: &Text, lock: Lock) -> Result<(), NoMemory>
+        requires busy { is_idle lock ≡ false }
         ensures value { OnOk result (Becomes self.old name.now lock self.new) }
         ensures unchanged { OnErr result (self.new ≡ self.old) }
         ensures ascending { AscendByName self.new }
@@ -144,6 +160,8 @@ impl LockTable {
         ensures never { OnErr result (stands who (lock_at name.now self.old) ≡ false) }
         ensures unchanged { OnErr result (self.new ≡ self.old) }
         ensures ascending { OnOk result (AscendByName self.new) }
+        // Where the last session left, the name is gone.
+        ensures none_idle { OnOk result (NoneIdle self.new) }
     {
         if !self.stands(who, name) {
             return Err(NeverAsked);
@@ -156,21 +174,14 @@ impl LockTable {
     fn leave(&mut self, who: u64, name: &Text)
         ensures after { Becomes self.old name.now (without who (lock_at name.now self.old)) self.new }
         ensures ascending { AscendByName self.new }
+        ensures none_idle { NoneIdle self.new }
     {
         if let Some(lock) = self.locks.get_mut(name) {
             lock.leave(who);
             if lock.is_idle() {
-                self.remove(name);
+                take_out(&mut self.locks, name);
             }
         }
-    }
-
-    // Takes a lock away.
-    fn remove(&mut self, name: &Text)
-        ensures after { Becomes self.old name.now no_lock self.new }
-        ensures ascending { AscendByName self.new }
-    {
-        let _ = self.locks.remove(name);
     }
 
     /// Takes a session out of all lists, with what it was owed; locks that it owned have their next owner.
@@ -179,6 +190,7 @@ impl LockTable {
         ensures gone { (name : List ℕ) → stands who (lock_at name self.new) ≡ false }
         ensures nothing { owed_to who self.new ≡ [] }
         ensures ascending { AscendByName self.new }
+        ensures none_idle { NoneIdle self.new }
     {
         self.locks.retain(|_name, lock| {
             lock.leave(who);
@@ -237,6 +249,7 @@ impl LockTable {
     pub fn first_notice(&self, who: u64) -> Result<Option<LockNotice>, NoMemory>
         ensures value { IfOk result (λ notice. notice ≡ slice_get (owed_to who self.now) 0) }
         ensures by_name { AscendByName self.now }
+        ensures none_idle { NoneIdle self.now }
     {
         for (name, lock) in self.locks.iter() {
             let notice = lock.first_notice(who, name)?;
@@ -247,9 +260,22 @@ impl LockTable {
         Ok(None)
     }
 
+    /// Whether a session is owed a notice, so that `first_notice` has one. No memory is taken.
+    pub fn owes(&self, who: u64) -> bool
+        ensures value { result ≡ is_some (slice_get (owed_to who self.now) 0) }
+    {
+        for (_name, lock) in self.locks.iter() {
+            if lock.owes(who) {
+                return true;
+            }
+        }
+        false
+    }
+
     // Notes that a session was told the first notice that it was owed for a lock.
     fn note_one_told(&mut self, who: u64, name: &Text)
-        ensures value { self.new ≡ after_one_of who name.now self.old }
+        ensures after { ChangesAt name.now (after_one who) self.old self.new }
+        ensures ascending { AscendByName self.new }
     {
         if let Some(lock) = self.locks.get_mut(name) {
             lock.note_one_told(who);

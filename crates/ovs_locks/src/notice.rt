@@ -3,7 +3,7 @@
 ghost use Rattle.std.specs.Prelude.{◌≡◌};
 ghost use Rattle.ovs_locks.specs.Lock.{name_told};
 
-use ovs_types::Text;
+use ovs_json::Text;
 
 /// What became of a lock that a session asked for.
 #[derive(Debug, Drop)]

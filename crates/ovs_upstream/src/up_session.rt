@@ -11,10 +11,10 @@ ghost use Rattle.ovs_upstream.specs.Requests.{schema_request, CanBeAsked};
 ghost use Rattle.ovs_upstream.specs.Hearing.{says, change_in, heard, opened, linked, placed, reached, hears_at, hears, opening, at_stage, links_in};
 
 use crate::error::UpError;
-use crate::pending::Answer;
 use crate::requests::{monitor_request, schema_request};
 use crate::talk::{answer_in, noticed, replied, update_in};
 use crate::up_event::{Links, UpEvent};
+use ovs_authority::Answer;
 use ovs_json::{NoMemory, is_empty_object, is_word};
 use ovs_links::Link;
 use ovs_rows::{Change, ChangeError};

@@ -91,10 +91,10 @@ impl Session {
         ensures shown { OnOk result (MayBeShown self.new.reader (folded_in node.now)) }
         ensures refused { IfErr result (IsNotPassed request.now) }
     {
-        let request = boxed(alloc, self.upward.pass(alloc, request)?)?;
+        let request = self.upward.pass(alloc, request)?;
         let turn = boxed(
             alloc,
-            self.reader.take_message(alloc, &request, node.folded())?,
+            self.reader.take_message(alloc, request, node.folded())?,
         )?;
         self.downward.send_any(alloc, turn.out.as_ref())?;
         Ok(())

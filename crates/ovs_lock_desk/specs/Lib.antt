@@ -1,0 +1,4 @@
+pub mod Course
+pub mod DeskLock
+pub mod LateSteal
+pub mod LockDesk

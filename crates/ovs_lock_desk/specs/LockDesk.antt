@@ -1,0 +1,133 @@
+-- The locks of a relay's desk, by name.
+use Rattle.std.specs.Prelude.{◌≡◌, ℕ, Bool, false, not, ◌&&◌, ◌||◌, List, [], ◌∷◌, ◌++◌, map, filter, Option, Some, None, if◌then◌else◌, unwrap_or, option_map}
+use Rattle.std.specs.List.{list_any}
+use Rattle.serde_json.specs.Data.{Data}
+use Rattle.ovs_locks.specs.ByName.{ByName, Ascends, named, changed, gathered}
+use Rattle.ovs_locks.specs.ByName as by_name
+use Rattle.ovs_locks.specs.declared.notice.LockNotice.{LockNotice}
+use Rattle.ovs_locks.specs.Lock.{owed_for, stands, is_owed}
+use Rattle.ovs_locks.specs.LockTable.{is_lock}
+use Rattle.ovs_lock_desk.specs.Course.{is_sent, verb_due}
+use Rattle.ovs_lock_desk.specs.LateSteal.{is_due_late, is_own_open}
+use Rattle.ovs_lock_desk.specs.DeskLock.{DeskLockValue, no_desk_lock, is_desk_idle, step, refusal, enters}
+use Rattle.ovs_lock_desk.specs.declared.course.Event.{Event}
+use Rattle.ovs_lock_desk.specs.declared.course.Event.TheVariants as events
+use Rattle.ovs_lock_desk.specs.declared.course.LockVerb.{LockVerb}
+use Rattle.ovs_lock_desk.specs.declared.desk_notice.DeskNotice.{DeskNotice}
+use Rattle.ovs_lock_desk.specs.declared.desk_notice.DeskNotice.TheVariants as tells
+use Rattle.ovs_lock_desk.specs.declared.error.DeskError.{DeskError}
+use Rattle.ovs_lock_desk.specs.declared.error.DeskError.TheVariants.{BadLock}
+use Rattle.ovs_lock_desk.specs.declared.late_steal.LateSteal.{LateSteal}
+
+abbrev pub DeskLocks : Type 0
+DeskLocks = ByName DeskLockValue
+
+-- whether there is a source, and the locks, ascending by their names
+pub record DeskValue : Type 0 where
+  pub has_source : Bool
+  pub locks : DeskLocks
+
+-- none of them is idle: each has a session in its lists, an answer that is owed, or something under way
+abbrev pub NoneIdle : DeskLocks → Type 0
+NoneIdle locks = by_name.NoneIdle is_desk_idle locks
+
+-- what holds of a desk's locks at all times: their names ascend, and idle ones are gone
+pub record IsDeskTable (locks : DeskLocks) : Type 0 where
+  pub ascend : Ascends locks
+  pub none_idle : NoneIdle locks
+
+-- the lock of a name; nobody asked for one that isn't there
+abbrev pub desk_lock_at : List ℕ → DeskLocks → DeskLockValue
+desk_lock_at name locks = named no_desk_lock name locks
+
+-- the lock of this name becomes what f makes of it, and all others stay as they are
+abbrev pub ChangesAt : List ℕ → (DeskLockValue → DeskLockValue) → DeskLocks → DeskLocks → Type 0
+ChangesAt name f old new = by_name.ChangesAt is_desk_idle no_desk_lock name f old new
+
+-- each lock becomes what the event makes of it
+abbrev pub stepped : Event → DeskLocks → DeskLocks
+stepped event locks = changed is_desk_idle (step event) locks
+
+-- why a session's asking is refused: only a lock that is asked for needs a name that a lock may have
+abbrev pub refusal_at : Bool → LockVerb → ℕ → List ℕ → DeskLocks → Option DeskError
+refusal_at has_source verb who name locks =
+    if enters verb && not (is_lock name) then Some BadLock else refusal has_source verb who (desk_lock_at name locks)
+
+-- ---- what is due upward
+
+abbrev pub or_else : {X : Type 0} → Option X → Option X → Option X
+or_else None y = y
+or_else (Some x) y = Some x
+
+-- of the least name that has something due: its name, and what is due first
+abbrev pub first_due_up : DeskLocks → Option (List ℕ × LockVerb)
+first_due_up [] = None
+first_due_up (e ∷ es) = or_else (option_map (λ verb. (e.0, verb)) (verb_due e.1.course)) (first_due_up es)
+
+abbrev pub SendsOf : Option (List ℕ × LockVerb) → ℕ → DeskLocks → DeskLocks → Type 0
+SendsOf None number old new = new ≡ old
+SendsOf (Some d) number old new = ChangesAt d.0 (step (events.Sent number)) old new
+
+-- what is due first of the least name that has something due went up under this number
+abbrev pub SendsFirst : ℕ → DeskLocks → DeskLocks → Type 0
+SendsFirst number old new = SendsOf (first_due_up old) number old new
+
+-- whether a request of this number isn't answered
+abbrev pub is_sent_at : ℕ → DeskLocks → Bool
+is_sent_at n [] = false
+is_sent_at n (e ∷ es) = is_sent n e.1.course || is_sent_at n es
+
+-- ---- what is owed
+
+abbrev pub answers_here : ℕ → List ℕ → DeskLockValue → List (List ℕ × LateSteal)
+answers_here who name l = map (λ late. (name, late)) (filter (is_due_late who) l.late)
+
+-- the steals of a session that were answered and not told, lock by lock
+abbrev pub answers_to : ℕ → DeskLocks → List (List ℕ × LateSteal)
+answers_to who locks = gathered (answers_here who) locks
+
+abbrev pub notices_here : ℕ → List ℕ → DeskLockValue → List LockNotice
+notices_here who name l = owed_for who name l.lock
+
+-- the notices that a session is owed, lock by lock
+abbrev pub notices_to : ℕ → DeskLocks → List LockNotice
+notices_to who locks = gathered (notices_here who) locks
+
+-- how a late answer is told, under the id of the request
+abbrev pub told_of : LateSteal → DeskNotice
+told_of late = tells.Answered late.id (unwrap_or late.won false)
+
+-- the answers that a session is owed, as they are told
+abbrev pub answers_told : ℕ → DeskLocks → List DeskNotice
+answers_told who locks = map (λ (a : List ℕ × LateSteal). told_of a.1) (answers_to who locks)
+
+-- all that a session is owed: first the answers, then the notices
+abbrev pub owed_to : ℕ → DeskLocks → List DeskNotice
+owed_to who locks = answers_told who locks ++ map tells.Lock (notices_to who locks)
+
+abbrev pub open_here : ℕ → List ℕ → DeskLockValue → List Data
+open_here who name l = map (λ (late : LateSteal). late.id) (filter (is_own_open who) l.late)
+
+-- the ids of a session's steals that aren't answered
+abbrev pub open_steals : ℕ → DeskLocks → List Data
+open_steals who locks = gathered (open_here who) locks
+
+-- whether a session stands in the lists of some lock
+abbrev pub stands_at : ℕ → DeskLocks → Bool
+stands_at who locks = list_any (λ (e : List ℕ × DeskLockValue). stands who e.1.lock) locks
+
+-- whether a session is owed something for a lock
+abbrev pub owes_here : ℕ → DeskLockValue → Bool
+owes_here who l = list_any (is_due_late who) l.late || is_owed who l.lock
+
+-- whether a session is owed an answer or a notice
+abbrev pub owes_at : ℕ → DeskLocks → Bool
+owes_at who [] = false
+owes_at who (e ∷ es) = owes_here who e.1 || owes_at who es
+
+-- a session stands nowhere, is owed nothing, and waits for no answer
+pub record IsGone (who : ℕ) (locks : DeskLocks) : Type 0 where
+  pub stands : stands_at who locks ≡ false
+  pub answers : answers_to who locks ≡ []
+  pub notices : notices_to who locks ≡ []
+  pub steals : open_steals who locks ≡ []

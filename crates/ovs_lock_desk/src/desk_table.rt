@@ -1,0 +1,276 @@
+//! The locks of a relay's desk, by name.
+
+ghost use Rattle.std.specs.Prelude.{◌≡◌, ◌++◌, ℕ, [], true, false, OnOk, OnErr, IfOk, slice_get, option_map};
+ghost use Rattle.std.specs.BTreeMap.{IsOrdered, insert_entry, is_at};
+ghost use Rattle.std.specs.Map.{remove_entry};
+ghost use Rattle.std.specs.Cmp.Lexicographic.{slice_cmp};
+ghost use Rattle.std.specs.Ordering.{nat_cmp};
+ghost use Rattle.ovs_lock_desk.specs.DeskLock.{no_desk_lock, step, refusal, asked_here, is_desk_idle, enters, desk_owner, AnswersBy};
+ghost use Rattle.ovs_lock_desk.specs.LockDesk.{IsDeskTable, desk_lock_at, ChangesAt, stepped, SendsFirst, first_due_up, answers_told, owed_to, answers_to, notices_to, is_sent_at, owes_at};
+
+use crate::course::{Event, LockVerb};
+use crate::desk_lock::DeskLock;
+use crate::desk_notice::DeskNotice;
+use crate::error::DeskError;
+use crate::late_steal::LateSteal;
+use ovs_json::{NoMemory, Text};
+use ovs_locks::LockNotice;
+use ovs_wire::Id;
+use std::alloc::Global;
+use std::collections::BTreeMap;
+use std::marker::Model;
+
+/// The locks of a relay's desk, by name. A lock that is idle leaves.
+#[derive(Drop)]
+pub struct DeskTable {
+    locks: BTreeMap<Text, DeskLock>,
+}
+
+impl Model for DeskTable {
+    ghost use Rattle.std.specs.Prelude.{ℕ, List};
+    ghost use Rattle.std.specs.BTreeMap.{IsOrdered};
+    ghost use Rattle.std.specs.Ordering.{nat_cmp};
+    ghost use Rattle.std.specs.Cmp.Lexicographic.{slice_cmp};
+    ghost use Rattle.std.specs.Coded.{coded×, coded_ℕ, coded_list};
+    ghost use Rattle.ovs_lock_desk.specs.contracts.desk_lock.DeskLock as lock_row;
+    ghost use Rattle.ovs_lock_desk.specs.LockDesk.{DeskLocks, NoneIdle};
+
+    ghost Value = { DeskLocks };
+
+    ghost coded = { coded_list (coded× (coded_list coded_ℕ) lock_row.the_row.coded) };
+
+    ghost view = { λ t. t.locks.entries };
+
+    ghost invariant = { λ t. IsOrdered (slice_cmp nat_cmp) t.locks × NoneIdle t.locks.entries };
+}
+
+// Takes a lock out. A function of its own, since between a write and the taking out a lock may be idle.
+fn take_out(locks: &mut BTreeMap<Text, DeskLock>, name: &Text)
+    ensures entries { locks.new.entries ≡ remove_entry (is_at (slice_cmp nat_cmp name.now)) locks.old.entries }
+    ensures ordered { IsOrdered (slice_cmp nat_cmp) locks.new }
+{
+    let _ = locks.remove(name);
+}
+
+impl DeskTable {
+    /// Nobody asked for a lock.
+    pub(crate) fn new(alloc: Global) -> DeskTable
+        ensures value { result ≡ [] }
+    {
+        DeskTable {
+            locks: BTreeMap::new(alloc),
+        }
+    }
+
+    /// The session that owns a lock.
+    pub(crate) fn owner(&self, name: &Text) -> Option<u64>
+        ensures value { result ≡ desk_owner (desk_lock_at name.now self.now) }
+    {
+        match self.locks.get(name) {
+            Some(lock) => lock.owner(),
+            None => None,
+        }
+    }
+
+    /// Why a session's asking for the lock of this name is refused.
+    pub(crate) fn refusal(
+        &self,
+        has_source: bool,
+        verb: LockVerb,
+        who: u64,
+        name: &Text,
+    ) -> Option<DeskError>
+        ensures value { result ≡ refusal has_source verb who (desk_lock_at name.now self.now) }
+    {
+        match self.locks.get(name) {
+            Some(lock) => lock.refusal(has_source, verb, who),
+            None => refusal_of_none(has_source, verb),
+        }
+    }
+
+    /// A session asks for the lock of this name, or steals it.
+    pub(crate) fn enter(
+        &mut self,
+        alloc: Global,
+        has_source: bool,
+        verb: LockVerb,
+        who: u64,
+        name: &Text,
+        id: &Id,
+    ) -> Result<Option<bool>, DeskError>
+        requires enters { enters verb ≡ true }
+        ensures answer { AnswersBy (refusal has_source verb who (desk_lock_at name.now self.old)) verb (desk_lock_at name.now self.old) result }
+        ensures after { OnOk result (ChangesAt name.now (asked_here has_source who verb id.now) self.old self.new) }
+        ensures unchanged { OnErr result (self.new ≡ self.old) }
+    {
+        if let Some(lock) = self.locks.get_mut(name) {
+            return lock.ask(has_source, verb, who, id);
+        }
+        let mut lock = DeskLock::new(alloc);
+        let answer = lock.ask(has_source, verb, who, id)?;
+        match self.add(name, lock) {
+            Ok(()) => Ok(answer),
+            Err(NoMemory) => Err(DeskError::NoMemory),
+        }
+    }
+
+    // Adds a lock that isn't there.
+    fn add(&mut self, name: &Text, lock: DeskLock) -> Result<(), NoMemory>
+        requires busy { is_desk_idle lock ≡ false }
+        ensures value { OnOk result (self.new ≡ insert_entry (slice_cmp nat_cmp) self.old name.now lock) }
+        ensures unchanged { OnErr result (self.new ≡ self.old) }
+    {
+        self.locks.insert(name.copy()?, lock)?;
+        Ok(())
+    }
+
+    /// What an event makes of the lock of this name.
+    pub(crate) fn at(&mut self, name: &Text, event: Event)
+        ensures after { ChangesAt name.now (step event) self.old self.new }
+    {
+        if let Some(lock) = self.locks.get_mut(name) {
+            lock.step(event);
+            if lock.is_idle() {
+                take_out(&mut self.locks, name);
+            }
+        }
+    }
+
+    /// What an event makes of all locks.
+    pub(crate) fn each(&mut self, event: Event)
+        ensures after { self.new ≡ stepped event self.old }
+    {
+        self.locks.retain(|_name, lock| {
+            lock.step(event);
+            !lock.is_idle()
+        });
+    }
+
+    /// What is due first, of the least name that has something due, went up under this number.
+    pub(crate) fn send_first(&mut self, number: u64)
+        ensures after { SendsFirst number self.old self.new }
+    {
+        let mut sent = false;
+        self.locks
+            .retain(move |_name, lock| lock.send_once(number, &mut sent));
+    }
+
+    /// What is due upward first, of the least name that has something due.
+    pub(crate) fn due(&self) -> Option<(&Text, LockVerb)>
+        ensures value { option_map (λ d. (d.0.now, d.1)) result ≡ first_due_up self.now }
+        ensures table { IsDeskTable self.now }
+    {
+        for (name, lock) in self.locks.iter() {
+            if let Some(verb) = lock.due() {
+                return Some((name, verb));
+            }
+        }
+        None
+    }
+
+    /// Whether a request of this number isn't answered.
+    pub(crate) fn is_sent(&self, number: u64) -> bool
+        ensures value { result ≡ is_sent_at number self.now }
+    {
+        for (_name, lock) in self.locks.iter() {
+            if lock.is_sent(number) {
+                return true;
+            }
+        }
+        false
+    }
+
+    /// Whether a session is owed an answer or a notice.
+    pub(crate) fn owes(&self, who: u64) -> bool
+        ensures value { result ≡ owes_at who self.now }
+    {
+        for (_name, lock) in self.locks.iter() {
+            if lock.owes(who) {
+                return true;
+            }
+        }
+        false
+    }
+
+    /// The first answer that a session is owed, and the name of its lock.
+    pub(crate) fn first_answer(&self, who: u64) -> Option<(&Text, &LateSteal)>
+        ensures value { option_map (λ d. (d.0.now, d.1.now)) result ≡ slice_get (answers_to who self.now) 0 }
+        ensures table { IsDeskTable self.now }
+    {
+        for (name, lock) in self.locks.iter() {
+            if let Some(late) = lock.first_answer(who) {
+                return Some((name, late));
+            }
+        }
+        None
+    }
+
+    /// The first notice that a session is owed.
+    pub(crate) fn first_notice(&self, who: u64) -> Result<Option<LockNotice>, NoMemory>
+        ensures value { IfOk result (λ notice. notice ≡ slice_get (notices_to who self.now) 0) }
+        ensures table { IsDeskTable self.now }
+    {
+        for (name, lock) in self.locks.iter() {
+            let notice = lock.first_notice(who, name)?;
+            if notice.is_some() {
+                return Ok(notice);
+            }
+        }
+        Ok(None)
+    }
+}
+
+impl DeskTable {
+    // Adds the answers that a session is owed.
+    fn add_answers(&self, who: u64, owed: &mut Vec<DeskNotice>) -> Result<(), NoMemory>
+        ensures value { OnOk result (owed.new.items ≡ owed.old.items ++ answers_told who self.now) }
+    {
+        for (_name, lock) in self.locks.iter() {
+            lock.add_answers(who, owed)?;
+        }
+        Ok(())
+    }
+
+    // The notices that a session is owed.
+    fn notices(&self, alloc: Global, who: u64) -> Result<Vec<LockNotice>, NoMemory>
+        ensures value { IfOk result (λ notices. notices.items ≡ notices_to who self.now) }
+    {
+        let mut notices = Vec::new(alloc);
+        for (name, lock) in self.locks.iter() {
+            lock.add_notices(who, name, &mut notices)?;
+        }
+        Ok(notices)
+    }
+
+    /// All that a session is owed: the answers, and then the notices.
+    pub(crate) fn owed(&self, alloc: Global, who: u64) -> Result<Vec<DeskNotice>, NoMemory>
+        ensures value { IfOk result (λ owed. owed.items ≡ owed_to who self.now) }
+    {
+        let mut owed = Vec::new(alloc);
+        self.add_answers(who, &mut owed)?;
+        let notices = self.notices(alloc, who)?;
+        let mut told: Vec<DeskNotice> = notices
+            .into_iter()
+            .map(|notice| DeskNotice::Lock(notice))
+            .collect(alloc)?;
+        owed.append(&mut told)?;
+        Ok(owed)
+    }
+}
+
+// Why a session's asking for a lock that isn't there is refused.
+fn refusal_of_none(has_source: bool, verb: LockVerb) -> Option<DeskError>
+    ensures value { (who : ℕ) → result ≡ refusal has_source verb who no_desk_lock }
+{
+    match verb {
+        LockVerb::Lock => None,
+        LockVerb::Steal => {
+            if has_source {
+                None
+            } else {
+                Some(DeskError::SourceLost)
+            }
+        }
+        LockVerb::Unlock => Some(DeskError::NeverAsked),
+    }
+}

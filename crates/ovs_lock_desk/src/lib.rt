@@ -1,0 +1,22 @@
+//! The lock desk of a relay: sessions ask it for the named locks of a database (RFC 7047 sections 4.1.8 to 4.1.10), and it asks
+//! its source for each, once for all of them.
+#![tactic(auto)]
+
+mod course;
+mod desk_laws;
+mod desk_lock;
+mod desk_notice;
+mod desk_table;
+mod error;
+mod late_steal;
+mod lock_desk;
+
+pub use course::{Course, Due, Event, LockVerb};
+pub use desk_laws::{
+    a_lock_is_held_only_where_the_source_gave_it, what_is_told_is_owed_no_more,
+    who_unlocks_is_told_no_more,
+};
+pub use desk_notice::DeskNotice;
+pub use error::DeskError;
+pub use late_steal::LateSteal;
+pub use lock_desk::LockDesk;

@@ -1,0 +1,255 @@
+//! The locks of a relay's desk, and whether there is a source.
+
+ghost use Rattle.std.specs.Prelude.{◌≡◌, [], true, false, OnOk, OnErr, IfOk, slice_get, option_map, if◌then◌else◌};
+ghost use Rattle.ovs_lock_desk.specs.DeskLock.{step, asked_here, desk_owner, AnswersBy};
+ghost use Rattle.ovs_lock_desk.specs.LockDesk.{IsDeskTable, IsGone, desk_lock_at, ChangesAt, SendsFirst, refusal_at, stepped, first_due_up, answers_to, notices_to, owed_to, is_sent_at, owes_at};
+
+use crate::course::{Event, LockVerb};
+use crate::desk_notice::DeskNotice;
+use crate::desk_table::DeskTable;
+use crate::error::DeskError;
+use crate::late_steal::LateSteal;
+use ovs_json::{NoMemory, Text};
+use ovs_locks::{LockNotice, is_lock};
+use ovs_wire::Id;
+use std::alloc::Global;
+use std::marker::Model;
+
+/// The locks that the sessions of a relay ask for. The relay is one session of its source, so it asks for each lock once, and
+/// hands it on to its own sessions in the order in which they asked.
+#[derive(Drop)]
+pub struct LockDesk {
+    has_source: bool,
+    table: DeskTable,
+}
+
+impl Model for LockDesk {
+    ghost use Rattle.std.specs.Prelude.{Bool, refl};
+    ghost use Rattle.std.specs.Coded.{code_by, coded×, coded_bool};
+    ghost use Rattle.ovs_lock_desk.specs.contracts.desk_table.DeskTable as table_row;
+    ghost use Rattle.ovs_lock_desk.specs.LockDesk.{DeskLocks, DeskValue};
+
+    ghost Value = { DeskValue };
+
+    ghost coded = { code_by (Bool × DeskLocks) (coded× coded_bool table_row.the_row.coded)
+        (λ d. (d.has_source, d.locks)) (λ p. record { has_source = p.0; locks = p.1 }) (λ _. refl) };
+
+    ghost view = { λ d. record { has_source = d.has_source; locks = d.table } };
+}
+
+impl LockDesk {
+    /// A desk without a source, at which no session asked.
+    pub fn new(alloc: Global) -> LockDesk
+        ensures value { result ≡ record { has_source = false; locks = [] } }
+    {
+        LockDesk {
+            has_source: false,
+            table: DeskTable::new(alloc),
+        }
+    }
+
+    /// Whether there is a source.
+    pub fn has_source(&self) -> bool
+        ensures value { result ≡ self.now.has_source }
+    {
+        self.has_source
+    }
+
+    /// A session asks for a lock, steals it or unlocks it. The answer is whether it owns the lock now, for an Unlock true; it
+    /// is `None` where it comes later, by `notices`. A Lock is answered false, and `notices` tells when the session owns it.
+    ///
+    /// # Errors
+    /// The first of these that holds; nothing is changed then.
+    /// - `BadLock` for a Lock or Steal of a name that no lock may have.
+    /// - `AlreadyAsked` for a Lock or Steal where the session stands in one of the lock's lists, `NeverAsked` for an Unlock
+    ///   where it doesn't.
+    /// - `SourceLost` for a Steal without a source.
+    /// - `StealPending` for a Steal while another steal isn't answered, and for an Unlock while the session's own isn't.
+    /// - `NoMemory`, which an Unlock doesn't answer.
+    pub fn ask(
+        &mut self,
+        alloc: Global,
+        who: u64,
+        verb: LockVerb,
+        name: &Text,
+        id: &Id,
+    ) -> Result<Option<bool>, DeskError>
+        ensures answer { AnswersBy (refusal_at self.old.has_source verb who name.now self.old.locks) verb (desk_lock_at name.now self.old.locks) result }
+        ensures after { OnOk result (ChangesAt name.now (asked_here self.old.has_source who verb id.now) self.old.locks self.new.locks) }
+        ensures source { self.new.has_source ≡ self.old.has_source }
+        ensures unchanged { OnErr result (self.new ≡ self.old) }
+    {
+        match verb {
+            LockVerb::Unlock => self.unlock(who, name),
+            LockVerb::Lock | LockVerb::Steal => {
+                if !is_lock(name.as_str()) {
+                    return Err(DeskError::BadLock);
+                }
+                self.table
+                    .enter(alloc, self.has_source, verb, who, name, id)
+            }
+        }
+    }
+
+    // A session leaves the lists of a lock, with the notices that it was owed for it.
+    fn unlock(&mut self, who: u64, name: &Text) -> Result<Option<bool>, DeskError>
+        ensures answer { AnswersBy (refusal_at self.old.has_source LockVerb.Unlock who name.now self.old.locks) LockVerb.Unlock (desk_lock_at name.now self.old.locks) result }
+        ensures after { OnOk result (ChangesAt name.now (step (Event.Unlocked who)) self.old.locks self.new.locks) }
+        ensures source { self.new.has_source ≡ self.old.has_source }
+        ensures unchanged { OnErr result (self.new ≡ self.old) }
+    {
+        let refused = self
+            .table
+            .refusal(self.has_source, LockVerb::Unlock, who, name);
+        if let Some(refused) = refused {
+            return Err(refused);
+        }
+        self.table.at(name, Event::Unlocked(who));
+        Ok(Some(true))
+    }
+
+    /// The session that owns a lock: the first of its queue, and only where the source gave the lock. No memory is taken.
+    pub fn owner(&self, name: &Text) -> Option<u64>
+        ensures value { result ≡ desk_owner (desk_lock_at name.now self.now.locks) }
+    {
+        self.table.owner(name)
+    }
+
+    /// What is to be asked of the source next: of the least name that has something due, what is due first. No memory is taken.
+    pub fn due(&self) -> Option<(&Text, LockVerb)>
+        ensures value { option_map (λ d. (d.0.now, d.1)) result ≡ first_due_up self.now.locks }
+        // The locks stand in the order of their names, and none that is idle is kept.
+        ensures table { IsDeskTable self.now.locks }
+    {
+        self.table.due()
+    }
+
+    /// What `due` gives went up under this number, which no other request has. A Lock or Steal is then answered by `answered`,
+    /// an Unlock not at all. Nothing changes where nothing is due. No memory is taken.
+    pub fn sent(&mut self, number: u64)
+        ensures after { SendsFirst number self.old.locks self.new.locks }
+        ensures source { self.new.has_source ≡ self.old.has_source }
+    {
+        self.table.send_first(number);
+    }
+
+    /// Whether a request of this number isn't answered. No memory is taken.
+    pub fn is_sent(&self, number: u64) -> bool
+        ensures value { result ≡ is_sent_at number self.now.locks }
+    {
+        self.table.is_sent(number)
+    }
+
+    /// The request of this number was answered: whether the source gave the lock. Nothing changes where no request has this
+    /// number, or it was given up since. No memory is taken.
+    pub fn answered(&mut self, number: u64, won: bool)
+        ensures after { self.new ≡ record { has_source = self.old.has_source; locks = stepped (Event.Answered number won) self.old.locks } }
+    {
+        self.table.each(Event::Answered(number, won));
+    }
+
+    /// The source tells that this lock is held (`locked`, RFC 7047 section 4.1.9). Nothing changes where the desk doesn't wait
+    /// for it. No memory is taken.
+    pub fn granted(&mut self, name: &Text)
+        ensures after { ChangesAt name.now (step Event.Granted) self.old.locks self.new.locks }
+        ensures source { self.new.has_source ≡ self.old.has_source }
+    {
+        self.table.at(name, Event::Granted);
+    }
+
+    /// The source tells that this lock was stolen (`stolen`, RFC 7047 section 4.1.10). Nothing changes where it isn't held. No
+    /// memory is taken.
+    pub fn stolen(&mut self, name: &Text)
+        ensures after { ChangesAt name.now (step Event.Stolen) self.old.locks self.new.locks }
+        ensures source { self.new.has_source ≡ self.old.has_source }
+    {
+        self.table.at(name, Event::Stolen);
+    }
+
+    /// The source is lost, and with it each lock that it gave; steals that aren't answered are, with false. Nothing is due
+    /// until there is a source again. No memory is taken.
+    pub fn lost_source(&mut self)
+        ensures after { self.new ≡ record { has_source = false; locks = stepped Event.Lost self.old.locks } }
+    {
+        self.has_source = false;
+        self.table.each(Event::Lost);
+    }
+
+    /// There is a source again, which is to be asked for each lock that a session waits for. Nothing changes where there is
+    /// one. No memory is taken.
+    pub fn found_source(&mut self)
+        ensures after { self.new ≡ record { has_source = true; locks = if self.old.has_source then self.old.locks else stepped Event.Found self.old.locks } }
+    {
+        if !self.has_source {
+            self.has_source = true;
+            self.table.each(Event::Found);
+        }
+    }
+
+    /// A session ends: it stands nowhere then, and is owed nothing. Locks that it owned have their next owner. No memory is
+    /// taken.
+    pub fn end_session(&mut self, who: u64)
+        ensures after { self.new ≡ record { has_source = self.old.has_source; locks = stepped (Event.Ended who) self.old.locks } }
+        ensures gone { IsGone who self.new.locks }
+    {
+        self.table.each(Event::Ended(who));
+    }
+
+    /// Whether a session is owed an answer or a notice. No memory is taken.
+    pub fn owes(&self, who: u64) -> bool
+        ensures value { result ≡ owes_at who self.now.locks }
+    {
+        self.table.owes(who)
+    }
+
+    /// What a session is owed and wasn't told, in this order: the answers to its steals, and then what became of its locks,
+    /// each by the names of the locks, ascending. The session is owed nothing then.
+    ///
+    /// # Errors
+    /// `NoMemory` alone; the session is then owed what it was.
+    pub fn notices(&mut self, alloc: Global, who: u64) -> Result<Vec<DeskNotice>, NoMemory>
+        ensures told { IfOk result (λ notices. notices.items ≡ owed_to who self.old.locks) }
+        ensures after { OnOk result (self.new ≡ record { has_source = self.old.has_source; locks = stepped (Event.AllTold who) self.old.locks }) }
+        ensures nothing { OnOk result (owed_to who self.new.locks ≡ []) }
+        ensures unchanged { OnErr result (self.new ≡ self.old) }
+    {
+        let owed = self.table.owed(alloc, who)?;
+        self.table.each(Event::AllTold(who));
+        Ok(owed)
+    }
+
+    /// The first answer that a session is owed, which it still is then, and the name of its lock. No memory is taken.
+    pub fn first_answer(&self, who: u64) -> Option<(&Text, &LateSteal)>
+        ensures value { option_map (λ d. (d.0.now, d.1.now)) result ≡ slice_get (answers_to who self.now.locks) 0 }
+        ensures table { IsDeskTable self.now.locks }
+    {
+        self.table.first_answer(who)
+    }
+
+    /// The session was told the first answer that it is owed for this lock. No memory is taken.
+    pub fn answer_told(&mut self, who: u64, name: &Text)
+        ensures after { ChangesAt name.now (step (Event.AnswerTold who)) self.old.locks self.new.locks }
+        ensures source { self.new.has_source ≡ self.old.has_source }
+    {
+        self.table.at(name, Event::AnswerTold(who));
+    }
+
+    /// The first notice that a session is owed, which it still is then.
+    ///
+    /// # Errors
+    /// `NoMemory` alone.
+    pub fn first_notice(&self, who: u64) -> Result<Option<LockNotice>, NoMemory>
+        ensures value { IfOk result (λ notice. notice ≡ slice_get (notices_to who self.now.locks) 0) }
+        ensures table { IsDeskTable self.now.locks }
+    {
+        self.table.first_notice(who)
+    }
+
+    /// The session was told the first notice that it is owed for this lock. No memory is taken.
+    pub fn notice_told(&mut self, who: u64, name: &Text)
+        ensures after { ChangesAt name.now (step (Event.NoticeTold who)) self.old.locks self.new.locks }
+        ensures source { self.new.has_source ≡ self.old.has_source }
+    {
+        self.table.at(name, Event::NoticeTold(who));
+    }
+}
