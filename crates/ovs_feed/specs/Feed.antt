@@ -7,6 +7,10 @@ use Rattle.ovs_feed.specs.declared.item.Item.{Item}
 use Rattle.ovs_feed.specs.declared.rule.Side.{Side}
 use Rattle.ovs_feed.specs.Rule.{end, folder, values_of}
 
+-- a name that is no feed's
+abbrev pub no_table : TableId
+no_table = record { words = 0; slots = 0; views_name = 0; atom = 0; block = 0; offset = 0; slot_names = [] }
+
 -- what the folder took, how many ends were made, and what each of the first ones, which are back, sent, by their numbers
 pub record FeedValue (T : Type 0) : Type 0 where
   pub taken : List (Item T)

@@ -72,6 +72,13 @@ impl<T: Drop, K: FeedName> Feed<T, K> {
         queue.items.learn_as::<Taking>(&mut self.pass);
     }
 
+    /// How many ends were made.
+    pub fn ends(&self) -> u64
+        ensures value { result ≡ self.now.ends }
+    {
+        self.ends
+    }
+
     /// How many ends are back.
     pub fn returned(&self) -> u64
         ensures value { result ≡ length self.now.returned }

@@ -64,6 +64,7 @@ impl<T: Copied, K: FeedName> FeedEnd<T, K> {
         }
         push(rt, queue, &mut self.pass, self.number, value);
         self.sent.push_reserved(copy);
+        queue.ring();
         Ok(())
     }
 }

@@ -8,16 +8,24 @@ use crate::item::Item;
 use crate::rule::{InOrder, Side};
 use crossbeam_queue::{Pass, RuledArrayQueue};
 use std::alloc::{AllocError, Global};
-use std::marker::{Model, PhantomData};
+use std::marker::{Brand, Model, PhantomData};
+use std::sync::Wait;
+use std::thread::Parker;
 
 /// How many items the queue of a feed holds at most.
 pub const FEED_ROOM: usize = 256;
 
-/// Which feed it is.
+/// Which feed it is. A call of a function that is generic in the name picks it.
 pub trait FeedName {
     ghost use Rattle.atomic_table.specs.Seated.{TableId};
 
     ghost table: { TableId };
+}
+
+impl FeedName for Brand {
+    ghost use Rattle.ovs_feed.specs.Feed.{no_table};
+
+    ghost table = { no_table };
 }
 
 /// A feed with no ends and no name yet.
@@ -46,6 +54,7 @@ impl<T: Drop> OpenFeed<T> {
         (
             FeedQueue {
                 items,
+                bell: Parker::new(),
                 of: PhantomData,
             },
             Feed {
@@ -62,6 +71,7 @@ impl<T: Drop> OpenFeed<T> {
 #[derive(Drop)]
 pub struct FeedQueue<T: Drop, K: FeedName> {
     pub(crate) items: RuledArrayQueue<Item<T>, Side<T>, InOrder>,
+    bell: Parker,
     of: PhantomData<K>,
 }
 
@@ -74,4 +84,17 @@ impl<T: Drop, K: FeedName> Model for FeedQueue<T, K> {
     ghost view = { λ q. q.items.table.shared.table_id };
 
     ghost invariant = { λ q. q.items.table.shared.table_id ≡ K.table };
+}
+
+impl<T: Drop, K: FeedName> FeedQueue<T, K> {
+    /// Rings the bell. Each `send` rings it, and so does a thread whose end sends no more.
+    pub fn ring(&self) {
+        self.bell.unpark();
+    }
+
+    /// Sleeps until the bell was rung since the last call came back, or, if this is the first, at all. Only the folder is to call
+    /// it, where the queue was empty.
+    pub fn wait<R: Wait>(&self, rt: &R) {
+        self.bell.park(rt);
+    }
 }

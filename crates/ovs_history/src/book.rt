@@ -19,6 +19,7 @@ pub trait HistoryName<T> {
 }
 
 /// A history with no entries and no name yet.
+#[derive(Drop)]
 pub struct Opened<T> {
     head: Word<T, u64, LengthRule>,
     seen: Seen<T, u64, LengthRule>,

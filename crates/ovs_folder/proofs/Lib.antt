@@ -1,0 +1,4 @@
+pub mod Takings
+pub mod Begins
+pub mod Sent
+pub mod Fresh

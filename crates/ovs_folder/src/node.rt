@@ -1,0 +1,181 @@
+//! Takes, folds and publishes.
+
+ghost use Rattle.std.specs.Prelude.{◌≡◌, ◌++◌, ◌∷◌, ◌↔◌, [], Ok, None, false, OnOk, IfErr, IsTrue, length, map};
+ghost use Rattle.left_right.specs.Handles.{published, pending};
+ghost use Rattle.ovs_feed.specs.Feed.{IsDrained};
+ghost use Rattle.ovs_links.specs.Sets.{Holds};
+ghost use Rattle.ovs_links.specs.Settling.{chain_of, settled_of};
+ghost use Rattle.ovs_links.specs.declared.link.Link.{Link};
+ghost use Rattle.ovs_views.specs.Published.{IsNodeChain};
+ghost use Rattle.ovs_folder.specs.InStep.{IsAtRest, IsInStep};
+ghost use Rattle.ovs_folder.specs.Ledger.{IsAccountOf, WasSent, steps_in};
+
+use crate::intake::{Closed, Intake};
+use crate::node_link::NodeLink;
+use crate::report::Report;
+use ovs_feed::{FeedEnd, FeedName, FeedQueue};
+use ovs_links::{Settled, Step};
+use ovs_types::NoMemory;
+use ovs_views::{Board, Handle, NodeName, Publisher};
+use std::alloc::Global;
+use std::sync::{Mutex, Wait};
+
+/// A node's folder: the links that came in, and what is published of them.
+#[derive(Drop)]
+pub struct Node<K: NodeName, Q: FeedName, H> {
+    alloc: Global,
+    pub(crate) intake: Intake<K, Q>,
+    pub(crate) publisher: Publisher<K, H>,
+    // What the last `settle` answered.
+    pub(crate) settled: Settled,
+}
+
+// Folds in the steps that weren't folded in yet, and publishes all.
+fn show<K: NodeName, R: Wait + Drop>(
+    publisher: &mut Publisher<K, Handle<K, R>>,
+    steps: &[Step],
+) -> Result<(), NoMemory>
+    requires in_step { IsInStep (published publisher.old.handle) (pending publisher.old.handle) publisher.old.front publisher.old.kept steps.now }
+    requires chain { IsNodeChain K.schema steps.now }
+    ensures in_step { IsInStep (published publisher.new.handle) (pending publisher.new.handle) publisher.new.front publisher.new.kept steps.now }
+    ensures shown { OnOk result (published publisher.new.handle ≡ steps.now) }
+{
+    for number in publisher.len() as usize..steps.len() {
+        publisher.fold(steps[number].copy()?)?;
+    }
+    publisher.publish()
+}
+
+impl<K: NodeName, Q: FeedName, R: Wait + Drop> Node<K, Q, Handle<K, R>> {
+    /// What came in, and a publisher that has published nothing.
+    pub fn new(
+        alloc: Global,
+        intake: Intake<K, Q>,
+        publisher: Publisher<K, Handle<K, R>>,
+    ) -> Node<K, Q, Handle<K, R>>
+        requires in_step { IsInStep (published publisher.handle) (pending publisher.handle) publisher.front publisher.kept (steps_in intake.store) }
+        ensures intake { result.intake ≡ intake }
+        ensures publisher { result.publisher ≡ publisher }
+    {
+        Node {
+            alloc,
+            intake,
+            publisher,
+            settled: Settled::Done,
+        }
+    }
+
+    // Takes what was kept, settles and publishes.
+    fn work_off(&mut self) -> Result<(), NoMemory>
+        requires in_step { IsInStep (published self.old.publisher.handle) (pending self.old.publisher.handle) self.old.publisher.front self.old.publisher.kept (steps_in self.old.intake.store) }
+        ensures in_step { IsInStep (published self.new.publisher.handle) (pending self.new.publisher.handle) self.new.publisher.front self.new.publisher.kept (steps_in self.new.intake.store) }
+        ensures feed { self.new.intake.feed ≡ self.old.intake.feed }
+        ensures rest { OnOk result (IsAtRest self.new.intake self.new.settled (published self.new.publisher.handle)) }
+    {
+        self.intake.take_kept()?;
+        self.settled = self.intake.settle(self.alloc)?;
+        show(&mut self.publisher, self.intake.folded().steps())
+    }
+
+    // Takes what was kept, settles and publishes, and posts what is published then.
+    fn work_off_and_post<W: Wait>(
+        &mut self,
+        rt: &W,
+        board: &Mutex<Board<K>>,
+    ) -> Result<(), NoMemory>
+        requires in_step { IsInStep (published self.old.publisher.handle) (pending self.old.publisher.handle) self.old.publisher.front self.old.publisher.kept (steps_in self.old.intake.store) }
+        ensures in_step { IsInStep (published self.new.publisher.handle) (pending self.new.publisher.handle) self.new.publisher.front self.new.publisher.kept (steps_in self.new.intake.store) }
+        ensures feed { self.new.intake.feed ≡ self.old.intake.feed }
+        ensures rest { OnOk result (IsAtRest self.new.intake self.new.settled (published self.new.publisher.handle)) }
+    {
+        self.work_off()?;
+        board.lock(rt).post(&self.publisher.told());
+        Ok(())
+    }
+
+    /// Does what an earlier want of memory left, and then takes one link more, folds the chain, publishes it and posts it on the
+    /// board. False where the feed was empty, and nothing is left to do.
+    ///
+    /// # Errors
+    /// `NoMemory` alone; then what is left is kept for the next call.
+    pub fn fold_next<W: Wait>(
+        &mut self,
+        rt: &W,
+        queue: &FeedQueue<NodeLink<K>, Q>,
+        board: &Mutex<Board<K>>,
+    ) -> Result<bool, NoMemory>
+        requires in_step { IsInStep (published self.old.publisher.handle) (pending self.old.publisher.handle) self.old.publisher.front self.old.publisher.kept (steps_in self.old.intake.store) }
+        ensures in_step { IsInStep (published self.new.publisher.handle) (pending self.new.publisher.handle) self.new.publisher.front self.new.publisher.kept (steps_in self.new.intake.store) }
+        ensures rest { OnOk result (IsAtRest self.new.intake self.new.settled (published self.new.publisher.handle)) }
+        ensures drained { result ≡ Ok false → (self.new.intake.feed ≡ self.old.intake.feed) × IsDrained self.old.intake.feed }
+    {
+        self.work_off_and_post(rt, board)?;
+        if !self.intake.pop(rt, queue) {
+            return Ok(false);
+        }
+        self.work_off_and_post(rt, board)?;
+        Ok(true)
+    }
+
+    /// What became of all that was sent, once all ends are back and a `fold_next` after that answered false.
+    pub fn finish(self) -> Report<K, Handle<K, R>>
+        requires back { length self.intake.feed.returned ≡ self.intake.feed.ends }
+        requires drained { IsDrained self.intake.feed }
+        requires rest { IsAtRest self.intake self.settled (published self.publisher.handle) }
+        ensures store { (result.store ≡ self.intake.store) × (result.store.folded ≡ chain_of result.store) }
+        ensures settled { result.settled ≡ settled_of result.store }
+        // A view that learns what is told answers from all of the chain, and reads on while the publisher lives.
+        ensures told { (result.told ≡ steps_in result.store) × (result.told ≡ published result.publisher.handle) }
+        ensures sent { map (λ v. v.items) result.sent.items ≡ self.intake.feed.returned }
+        ensures held { (l : Link) → Holds result.store.links l → WasSent (map (λ v. v.items) result.sent.items) l }
+        ensures account { IsAccountOf result.store.links self.intake.feed.taken None result.forks result.short }
+        ensures whole { result.forks ≡ 0 → result.short ≡ 0 → (l : Link) → WasSent (map (λ v. v.items) result.sent.items) l → Holds result.store.links l }
+    {
+        let Node {
+            alloc: _,
+            intake,
+            publisher,
+            settled,
+        } = self;
+        let Closed {
+            store,
+            forks,
+            short,
+            sent,
+        } = intake.close();
+        let told = publisher.told();
+        Report {
+            store,
+            settled,
+            sent,
+            forks,
+            short,
+            told,
+            publisher,
+        }
+    }
+}
+
+impl<K: NodeName, Q: FeedName, H> Node<K, Q, H> {
+    /// An end comes back: from then on a `fold_next` that answers false says that all that it sent was taken. Another than the
+    /// next one by its number is handed back as it came.
+    pub fn join(
+        &mut self,
+        queue: &FeedQueue<NodeLink<K>, Q>,
+        end: FeedEnd<NodeLink<K>, Q>,
+    ) -> Result<(), FeedEnd<NodeLink<K>, Q>>
+        ensures feed { OnOk result (self.new.intake.feed ≡ record { taken = self.old.intake.feed.taken; ends = self.old.intake.feed.ends; returned = self.old.intake.feed.returned ++ end.1 ∷ [] }) }
+        ensures store { (self.new.intake.store ≡ self.old.intake.store) × (self.new.intake.kept ≡ self.old.intake.kept) }
+        ensures publisher { self.new.publisher ≡ self.old.publisher }
+        ensures other { IfErr result (λ back. (back ≡ end) × (self.new.intake ≡ self.old.intake)) }
+    {
+        self.intake.join(queue, end)
+    }
+
+    /// Whether all ends are back.
+    pub fn is_back(&self) -> bool
+        ensures value { IsTrue result ↔ (length self.now.intake.feed.returned ≡ self.now.intake.feed.ends) }
+    {
+        self.intake.is_back()
+    }
+}

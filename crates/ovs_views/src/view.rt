@@ -1,0 +1,234 @@
+//! A reader's view of what is published.
+
+ghost use Rattle.std.specs.Prelude.{◌≡◌, ◌⊎◌, true, false, IfOk, OnOk, OnErr, drop, is_some};
+ghost use Rattle.std.specs.List.{list_all};
+ghost use mathlib.Core.List.{IsPrefix};
+ghost use Rattle.serde_json.specs.View.{view, items_view, items_of};
+ghost use Rattle.serde_json.specs.Data.{array};
+ghost use Rattle.ovs_query.specs.Answer.{only_reads, results};
+ghost use Rattle.ovs_query.specs.RowWriting.{select_json};
+ghost use Rattle.ovs_links.specs.StepChains.{head_after_steps, position_in};
+ghost use Rattle.ovs_links.specs.Absorbing.{folded_by};
+ghost use Rattle.ovs_reader.specs.Turns.{seen_turn, turn, after_turn};
+ghost use Rattle.ovs_reader.specs.Telling.{told, after_pump};
+ghost use Rattle.ovs_views.specs.Published.{GoesOn};
+
+use crate::name::{Front, NodeName, Told};
+use crate::shown::Shown;
+use crate::view_error::{Gone, ViewError};
+use crate::view_session::ViewSession;
+use left_right::ReadHandle;
+use ovs_links::Step;
+use ovs_query::{Select, transact_read};
+use ovs_reader::Turn;
+use ovs_types::{NoMemory, TxnId};
+use ovs_wire::Message;
+use serde_json::Value;
+use std::alloc::Global;
+use std::marker::Model;
+
+/// What one reader sees of a node. A contract sees the steps that it has seen or was told of.
+#[derive(Drop)]
+pub struct View<K: NodeName> {
+    handle: ReadHandle<Shown<K>>,
+    known: Front<K>,
+}
+
+impl<K: NodeName> Model for View<K> {
+    ghost use Rattle.std.specs.Prelude.{List};
+    ghost use Rattle.std.specs.Coded.{coded_list};
+    ghost use Rattle.ovs_links.specs.contracts.step.Step as step_row;
+    ghost use Rattle.ovs_links.specs.declared.step.Step.{Step};
+
+    ghost Value = { List Step };
+
+    ghost coded = { coded_list step_row.the_row.coded };
+
+    ghost view = { λ v. v.known };
+}
+
+impl<K: NodeName> View<K> {
+    pub(crate) fn new(handle: ReadHandle<Shown<K>>, known: Front<K>) -> View<K>
+        ensures value { result ≡ known }
+    {
+        View { handle, known }
+    }
+
+    /// All that this view has seen or was told of.
+    pub fn known(&self) -> &Front<K>
+        ensures value { result.now ≡ self.now }
+    {
+        &self.known
+    }
+
+    /// From now on the view shows no less than this.
+    pub fn learn(&mut self, told: &Told<K>)
+        ensures one { (self.new ≡ self.old) ⊎ (self.new ≡ told.now) }
+        ensures kept { IsPrefix self.old self.new }
+        ensures told { IsPrefix told.now self.new }
+    {
+        self.known = self.known.longer(told);
+    }
+
+    /// The id after the last step, 0 where there is none.
+    ///
+    /// # Errors
+    /// `Gone`; then nothing is changed.
+    pub fn head(&mut self) -> Result<TxnId, Gone>
+        ensures later { OnOk result (GoesOn K.schema self.old self.new) }
+        ensures value { IfOk result (λ id. id ≡ head_after_steps 0 (folded_by K.schema self.new).steps) }
+        ensures unchanged { OnErr result (self.new ≡ self.old) }
+    {
+        let (front, id) = match self.handle.enter() {
+            None => return Err(Gone),
+            Some(shown) => (shown.since(&self.known).ok_or(Gone)?, shown.folded().head()),
+        };
+        self.known = front;
+        Ok(id)
+    }
+
+    /// Whether the id is 0 or that of a step.
+    ///
+    /// # Errors
+    /// `Gone`; then nothing is changed.
+    pub fn knows(&mut self, id: TxnId) -> Result<bool, Gone>
+        ensures later { OnOk result (GoesOn K.schema self.old self.new) }
+        ensures value { IfOk result (λ known. known ≡ is_some (position_in (folded_by K.schema self.new) id)) }
+        ensures unchanged { OnErr result (self.new ≡ self.old) }
+    {
+        let (front, known) = match self.handle.enter() {
+            None => return Err(Gone),
+            Some(shown) => (
+                shown.since(&self.known).ok_or(Gone)?,
+                shown.folded().position_of(id).is_some(),
+            ),
+        };
+        self.known = front;
+        Ok(known)
+    }
+
+    /// The rows that a select shows (RFC 7047 section 5.2.2).
+    ///
+    /// # Errors
+    /// `Gone` or `NoMemory`; then nothing is changed.
+    pub fn select(&mut self, alloc: Global, select: &Select) -> Result<Value, ViewError>
+        ensures later { OnOk result (GoesOn K.schema self.old self.new) }
+        ensures value { IfOk result (λ v. view v ≡ select_json select.now (folded_by K.schema self.new).database.rows) }
+        ensures unchanged { OnErr result (self.new ≡ self.old) }
+    {
+        let (front, rows) = match self.handle.enter() {
+            None => return Err(ViewError::Gone),
+            Some(shown) => {
+                let front = shown.since(&self.known).ok_or(Gone)?;
+                (front, select.run(alloc, shown.folded().database())?)
+            }
+        };
+        self.known = front;
+        Ok(rows)
+    }
+
+    /// The results of operations that only read (RFC 7047 section 4.1.3), all from one database.
+    ///
+    /// # Errors
+    /// `Gone` or `NoMemory`; then nothing is changed.
+    pub fn transact_read(&mut self, alloc: Global, operations: &[Value]) -> Result<Value, ViewError>
+        requires read_only { list_all (λ v. only_reads (view v)) operations.now ≡ true }
+        ensures later { OnOk result (GoesOn K.schema self.old self.new) }
+        ensures value { IfOk result (λ v. view v ≡ array (items_of (results K.schema.description.tables (folded_by K.schema self.new).database.rows false (items_view operations.now)))) }
+        ensures unchanged { OnErr result (self.new ≡ self.old) }
+    {
+        let (front, results) = match self.handle.enter() {
+            None => return Err(ViewError::Gone),
+            Some(shown) => {
+                let front = shown.since(&self.known).ok_or(Gone)?;
+                let results = transact_read(alloc, shown.folded().database(), operations)?;
+                (front, results)
+            }
+        };
+        self.known = front;
+        Ok(results)
+    }
+
+    /// Copies of the steps after the first n, none past the end. Their rows are shared.
+    ///
+    /// # Errors
+    /// `Gone` or `NoMemory`; then nothing is changed.
+    pub fn changes_since(&mut self, alloc: Global, n: usize) -> Result<Vec<Step>, ViewError>
+        ensures later { OnOk result (GoesOn K.schema self.old self.new) }
+        ensures value { IfOk result (λ steps. steps.items ≡ drop n (folded_by K.schema self.new).steps) }
+        ensures unchanged { OnErr result (self.new ≡ self.old) }
+    {
+        let (front, steps) = match self.handle.enter() {
+            None => return Err(ViewError::Gone),
+            Some(shown) => {
+                let front = shown.since(&self.known).ok_or(Gone)?;
+                (front, copies_after(alloc, n, shown.folded().steps())?)
+            }
+        };
+        self.known = front;
+        Ok(steps)
+    }
+
+    /// A session's answer to a message (RFC 7047 section 4.1; ovsdb-server(7)).
+    ///
+    /// # Errors
+    /// `Gone`, also where what is shown is less than what the session was shown before, or `NoMemory`; then nothing is changed.
+    pub fn message(
+        &mut self,
+        alloc: Global,
+        session: &mut ViewSession<K>,
+        message: Message,
+    ) -> Result<Turn, ViewError>
+        ensures later { OnOk result (GoesOn K.schema self.old self.new) }
+        ensures turn { IfOk result (λ t. seen_turn t ≡ turn session.old.session (folded_by K.schema self.new) message) }
+        ensures after { OnOk result (session.new ≡ record { session = after_turn session.old.session (folded_by K.schema self.new) message; last = self.new }) }
+        ensures unchanged { OnErr result ((self.new ≡ self.old) × (session.new ≡ session.old)) }
+    {
+        let (front, turn) = match self.handle.enter() {
+            None => return Err(ViewError::Gone),
+            Some(shown) => {
+                let front = shown.since(&self.known).ok_or(Gone)?;
+                (front, session.take_message(alloc, message, &shown)?)
+            }
+        };
+        self.known = front;
+        Ok(turn)
+    }
+
+    /// The notifications that a session's monitors weren't given yet (RFC 7047 section 4.1.6).
+    ///
+    /// # Errors
+    /// `Gone`, also where what is shown is less than what the session was shown before, or `NoMemory`; then nothing is changed.
+    pub fn pump(
+        &mut self,
+        alloc: Global,
+        session: &mut ViewSession<K>,
+    ) -> Result<Vec<Message>, ViewError>
+        ensures later { OnOk result (GoesOn K.schema self.old self.new) }
+        ensures told { IfOk result (λ ms. ms.items ≡ told session.old.session.monitors (folded_by K.schema self.new).steps) }
+        ensures after { OnOk result (session.new ≡ record { session = after_pump session.old.session (folded_by K.schema self.new); last = self.new }) }
+        ensures unchanged { OnErr result ((self.new ≡ self.old) × (session.new ≡ session.old)) }
+    {
+        let (front, messages) = match self.handle.enter() {
+            None => return Err(ViewError::Gone),
+            Some(shown) => {
+                let front = shown.since(&self.known).ok_or(Gone)?;
+                (front, session.pump(alloc, &shown)?)
+            }
+        };
+        self.known = front;
+        Ok(messages)
+    }
+}
+
+// Copies of the steps after the first n.
+fn copies_after(alloc: Global, n: usize, steps: &[Step]) -> Result<Vec<Step>, NoMemory>
+    ensures value { IfOk result (λ v. v.items ≡ drop n steps.now) }
+{
+    let rest = if n < steps.len() { &steps[n..] } else { &[] };
+    let mut copies = Vec::with_capacity(alloc, rest.len())?;
+    for step in rest {
+        copies.push(step.copy()?)?;
+    }
+    Ok(copies)
+}

@@ -1,0 +1,37 @@
+//! Why a view gives no answer.
+
+use ovs_types::NoMemory;
+use thiserror::Error;
+
+/// There is no entry to what is published, or only one that is behind what was seen or told.
+#[derive(Clone, Copy, Debug, PartialEq, Eq, Error)]
+#[error("what is published can't be read")]
+pub struct Gone;
+
+/// Why a view gives no answer.
+#[derive(Clone, Copy, Debug, PartialEq, Eq, Error)]
+pub enum ViewError {
+    /// There is no entry to what is published, or only one that is behind what was seen or told.
+    #[error("what is published can't be read")]
+    Gone,
+    /// Memory ran out.
+    #[error("out of memory")]
+    NoMemory,
+}
+
+impl From<Gone> for ViewError {
+    fn from(_gone: Gone) -> ViewError {
+        ViewError::Gone
+    }
+}
+
+impl From<NoMemory> for ViewError {
+    fn from(_want: NoMemory) -> ViewError {
+        ViewError::NoMemory
+    }
+}
+
+/// There is no place for another view, or no memory for it.
+#[derive(Clone, Copy, Debug, PartialEq, Eq, Error)]
+#[error("no place for a view")]
+pub struct NoPlace;

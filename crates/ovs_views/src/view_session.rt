@@ -1,0 +1,98 @@
+//! The session of a reader at a node.
+
+ghost use Rattle.std.specs.Prelude.{◌≡◌, [], true, IfOk, OnOk, OnErr};
+ghost use Rattle.ovs_links.specs.Absorbing.{folded_by};
+ghost use Rattle.ovs_reader.specs.Session.{new_session};
+ghost use Rattle.ovs_reader.specs.Turns.{seen_turn, turn, after_turn};
+ghost use Rattle.ovs_reader.specs.Telling.{told, after_pump};
+
+use crate::name::{Front, NodeName};
+use crate::shown::Shown;
+use crate::view_error::{Gone, ViewError};
+use ovs_reader::{ReaderSession, Turn};
+use ovs_wire::Message;
+use std::alloc::Global;
+use std::marker::Model;
+
+/// A reader's session, with the front of what it was shown last: so thousands of them share a view, and each is shown no less
+/// than before.
+#[derive(Drop)]
+pub struct ViewSession<K: NodeName> {
+    session: ReaderSession,
+    last: Front<K>,
+}
+
+impl<K: NodeName> Model for ViewSession<K> {
+    ghost use Rattle.std.specs.Prelude.{List, refl};
+    ghost use Rattle.std.specs.Coded.{code_by, coded×, coded_list};
+    ghost use Rattle.ovs_links.specs.contracts.step.Step as step_row;
+    ghost use Rattle.ovs_links.specs.declared.step.Step.{Step};
+    ghost use Rattle.ovs_links.specs.Absorbing.{folded_by};
+    ghost use Rattle.ovs_reader.specs.contracts.session.ReaderSession as session_row;
+    ghost use Rattle.ovs_reader.specs.Session.{SessionValue, MayBeShown};
+    ghost use Rattle.ovs_views.specs.Published.{ViewSessionValue};
+
+    ghost Value = { ViewSessionValue };
+
+    ghost coded = { code_by (SessionValue × List Step) (coded× session_row.the_row.coded (coded_list step_row.the_row.coded))
+        (λ s. (s.session, s.last)) (λ p. record { session = p.0; last = p.1 }) (λ _. refl) };
+
+    ghost view = { λ s. record { session = s.session; last = s.last } };
+
+    ghost invariant = { λ s. MayBeShown s.session (folded_by K.schema s.last) };
+}
+
+impl<K: NodeName> ViewSession<K> {
+    /// A session that was shown no more than this front knows, and told nothing.
+    pub fn new(alloc: Global, last: &Front<K>) -> ViewSession<K>
+        ensures value { result ≡ record { session = new_session; last = last.now } }
+    {
+        let _ = last.len();
+        ViewSession {
+            session: ReaderSession::new(alloc),
+            last: last.again(),
+        }
+    }
+
+    /// Answers a message (RFC 7047 section 4.1) from what is shown.
+    ///
+    /// # Errors
+    /// `Gone` where that is less than what the session was shown before; `NoMemory`. Then nothing is changed.
+    pub fn take_message(
+        &mut self,
+        alloc: Global,
+        message: Message,
+        shown: &Shown<K>,
+    ) -> Result<Turn, ViewError>
+        ensures turn { IfOk result (λ t. seen_turn t ≡ turn self.old.session (folded_by K.schema shown.now) message) }
+        ensures after { OnOk result (self.new ≡ record { session = after_turn self.old.session (folded_by K.schema shown.now) message; last = shown.now }) }
+        ensures unchanged { OnErr result (self.new ≡ self.old) }
+    {
+        let last = shown.since(&self.last).ok_or(Gone)?;
+        let turn = self.session.take_message(alloc, message, shown.folded())?;
+        self.last = last;
+        Ok(turn)
+    }
+
+    /// The notifications that its monitors weren't given yet (RFC 7047 section 4.1.6), up to what is shown.
+    ///
+    /// # Errors
+    /// `Gone` where that is less than what the session was shown before; `NoMemory`. Then nothing is changed.
+    pub fn pump(&mut self, alloc: Global, shown: &Shown<K>) -> Result<Vec<Message>, ViewError>
+        ensures told { IfOk result (λ ms. ms.items ≡ told self.old.session.monitors (folded_by K.schema shown.now).steps) }
+        ensures after { OnOk result (self.new ≡ record { session = after_pump self.old.session (folded_by K.schema shown.now); last = shown.now }) }
+        ensures unchanged { OnErr result (self.new ≡ self.old) }
+    {
+        let last = shown.since(&self.last).ok_or(Gone)?;
+        let messages = self.session.pump(alloc, shown.folded())?;
+        self.last = last;
+        Ok(messages)
+    }
+
+    /// Ends the session: its monitors are gone, and from now on nothing is answered or told.
+    pub fn end(&mut self)
+        ensures value { self.new ≡ record { session = record { monitors = []; shown = self.old.session.shown; head = self.old.session.head; is_ended = true }; last = self.old.last } }
+    {
+        self.session.end();
+    }
+}
