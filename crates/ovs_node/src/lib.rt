@@ -2,6 +2,10 @@
 #![tactic(auto)]
 
 pub use ovs_feed::{FeedEnd, FeedName, FeedQueue, Unsent};
-pub use ovs_folder::{MAX_UPSTREAMS, MAX_VIEWS, Node, NodeError, NodeLink, OpenNode, Parts, Report};
+pub use ovs_folder::{
+    MAX_UPSTREAMS, MAX_VIEWS, Node, NodeError, NodeLink, OpenNode, Parts, Report,
+};
 pub use ovs_history::Opened;
-pub use ovs_views::{Board, Front, Gone, NodeName, Publisher, Told, View, ViewError, ViewSession, teach};
+pub use ovs_views::{
+    Board, Front, Gone, NodeName, Publisher, Told, View, ViewError, ViewSession, teach,
+};
