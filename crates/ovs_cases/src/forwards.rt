@@ -4,8 +4,8 @@ use crate::case::{add, list, part, text, word};
 use crate::fault::Fault;
 use crate::messages::text_of;
 use ovs_authority::{Answer, Request};
+use ovs_desk::{ForwardError, Forwards};
 use ovs_json::Json;
-use ovs_upstream::{ForwardError, Forwards};
 use ovs_wire::{Id, Message, Method, Params};
 use serde_json::Value;
 use std::alloc::Global;
@@ -33,7 +33,7 @@ fn send(alloc: Global, forwards: &mut Forwards, parts: &[Value]) -> Result<Strin
     let id = Id::new(part(parts, 2)?.clone()?).ok_or(Fault::Malformed)?;
     match forwards.send(number(parts, 1)?, id, request(alloc)?) {
         Ok(number) => Ok(format!(in alloc; "{number}")?),
-        Err(error) => word(alloc, refusal(error)?),
+        Err(unsent) => word(alloc, refusal(unsent.error)?),
     }
 }
 

@@ -1,0 +1,12 @@
+pub mod Collected
+pub mod Firsts
+pub mod LedgerOrder
+pub mod LedgerRuns
+pub mod LedgerSteps
+pub mod Marks
+pub mod Numbers
+pub mod Owed
+pub mod Owners
+pub mod Places
+pub mod Search
+pub mod Steps

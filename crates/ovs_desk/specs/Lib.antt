@@ -1,0 +1,7 @@
+pub mod Asserts
+pub mod Book
+pub mod Calls
+pub mod Ledger
+pub mod RelayDesk
+pub mod Relaying
+pub mod Runs

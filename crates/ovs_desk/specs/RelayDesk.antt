@@ -1,0 +1,66 @@
+-- A relay's desk, and what it owes.
+use Rattle.std.specs.Prelude.{ℕ, List, [], ◌∷◌, ◌++◌, ◌==◌, ◌&&◌, Bool, false, map, filter, Option, codes}
+use Rattle.serde_json.specs.Data.{Data, string}
+use Rattle.ovs_wire.specs.declared.message.Message.{Message}
+use Rattle.ovs_wire.specs.declared.message.Message.TheVariants as messages
+use Rattle.ovs_authority.specs.Owing.{Owing}
+use Rattle.ovs_locks.specs.declared.notice.LockNotice.{LockNotice}
+use Rattle.ovs_locks.specs.declared.notice.LockNotice.TheVariants.{Locked, Stolen}
+use Rattle.ovs_lock_desk.specs.DeskLock.{desk_owner}
+use Rattle.ovs_lock_desk.specs.LockDesk.{DeskValue, desk_lock_at, answers_to, notices_to, open_steals, stands_at}
+use Rattle.ovs_lock_desk.specs.declared.late_steal.LateSteal.{LateSteal}
+use Rattle.ovs_desk.specs.declared.pending.Pending.{Pending}
+use Rattle.ovs_desk.specs.declared.pending.Sought.TheVariants.{Due}
+use Rattle.ovs_desk.specs.Ledger.{Forwarding, is_open, passes}
+
+-- the database's name, the requests that are passed on, the locks, and how many lock requests went up
+pub record RelayValue : Type 0 where
+  pub database : List ℕ
+  pub forwards : Forwarding
+  pub locks : DeskValue
+  pub asked : ℕ
+
+-- no request, no lock, and no source
+abbrev pub new_desk : List ℕ → RelayValue
+new_desk database = record {
+  database = database;
+  forwards = record { ledger = record { sent = 0; pending = [] }; used = 0; offered = 0 };
+  locks = record { has_source = false; locks = [] };
+  asked = 0;
+}
+
+abbrev pub with_forwards : RelayValue → Forwarding → RelayValue
+with_forwards d f = record { database = d.database; forwards = f; locks = d.locks; asked = d.asked }
+
+abbrev pub with_locks : RelayValue → DeskValue → RelayValue
+with_locks d l = record { database = d.database; forwards = d.forwards; locks = l; asked = d.asked }
+
+-- ---- what is owed
+
+-- a session's request that waits for its answer
+abbrev pub is_open_of : ℕ → Pending → Bool
+is_open_of who e = (e.asker == who) && is_open e.state
+
+abbrev pub ids_of : List Pending → List Data
+ids_of es = map (λ (e : Pending). e.id) es
+
+abbrev pub late_id : List ℕ × LateSteal → Data
+late_id a = a.1.id
+
+-- a notice as a message: `locked` or `stolen`, with the name of the lock
+abbrev pub message_of : LockNotice → Message
+message_of (Locked name) = messages.Notice (codes "locked") (string name ∷ [])
+message_of (Stolen name) = messages.Notice (codes "stolen") (string name ∷ [])
+
+-- transactions, and then steals; the notices go after the answers to both
+abbrev pub owing_of : RelayValue → ℕ → Owing
+owing_of d who = record {
+  waiting = ids_of (filter (is_open_of who) d.forwards.ledger.pending) ++ open_steals who d.locks.locks;
+  known = ids_of (filter (passes (Due who)) d.forwards.ledger.pending) ++ map late_id (answers_to who d.locks.locks);
+  notices = map message_of (notices_to who d.locks.locks);
+  stands = stands_at who d.locks.locks;
+}
+
+-- the session that owns the lock of a name
+abbrev pub owner_of : RelayValue → List ℕ → Option ℕ
+owner_of d name = desk_owner (desk_lock_at name d.locks.locks)

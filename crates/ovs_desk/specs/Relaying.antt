@@ -1,0 +1,250 @@
+-- What each call makes of a relay's desk.
+use Rattle.std.specs.Prelude.{◌≡◌, ◌≢◌, nat_lt, is_some, ◌+◌, ◌^◌, ℕ, List, Bool, true, false, map, Option, Some, None, Result, Ok, Err, if◌then◌else◌, option_and_then, option_map, codes, slice_get, IsErr, ⊤}
+use Rattle.serde_json.specs.Data.{Data, boolean, object, no_members}
+use Rattle.serde_json.specs.Find.{get, as_bool, as_null}
+use Rattle.serde_json.specs.View.{view}
+use Rattle.ovs_json.specs.Putting.{under_name}
+use Rattle.ovs_wire.specs.Named.{id_of_number}
+use Rattle.ovs_wire.specs.declared.message.Message.{Message}
+use Rattle.ovs_wire.specs.declared.message.Message.TheVariants as messages
+use Rattle.ovs_authority.specs.Answers.{replied, refused, reply_of}
+use Rattle.ovs_authority.specs.Asks.{lock_request, transact_request}
+use Rattle.ovs_authority.specs.declared.answer.Answer.{Answer}
+use Rattle.ovs_authority.specs.declared.ask.Request.{Request}
+use Rattle.ovs_authority.specs.declared.ask.Verb.{Verb}
+use Rattle.ovs_authority.specs.declared.ask.Verb.TheVariants as asks
+use Rattle.ovs_locks.specs.Lock.{name_told}
+use Rattle.ovs_locks.specs.declared.notice.LockNotice.{LockNotice}
+use Rattle.ovs_lock_desk.specs.DeskLock.{DeskLockValue, step, asked_here, AnswersBy}
+use Rattle.ovs_lock_desk.specs.LockDesk.{DeskValue, ChangesAt, SendsFirst, IsGone, stepped, desk_lock_at, refusal_at, first_due_up, is_sent_at, answers_to, notices_to}
+use Rattle.ovs_lock_desk.specs.declared.course.Event.TheVariants as events
+use Rattle.ovs_lock_desk.specs.declared.course.LockVerb.{LockVerb}
+use Rattle.ovs_lock_desk.specs.declared.course.LockVerb.TheVariants as verbs
+use Rattle.ovs_lock_desk.specs.declared.error.DeskError.{DeskError}
+use Rattle.ovs_lock_desk.specs.declared.error.DeskError.TheVariants as errors
+use Rattle.ovs_lock_desk.specs.declared.late_steal.LateSteal.{LateSteal}
+use Rattle.ovs_desk.specs.declared.error.BadReply.{BadReply}
+use Rattle.ovs_desk.specs.declared.error.ForwardError.TheVariants as forwarding
+use Rattle.ovs_desk.specs.declared.error.Unsent.{Unsent}
+use Rattle.ovs_desk.specs.declared.source_message.SourceMessage.{SourceMessage}
+use Rattle.ovs_desk.specs.declared.source_message.SourceMessage.TheVariants as says
+use Rattle.ovs_desk.specs.Asserts.{rewritten}
+use Rattle.ovs_desk.specs.Calls.{After, SendsTo}
+use Rattle.ovs_desk.specs.Calls as calls
+use Rattle.ovs_desk.specs.Ledger.{to_go, due_to, next_up, next_back}
+use Rattle.ovs_desk.specs.RelayDesk.{RelayValue, with_forwards, with_locks, message_of}
+
+-- the requests alone change, as by this call on them
+abbrev pub ChangesRequests : calls.Call → RelayValue → RelayValue → Type 0
+ChangesRequests call d e = After call d.forwards.ledger e.forwards.ledger × (e ≡ with_forwards d e.forwards)
+
+-- the lock of this name alone changes
+abbrev pub ChangesLock : List ℕ → (DeskLockValue → DeskLockValue) → RelayValue → RelayValue → Type 0
+ChangesLock name f d e =
+    ChangesAt name f d.locks.locks e.locks.locks × (e.locks.has_source ≡ d.locks.has_source) × (e ≡ with_locks d e.locks)
+
+-- ---- asking for locks
+
+-- {"locked": BOOL}
+abbrev pub locked_so : Bool → Answer
+locked_so won = replied (under_name (codes "locked") (boolean won))
+
+-- the answer that is known at once
+abbrev pub at_once : LockVerb → Answer
+at_once verbs.Lock = locked_so false
+at_once verbs.Steal = locked_so true
+at_once verbs.Unlock = replied (object no_members)
+
+abbrev pub text_of : DeskError → Option (List ℕ)
+text_of errors.BadLock = Some (codes "bad lock")
+text_of errors.AlreadyAsked = Some (codes "already asked")
+text_of errors.NeverAsked = Some (codes "never asked")
+text_of errors.SourceLost = Some (codes "source lost")
+text_of errors.StealPending = Some (codes "steal pending")
+text_of errors.NoMemory = None
+
+abbrev pub IsRefusedBy : Option (List ℕ) → Answer → Type 0
+IsRefusedBy None a = ⊥
+IsRefusedBy (Some text) a = a ≡ refused text
+
+-- the answer that tells this refusal; want of memory is none
+abbrev pub IsRefusalOf : DeskError → Answer → Type 0
+IsRefusalOf error a = IsRefusedBy (text_of error) a
+
+-- what is answered where this came of asking: an answer at once, one that comes later, or a refusal
+abbrev pub IsAnsweredBy : LockVerb → Result (Option Bool) DeskError → Option Answer → Type 0
+IsAnsweredBy verb (Ok (Some won)) a = a ≡ Some (at_once verb)
+IsAnsweredBy verb (Ok None) a = a ≡ None
+IsAnsweredBy verb (Err error) None = ⊥
+IsAnsweredBy verb (Err error) (Some a) = IsRefusalOf error a
+
+abbrev pub LocksAfter : Result (Option Bool) DeskError → ℕ → LockVerb → List ℕ → Data → DeskValue → DeskValue → Type 0
+LocksAfter (Ok answer) who verb name id d e = ChangesAt name (asked_here d.has_source who verb id) d.locks e.locks × (e.has_source ≡ d.has_source)
+LocksAfter (Err error) who verb name id d e = e ≡ d
+
+-- a session asks for a lock, or leaves it
+pub record AsksForLock (who : ℕ) (verb : LockVerb) (name : List ℕ) (id : Data) (d : RelayValue) (a : Option Answer) (e : RelayValue) : Type 0 where
+  pub came : Result (Option Bool) DeskError
+  pub answers : AnswersBy (refusal_at d.locks.has_source verb who name d.locks.locks) verb (desk_lock_at name d.locks.locks) came
+  pub told : IsAnsweredBy verb came a
+  pub after : LocksAfter came who verb name id d.locks e.locks
+  pub rest : e ≡ with_locks d e.locks
+
+-- the same, with the answer as the reply to the request
+pub record AsksByName (who : ℕ) (verb : LockVerb) (name : List ℕ) (id : Data) (d : RelayValue) (r : Option Message) (e : RelayValue) : Type 0 where
+  pub answer : Option Answer
+  pub reply : r ≡ option_map (λ a. reply_of a id) answer
+  pub asks : AsksForLock who verb name id d answer e
+
+-- ---- transactions
+
+-- what is answered where this came of sending: nothing yet, or that too many requests wait; want of memory is no answer
+abbrev pub IsToldOfSending : Result ℕ Unsent → Option Message → Type 0
+IsToldOfSending (Ok n) r = r ≡ None
+IsToldOfSending (Err u) r = (r ≡ Some (reply_of (refused (codes "too many requests")) u.id)) × (u.error ≢ forwarding.NoMemory)
+
+-- a transaction is sent behind the database's name, its asserts rewritten, or refused
+pub record Transacts (who : ℕ) (operations : List Data) (id : Data) (d : RelayValue) (r : Option Message) (e : RelayValue) : Type 0 where
+  pub came : Result ℕ Unsent
+  pub sends : SendsTo d.forwards who id (transact_request d.database (map (rewritten d.locks.locks who) operations)) came e.forwards
+  pub told : IsToldOfSending came r
+  pub rest : e ≡ with_forwards d e.forwards
+
+-- what a session asks: a transaction is passed on, and a lock asked for at the desk
+abbrev pub Asks : ℕ → Data → Verb → RelayValue → Option Message → RelayValue → Type 0
+Asks who id (asks.Transact operations) d r e = Transacts who (map view operations.items) id d r e
+Asks who id (asks.Lock name) d r e = AsksByName who verbs.Lock name id d r e
+Asks who id (asks.Steal name) d r e = AsksByName who verbs.Steal name id d r e
+Asks who id (asks.Unlock name) d r e = AsksByName who verbs.Unlock name id d r e
+
+-- ---- upward
+
+-- lock requests have the numbers from here on
+abbrev pub first_lock : ℕ
+first_lock = 2 ^ 62
+
+abbrev pub method_of : LockVerb → List ℕ
+method_of verbs.Lock = codes "lock"
+method_of verbs.Steal = codes "steal"
+method_of verbs.Unlock = codes "unlock"
+
+-- a request as a message under a number
+abbrev pub under_number : ℕ → Request → Message
+under_number n request = messages.Request request.method request.params (id_of_number n)
+
+-- what is due first of the least lock goes up under the next number
+abbrev pub TakesUpDue : Option (List ℕ × LockVerb) → RelayValue → Option Message → RelayValue → Type 0
+TakesUpDue None d m e = (m ≡ None) × (e ≡ d)
+TakesUpDue (Some due) d m e =
+    (m ≡ Some (under_number (first_lock + d.asked) (lock_request (method_of due.1) due.0)))
+    × SendsFirst (first_lock + d.asked) d.locks.locks e.locks.locks
+    × (e ≡ record { database = d.database; forwards = d.forwards; locks = record { has_source = d.locks.has_source; locks = e.locks.locks }; asked = d.asked + 1 })
+
+-- after 2 ^ 62 lock requests none goes up
+abbrev pub TakesUpBelow : Bool → RelayValue → Option Message → RelayValue → Type 0
+TakesUpBelow true d m e = TakesUpDue (first_due_up d.locks.locks) d m e
+TakesUpBelow false d m e = (m ≡ None) × (e ≡ d)
+
+abbrev pub TakesUpLock : RelayValue → Option Message → RelayValue → Type 0
+TakesUpLock d m e = TakesUpBelow (nat_lt d.asked first_lock) d m e
+
+abbrev pub TakesUpFirst : Option Message → RelayValue → Option Message → RelayValue → Type 0
+TakesUpFirst None d m e = TakesUpLock d m e
+TakesUpFirst (Some up) d m e = (m ≡ Some up) × ChangesRequests (calls.TakesUp (to_go d.forwards.ledger)) d e
+
+abbrev pub TakesUpWhere : Bool → RelayValue → Option Message → RelayValue → Type 0
+TakesUpWhere true d m e = TakesUpFirst (next_up d.forwards.ledger) d m e
+TakesUpWhere false d m e = (m ≡ None) × (e ≡ d)
+
+-- transactions go before lock requests, and nothing goes up while there is no source
+abbrev pub TakesUp : RelayValue → Option Message → RelayValue → Type 0
+TakesUp d m e = TakesUpWhere d.locks.has_source d m e
+
+-- ---- what the source says
+
+-- whether the source gave the lock: {"locked": BOOL}, and no error
+abbrev pub won_by : Answer → Option Bool
+won_by a = if is_some (as_null a.error) then option_and_then as_bool (get (codes "locked") a.result) else None
+
+-- the reply to a Lock or a Steal that is open
+abbrev pub HearsWon : Option Bool → ℕ → RelayValue → Result ⊤ BadReply → RelayValue → Type 0
+HearsWon None n d r e = IsErr r × (e ≡ d)
+HearsWon (Some won) n d r e =
+    (r ≡ Ok tt) × (e ≡ with_locks d (record { has_source = d.locks.has_source; locks = stepped (events.Answered n won) d.locks.locks }))
+
+-- the reply to a lock request; one to a request that isn't open is ignored
+abbrev pub HearsOfLock : Bool → ℕ → Answer → RelayValue → Result ⊤ BadReply → RelayValue → Type 0
+HearsOfLock false n a d r e = (r ≡ Ok tt) × (e ≡ d)
+HearsOfLock true n a d r e = HearsWon (won_by a) n d r e
+
+abbrev pub HearsBy : Bool → ℕ → Answer → RelayValue → Result ⊤ BadReply → RelayValue → Type 0
+HearsBy true n a d r e = (r ≡ Ok tt) × ChangesRequests (calls.Replies n a) d e
+HearsBy false n a d r e = HearsOfLock (is_sent_at n d.locks.locks) n a d r e
+
+-- a request was answered: a transaction, or by its number a lock request
+abbrev pub HearsReply : ℕ → Answer → RelayValue → Result ⊤ BadReply → RelayValue → Type 0
+HearsReply n a d r e = HearsBy (nat_lt n first_lock) n a d r e
+
+-- what the source says
+abbrev pub Hears : SourceMessage → RelayValue → Result ⊤ BadReply → RelayValue → Type 0
+Hears (says.ReplyFor n a) d r e = HearsReply n a d r e
+Hears (says.Locked name) d r e = (r ≡ Ok tt) × ChangesLock name (step events.Granted) d e
+Hears (says.Stolen name) d r e = (r ≡ Ok tt) × ChangesLock name (step events.Stolen) d e
+
+-- each open request is answered that the source was lost
+pub record LosesSource (d e : RelayValue) : Type 0 where
+  pub requests : After calls.LosesSource d.forwards.ledger e.forwards.ledger
+  pub locks : e.locks ≡ record { has_source = false; locks = stepped events.Lost d.locks.locks }
+  pub rest : e ≡ record { database = d.database; forwards = e.forwards; locks = e.locks; asked = d.asked }
+
+-- the locks are asked for again, where there was none
+pub record FindsSource (d e : RelayValue) : Type 0 where
+  pub locks : e.locks ≡ record { has_source = true; locks = if d.locks.has_source then d.locks.locks else stepped events.Found d.locks.locks }
+  pub rest : e ≡ with_locks d e.locks
+
+-- ---- what is collected
+
+-- the first answer to a session's request that was passed on
+abbrev pub CollectsSent : ℕ → RelayValue → Option Message → RelayValue → Type 0
+CollectsSent who d m e = (m ≡ next_back who d.forwards.ledger) × ChangesRequests (calls.Collects who (due_to who d.forwards.ledger)) d e
+
+-- a steal that was answered late: {"locked": true}, or that the source was lost
+abbrev pub late_answer : Option Bool → Answer
+late_answer None = refused (codes "source lost")
+late_answer (Some true) = locked_so true
+late_answer (Some false) = refused (codes "source lost")
+
+abbrev pub GivesLate : Option (List ℕ × LateSteal) → ℕ → RelayValue → Option Message → RelayValue → Type 0
+GivesLate None who d m e = (m ≡ None) × (e ≡ d)
+GivesLate (Some a) who d m e = (m ≡ Some (reply_of (late_answer a.1.won) a.1.id)) × ChangesLock a.0 (step (events.AnswerTold who)) d e
+
+-- the first late answer that a session is owed
+abbrev pub CollectsLate : ℕ → RelayValue → Option Message → RelayValue → Type 0
+CollectsLate who d m e = GivesLate (slice_get (answers_to who d.locks.locks) 0) who d m e
+
+abbrev pub GivesNotice : Option LockNotice → ℕ → RelayValue → Option Message → RelayValue → Type 0
+GivesNotice None who d m e = (m ≡ None) × (e ≡ d)
+GivesNotice (Some n) who d m e = (m ≡ Some (message_of n)) × ChangesLock (name_told n) (step (events.NoticeTold who)) d e
+
+-- the first notice that a session is owed
+abbrev pub CollectsNotice : ℕ → RelayValue → Option Message → RelayValue → Type 0
+CollectsNotice who d m e = GivesNotice (slice_get (notices_to who d.locks.locks) 0) who d m e
+
+abbrev pub CollectsOfLock : Option (List ℕ × LateSteal) → ℕ → RelayValue → Option Message → RelayValue → Type 0
+CollectsOfLock None who d m e = CollectsNotice who d m e
+CollectsOfLock (Some late) who d m e = CollectsLate who d m e
+
+abbrev pub CollectsFirst : Option Message → ℕ → RelayValue → Option Message → RelayValue → Type 0
+CollectsFirst None who d m e = CollectsOfLock (slice_get (answers_to who d.locks.locks) 0) who d m e
+CollectsFirst (Some reply) who d m e = CollectsSent who d m e
+
+-- what is given to a session: an answer to what was passed on before one that comes late, and both before a notice
+abbrev pub Collects : ℕ → RelayValue → Option Message → RelayValue → Type 0
+Collects who d m e = CollectsFirst (next_back who d.forwards.ledger) who d m e
+
+-- a session ends
+pub record EndsSession (who : ℕ) (d e : RelayValue) : Type 0 where
+  pub requests : After (calls.Ends who) d.forwards.ledger e.forwards.ledger
+  pub locks : e.locks ≡ record { has_source = d.locks.has_source; locks = stepped (events.Ended who) d.locks.locks }
+  pub gone : IsGone who e.locks.locks
+  pub rest : e ≡ record { database = d.database; forwards = e.forwards; locks = e.locks; asked = d.asked }

@@ -1,0 +1,263 @@
+//! All requests on their way.
+
+ghost use Rattle.std.specs.Prelude.{◌≡◌, ◌==◌, ◌<◌, [], false, true, not, None, filter, map, position, vec_len, vec_capacity, is_some, IfOk, IfNone, OnOk, OnErr, length, ◌+◌, ◌^◌};
+ghost use Rattle.std.specs.List.{find, list_any};
+ghost use Rattle.slab.specs.Slab.{ContainsKey, HasRoomFor, SameValues, Updates, slab_len};
+ghost use Rattle.ovs_desk.specs.declared.pending.Sought.{Sought};
+ghost use Rattle.ovs_desk.specs.Ledger.{place_of, passes, lost, with_pending, without_first, to_go, due_to, next_up, next_back, refusal, IsKept, SamePlaces};
+ghost use Rattle.ovs_desk.specs.Calls.{After, SendsTo};
+ghost use Rattle.ovs_desk.specs.Calls as calls;
+
+use crate::error::{ForwardError, Unknown, Unsent};
+use crate::pending::{Pending, Sought, State};
+use ovs_authority::{Answer, Request};
+use ovs_json::NoMemory;
+use ovs_wire::{Id, Message};
+use slab::Slab;
+use std::alloc::Global;
+use std::marker::Model;
+
+// So many requests at most wait to be answered and collected; the places in their numbers are below it.
+const MOST_PENDING: usize = 4096;
+
+const PLACES: u64 = 4096;
+
+const MOST_SENT: u64 = 1 << 50;
+
+/// Requests that were sent and aren't collected yet.
+///
+/// A request gets a number, under which it goes up and is answered; its asker gets the answer under its own id.
+#[derive(Drop)]
+pub struct Forwards {
+    // In order of sending.
+    pending: Vec<Pending>,
+    // The places that their numbers have.
+    places: Slab<()>,
+    sent: u64,
+}
+
+impl Model for Forwards {
+    ghost use Rattle.std.specs.Prelude.{ℕ, List, refl};
+    ghost use Rattle.std.specs.Coded.{code_by, coded×, coded_ℕ, coded_list};
+    ghost use Rattle.slab.specs.Slab.{slab_len};
+    ghost use Rattle.ovs_desk.specs.contracts.pending.Pending as pending_row;
+    ghost use Rattle.ovs_desk.specs.declared.pending.Pending.{Pending};
+    ghost use Rattle.ovs_desk.specs.Book.{IsBook};
+    ghost use Rattle.ovs_desk.specs.Ledger.{Forwarding};
+
+    ghost Value = { Forwarding };
+
+    ghost coded = { code_by (ℕ × (List Pending × (ℕ × ℕ))) (coded× coded_ℕ (coded× (coded_list pending_row.the_row.coded) (coded× coded_ℕ coded_ℕ)))
+        (λ f. (f.ledger.sent, (f.ledger.pending, (f.used, f.offered))))
+        (λ p. record { ledger = record { sent = p.0; pending = p.1.0 }; used = p.1.1.0; offered = p.1.1.1 }) (λ _. refl) };
+
+    ghost view = { λ f. record { ledger = record { sent = f.sent; pending = f.pending.items }; used = slab_len f.places; offered = f.places.vacant_key } };
+
+    ghost invariant = { λ f. IsBook f.sent f.pending.items f.places };
+}
+
+// The first that is looked for.
+fn first(pending: &[Pending], sought: Sought) -> Option<usize>
+    ensures value { result ≡ position (passes sought) pending.now }
+{
+    pending.iter().position(|one| one.passes(sought))
+}
+
+// Room for one more.
+fn make_room(pending: &mut Vec<Pending>, places: &mut Slab<()>) -> Result<(), NoMemory>
+    ensures pending { pending.new.items ≡ pending.old.items }
+    ensures vacant { places.new.vacant_key ≡ places.old.vacant_key }
+    ensures places { SameValues places.old places.new }
+    ensures len { slab_len places.new ≡ slab_len places.old }
+    ensures room { OnOk result (vec_len pending.new < vec_capacity pending.new) }
+    ensures place { OnOk result (HasRoomFor places.new 1) }
+{
+    pending.reserve(1)?;
+    places.reserve(1)?;
+    Ok(())
+}
+
+// The place of a number is free again.
+fn free(places: &mut Slab<()>, number: u64)
+    requires taken { ContainsKey places.old (place_of number) }
+    ensures value { Updates places.old places.new (place_of number) None }
+    ensures len { slab_len places.new + 1 ≡ slab_len places.old }
+{
+    let _ = places.remove((number % PLACES) as usize);
+}
+
+fn lose(pending: &mut [Pending])
+    ensures value { pending.new ≡ map lost pending.old }
+{
+    for one in pending.iter_mut() {
+        one.lose();
+    }
+}
+
+impl Forwards {
+    /// No request.
+    pub fn new(alloc: Global) -> Forwards
+        ensures value { result ≡ record { ledger = record { sent = 0; pending = [] }; used = 0; offered = 0 } }
+    {
+        Forwards {
+            pending: Vec::new(alloc),
+            places: Slab::new(alloc),
+            sent: 0,
+        }
+    }
+
+    // Why one more request isn't sent, want of memory aside.
+    fn refusal(&self) -> Option<ForwardError>
+        ensures value { result ≡ refusal self.now }
+        ensures few { IfNone result (length self.now.ledger.pending < 4096) }
+        ensures place { IfNone result (self.now.offered < 4096) }
+        ensures number { IfNone result (self.now.ledger.sent < 2 ^ 50) }
+    {
+        if self.pending.len() < MOST_PENDING && self.places.vacant_key() < MOST_PENDING {
+            if self.sent < MOST_SENT {
+                None
+            } else {
+                Some(ForwardError::Spent)
+            }
+        } else {
+            Some(ForwardError::Full)
+        }
+    }
+
+    /// Sends a session's request, and answers its number: how many were sent before, times 4,096, and its place.
+    ///
+    /// # Errors
+    /// `Full` where 4,096 requests weren't collected or no place below 4,096 is free, else `Spent` where 2^50 were sent,
+    /// else `NoMemory`. Id and request are handed back then.
+    pub fn send(&mut self, asker: u64, id: Id, request: Request) -> Result<u64, Unsent>
+        ensures value { SendsTo self.old asker id request result self.new }
+        ensures kept { IsKept self.new }
+    {
+        if let Some(error) = self.refusal() {
+            return Err(Unsent { error, id, request });
+        }
+        if make_room(&mut self.pending, &mut self.places).is_err() {
+            return Err(Unsent {
+                error: ForwardError::NoMemory,
+                id,
+                request,
+            });
+        }
+        let place = self.places.vacant_key();
+        let number = PLACES * self.sent + place as u64;
+        self.places.insert_reserved(());
+        self.pending.push_reserved(Pending {
+            asker,
+            id,
+            number,
+            state: State::Waiting(request),
+        });
+        self.sent += 1;
+        Ok(number)
+    }
+
+    /// The next request to go up, under its number; `None` where none waits. Each is given once, in order of sending. No
+    /// memory is taken.
+    pub fn take_up(&mut self) -> Option<Message>
+        ensures message { result ≡ next_up self.old.ledger }
+        ensures after { After (calls.TakesUp (to_go self.old.ledger)) self.old.ledger self.new.ledger }
+        ensures places { SamePlaces self.old self.new }
+        ensures none { IfNone result (self.new ≡ self.old) }
+    {
+        let at = first(&self.pending, Sought::ToGo)?;
+        self.pending[at].take_up()
+    }
+
+    // The open request of this number: the numbers ascend, so that it is looked up and not looked for.
+    fn open_at(&self, number: u64) -> Option<usize>
+        ensures value { result ≡ position (passes (Sought.Open number)) self.now.ledger.pending }
+    {
+        let at = self.pending.partition_point(|one| one.number < number);
+        if self.pending.get(at)?.passes(Sought::Open(number)) {
+            Some(at)
+        } else {
+            None
+        }
+    }
+
+    /// Answers the request of this number. No memory is taken.
+    ///
+    /// # Errors
+    /// `Unknown` exactly where no request of this number waits for its answer; nothing is changed then.
+    pub fn reply(&mut self, number: u64, answer: Answer) -> Result<(), Unknown>
+        ensures known { OnOk result (list_any (passes (Sought.Open number)) self.old.ledger.pending ≡ true) }
+        ensures unknown { OnErr result (list_any (passes (Sought.Open number)) self.old.ledger.pending ≡ false) }
+        ensures after { After (calls.Replies number answer) self.old.ledger self.new.ledger }
+        ensures places { SamePlaces self.old self.new }
+    {
+        let Some(at) = self.open_at(number) else {
+            return Err(Unknown);
+        };
+        self.pending[at].answer(answer);
+        Ok(())
+    }
+
+    /// The first answer that is due to a session, under its own id; `None` where none is. Each is given once.
+    ///
+    /// # Errors
+    /// `NoMemory` alone; the answer is still due then.
+    pub fn collect(&mut self, alloc: Global, who: u64) -> Result<Option<Message>, NoMemory>
+        ensures message { IfOk result (λ m. m ≡ next_back who self.old.ledger) }
+        ensures after { OnOk result (After (calls.Collects who (due_to who self.old.ledger)) self.old.ledger self.new.ledger) }
+        ensures unchanged { OnErr result (self.new ≡ self.old) }
+        ensures kept { IsKept self.new }
+        ensures none { IfOk result (λ m. IfNone m (self.new ≡ self.old)) }
+    {
+        let Some(at) = first(&self.pending, Sought::Due(who)) else {
+            return Ok(None);
+        };
+        self.pending[at].settle(alloc)?;
+        let pending = self.pending.remove(at);
+        free(&mut self.places, pending.number);
+        Ok(pending.into_reply())
+    }
+
+    /// Whether an answer is due to a session. No memory is taken.
+    pub fn owes(&self, who: u64) -> bool
+        ensures value { result ≡ list_any (passes (Sought.Due who)) self.now.ledger.pending }
+    {
+        self.pending.iter().any(|one| one.passes(Sought::Due(who)))
+    }
+
+    /// Answers each request that waits for its answer that the source was lost. No memory is taken.
+    pub fn source_lost(&mut self)
+        ensures after { After calls.LosesSource self.old.ledger self.new.ledger }
+        ensures places { SamePlaces self.old self.new }
+    {
+        lose(&mut self.pending);
+    }
+
+    /// Drops all requests of a session. No memory is taken.
+    pub fn end_session(&mut self, who: u64)
+        ensures after { After (calls.Ends who) self.old.ledger self.new.ledger }
+        ensures kept { IsKept self.new }
+    {
+        while self.drop_first(who) {}
+    }
+
+    // Takes out the first that is looked for, and its place is free.
+    fn take_out(&mut self, sought: Sought) -> Option<Pending>
+        ensures found { result ≡ find (passes sought) self.old.ledger.pending }
+        ensures after { self.new.ledger ≡ with_pending self.old.ledger (without_first (passes sought) self.old.ledger.pending) }
+        ensures kept { IsKept self.new }
+    {
+        let at = first(&self.pending, sought)?;
+        let pending = self.pending.remove(at);
+        free(&mut self.places, pending.number);
+        Some(pending)
+    }
+
+    // Drops the first request of a session, and says whether there was one.
+    fn drop_first(&mut self, who: u64) -> bool
+        ensures any { result ≡ is_some (find (passes (Sought.Of who)) self.old.ledger.pending) }
+        ensures after { self.new.ledger ≡ with_pending self.old.ledger (without_first (passes (Sought.Of who)) self.old.ledger.pending) }
+        ensures kept { IsKept self.new }
+    {
+        self.take_out(Sought::Of(who)).is_some()
+    }
+}

@@ -1,0 +1,491 @@
+//! A relay's desk.
+
+ghost use Rattle.std.specs.Prelude.{◌≡◌, ◌≢◌, ◌<◌, ◌^◌, ℕ, List, [], map, filter, Option, Some, None, Ok, Err, IfOk, IfNone, OnOk, OnErr, option_map, slice_get};
+ghost use Rattle.serde_json.specs.View.{view};
+ghost use Rattle.ovs_authority.specs.Owing.{AsksTo, CollectsTo, LeavesOthers, silent, marked};
+ghost use Rattle.ovs_locks.specs.Lock.{name_told};
+ghost use Rattle.ovs_lock_desk.specs.LockDesk.{IsDeskTable, first_due_up, is_sent_at, answers_to};
+ghost use Rattle.ovs_desk.specs.Calls as calls;
+ghost use Rattle.ovs_desk.specs.Ledger.{passes};
+ghost use Rattle.ovs_desk.specs.RelayDesk.{new_desk, owing_of, owner_of, message_of};
+ghost use Rattle.ovs_desk.specs.Relaying.{ChangesRequests, locked_so, at_once, text_of, late_answer, IsRefusalOf, IsToldOfSending, AsksForLock, AsksByName, Asks, Transacts, TakesUp, TakesUpLock, TakesUpDue, method_of, won_by, Hears, HearsReply, HearsOfLock, LosesSource, FindsSource, CollectsSent, CollectsLate, CollectsNotice, CollectsOfLock, Collects, EndsSession};
+ghost use Rattle.ovs_desk.specs.declared.pending.Sought.{Sought};
+
+use crate::asserts::rewrite;
+use crate::error::{BadReply, ForwardError, Unsent};
+use crate::forwards::Forwards;
+use crate::source_message::SourceMessage;
+use ovs_authority::{Answer, Ask, Authority, Member, Verb, lock_request, refused, replied};
+use ovs_json::{NoMemory, Text, under_name};
+use ovs_lock_desk::{DeskError, LockDesk, LockVerb};
+use ovs_locks::LockNotice;
+use ovs_wire::{Id, Message};
+use serde_json::{Map, Value};
+use std::alloc::Global;
+use std::marker::Model;
+
+// The numbers of lock requests begin here, and so many go up at most.
+const FIRST_LOCK: u64 = 1 << 62;
+
+/// A relay's desk: an authority that passes on to the source what only the source can answer, transactions before lock
+/// requests, and hands each answer to its asker.
+#[derive(Drop)]
+pub struct RelayDesk {
+    database: Text,
+    forwards: Forwards,
+    locks: LockDesk,
+    // So many lock requests went up.
+    asked: u64,
+}
+
+impl Model for RelayDesk {
+    ghost use Rattle.std.specs.Prelude.{ℕ, List, refl};
+    ghost use Rattle.std.specs.Coded.{code_by, coded×, coded_ℕ, coded_list};
+    ghost use Rattle.ovs_lock_desk.specs.LockDesk.{DeskValue};
+    ghost use Rattle.ovs_lock_desk.specs.contracts.lock_desk.LockDesk as desk_row;
+    ghost use Rattle.ovs_desk.specs.contracts.forwards.Forwards as forwards_row;
+    ghost use Rattle.ovs_desk.specs.Ledger.{Forwarding};
+    ghost use Rattle.ovs_desk.specs.RelayDesk.{RelayValue};
+
+    ghost Value = { RelayValue };
+
+    ghost coded = { code_by (List ℕ × (Forwarding × (DeskValue × ℕ)))
+        (coded× (coded_list coded_ℕ) (coded× forwards_row.the_row.coded (coded× desk_row.the_row.coded coded_ℕ)))
+        (λ d. (d.database, (d.forwards, (d.locks, d.asked))))
+        (λ p. record { database = p.0; forwards = p.1.0; locks = p.1.1.0; asked = p.1.1.1 }) (λ _. refl) };
+
+    ghost view = { λ d. record { database = d.database; forwards = d.forwards; locks = d.locks; asked = d.asked } };
+}
+
+// {"locked": BOOL}
+fn locked_so(alloc: Global, won: bool) -> Result<Answer, NoMemory>
+    ensures value { IfOk result (λ a. a ≡ locked_so won) }
+{
+    Ok(replied(under_name(alloc, "locked", Value::Bool(won))?))
+}
+
+// The answer that is known at once.
+fn at_once(alloc: Global, verb: LockVerb) -> Result<Answer, NoMemory>
+    ensures value { IfOk result (λ a. a ≡ at_once verb) }
+{
+    match verb {
+        LockVerb::Lock => locked_so(alloc, false),
+        LockVerb::Steal => locked_so(alloc, true),
+        LockVerb::Unlock => Ok(replied(Value::Object(Map::new(alloc)))),
+    }
+}
+
+// Why the desk doesn't do what a session asks for a lock; want of memory is no answer.
+fn refusal_text(error: DeskError) -> Option<&'static str>
+    ensures value { option_map (λ text. text.now) result ≡ text_of error }
+{
+    match error {
+        DeskError::BadLock => Some("bad lock"),
+        DeskError::AlreadyAsked => Some("already asked"),
+        DeskError::NeverAsked => Some("never asked"),
+        DeskError::SourceLost => Some("source lost"),
+        DeskError::StealPending => Some("steal pending"),
+        DeskError::NoMemory => None,
+    }
+}
+
+fn refusal(alloc: Global, error: DeskError) -> Result<Answer, NoMemory>
+    ensures value { IfOk result (λ a. IsRefusalOf error a) }
+{
+    match refusal_text(error) {
+        Some(text) => refused(alloc, text),
+        None => Err(NoMemory),
+    }
+}
+
+// What is answered to a steal whose answer came late.
+fn late_answer(alloc: Global, won: Option<bool>) -> Result<Answer, NoMemory>
+    ensures value { IfOk result (λ a. a ≡ late_answer won) }
+{
+    match won {
+        Some(true) => locked_so(alloc, true),
+        _ => refused(alloc, "source lost"),
+    }
+}
+
+// What is answered where this came of sending a transaction: nothing yet, or that it wasn't sent.
+fn told_of_sending(alloc: Global, came: Result<u64, Unsent>) -> Result<Option<Message>, NoMemory>
+    ensures told { IfOk result (λ r. IsToldOfSending came r) }
+    ensures unsent { OnErr result (OnOk came ⊥) }
+{
+    match came {
+        Ok(_number) => Ok(None),
+        Err(unsent) => told_of_unsent(alloc, unsent),
+    }
+}
+
+// That a transaction wasn't sent; want of memory is no answer.
+fn told_of_unsent(alloc: Global, unsent: Unsent) -> Result<Option<Message>, NoMemory>
+    ensures told { IfOk result (λ r. IsToldOfSending (Err unsent) r) }
+{
+    match unsent.error {
+        ForwardError::Full | ForwardError::Spent => {
+            let answer = refused(alloc, "too many requests")?;
+            Ok(Some(answer.into_reply(unsent.id)))
+        }
+        ForwardError::NoMemory => Err(NoMemory),
+    }
+}
+
+// The lock of which a notice tells.
+fn lock_of(notice: &LockNotice) -> &Text
+    ensures value { result.now ≡ name_told notice.now }
+{
+    match notice {
+        LockNotice::Locked(name) | LockNotice::Stolen(name) => name,
+    }
+}
+
+// `locked` or `stolen`, with the name of the lock.
+fn message_of(alloc: Global, notice: &LockNotice) -> Result<Message, NoMemory>
+    ensures value { IfOk result (λ m. m ≡ message_of notice.now) }
+{
+    let (method, name) = match notice {
+        LockNotice::Locked(name) => ("locked", name),
+        LockNotice::Stolen(name) => ("stolen", name),
+    };
+    let request = lock_request(alloc, method, name)?;
+    Ok(Message::Notice {
+        method: request.method,
+        params: request.params,
+    })
+}
+
+// The method of a lock request.
+fn method_of(verb: LockVerb) -> &'static str
+    ensures value { result.now ≡ method_of verb }
+{
+    match verb {
+        LockVerb::Lock => "lock",
+        LockVerb::Steal => "steal",
+        LockVerb::Unlock => "unlock",
+    }
+}
+
+// Whether the source gave the lock, by its answer `{"locked": BOOL}`.
+fn won_by(answer: &Answer) -> Option<bool>
+    ensures value { result ≡ won_by answer.now }
+{
+    if !answer.error.as_value().is_null() {
+        return None;
+    }
+    answer.result.as_value().get("locked")?.as_bool()
+}
+
+impl RelayDesk {
+    /// A desk without a source, for the database of this name.
+    pub fn new(alloc: Global, database: Text) -> RelayDesk
+        ensures value { result ≡ new_desk database }
+    {
+        RelayDesk {
+            database,
+            forwards: Forwards::new(alloc),
+            locks: LockDesk::new(alloc),
+            asked: 0,
+        }
+    }
+
+    /// The next request to go up, under its number: transactions before lock requests, and none while there is no source. A
+    /// lock request has the number 2^62 and how many went up before it; after 2^62 of them none goes up.
+    ///
+    /// # Errors
+    /// `NoMemory` alone; then nothing went up.
+    pub fn take_up(&mut self, alloc: Global) -> Result<Option<Message>, NoMemory>
+        ensures taken { IfOk result (λ m. TakesUp self.old m self.new) }
+        ensures unchanged { OnErr result (self.new ≡ self.old) }
+    {
+        if !self.locks.has_source() {
+            return Ok(None);
+        }
+        match self.forwards.take_up() {
+            Some(message) => Ok(Some(message)),
+            None => self.take_up_lock(alloc),
+        }
+    }
+
+    // The next lock request to go up.
+    fn take_up_lock(&mut self, alloc: Global) -> Result<Option<Message>, NoMemory>
+        ensures taken { IfOk result (λ m. TakesUpLock self.old m self.new) }
+        ensures unchanged { OnErr result (self.new ≡ self.old) }
+    {
+        if self.asked < FIRST_LOCK {
+            self.take_up_due(alloc)
+        } else {
+            Ok(None)
+        }
+    }
+
+    // What is due first goes up under the next number.
+    fn take_up_due(&mut self, alloc: Global) -> Result<Option<Message>, NoMemory>
+        requires below { self.old.asked < 2 ^ 62 }
+        ensures taken { IfOk result (λ m. TakesUpDue (first_due_up self.old.locks.locks) self.old m self.new) }
+        ensures unchanged { OnErr result (self.new ≡ self.old) }
+    {
+        let Some((name, verb)) = self.locks.due() else {
+            return Ok(None);
+        };
+        let request = lock_request(alloc, method_of(verb), name)?;
+        let number = FIRST_LOCK + self.asked;
+        self.locks.sent(number);
+        self.asked += 1;
+        Ok(Some(request.into_message(Id::from_number(number))))
+    }
+
+    /// What the source says. An answer to a request that isn't open is ignored. No memory is taken.
+    ///
+    /// # Errors
+    /// `BadReply` where a Lock or Steal that is open was answered by anything but `{"locked": BOOL}`; nothing is changed then.
+    pub fn heard(&mut self, message: SourceMessage) -> Result<(), BadReply>
+        ensures heard { Hears message self.old result self.new }
+    {
+        match message {
+            SourceMessage::ReplyFor { number, answer } => self.heard_reply(number, answer),
+            SourceMessage::Locked(name) => {
+                self.locks.granted(&name);
+                Ok(())
+            }
+            SourceMessage::Stolen(name) => {
+                self.locks.stolen(&name);
+                Ok(())
+            }
+        }
+    }
+
+    // A request was answered.
+    fn heard_reply(&mut self, number: u64, answer: Answer) -> Result<(), BadReply>
+        ensures heard { HearsReply number answer self.old result self.new }
+    {
+        if number < FIRST_LOCK {
+            self.heard_answer(number, answer);
+            Ok(())
+        } else {
+            self.heard_of_lock(number, &answer)
+        }
+    }
+
+    // A transaction was answered. One that isn't open is ignored.
+    fn heard_answer(&mut self, number: u64, answer: Answer)
+        ensures heard { ChangesRequests (calls.Replies number answer) self.old self.new }
+    {
+        let _known = self.forwards.reply(number, answer);
+    }
+
+    // A lock request was answered.
+    fn heard_of_lock(&mut self, number: u64, answer: &Answer) -> Result<(), BadReply>
+        ensures heard { HearsOfLock (is_sent_at number self.old.locks.locks) number answer.now self.old result self.new }
+    {
+        if !self.locks.is_sent(number) {
+            return Ok(());
+        }
+        match won_by(answer) {
+            Some(won) => {
+                self.locks.answered(number, won);
+                Ok(())
+            }
+            None => Err(BadReply),
+        }
+    }
+
+    /// The source is lost: each request that waits for its answer is answered so, and no lock has an owner. Until there is a
+    /// source again, transactions wait and nothing goes up. No memory is taken.
+    pub fn lost_source(&mut self)
+        ensures after { LosesSource self.old self.new }
+    {
+        self.forwards.source_lost();
+        self.locks.lost_source();
+    }
+
+    /// There is a source again, which is to be asked for each lock that a session waits for. No memory is taken.
+    pub fn found_source(&mut self)
+        ensures after { FindsSource self.old self.new }
+    {
+        self.locks.found_source();
+    }
+
+    // A transaction is passed on. The answer is known at once only where it isn't.
+    fn transact(
+        &mut self,
+        alloc: Global,
+        who: u64,
+        operations: Vec<Value>,
+        id: Id,
+    ) -> Result<Option<Message>, NoMemory>
+        ensures asked { IfOk result (λ r. Transacts who (map view operations.items) id self.old r self.new) }
+        ensures unchanged { OnErr result (self.new ≡ self.old) }
+    {
+        let operations = rewrite(alloc, operations, who, &self.locks)?;
+        let request = Verb::Transact(operations).into_request(alloc, &self.database)?;
+        let came = self.forwards.send(who, id, request);
+        told_of_sending(alloc, came)
+    }
+
+    // A session asks for a lock, or leaves it. The answer is made before the desk changes.
+    fn ask_for_lock(
+        &mut self,
+        alloc: Global,
+        who: u64,
+        verb: LockVerb,
+        name: &Text,
+        id: &Id,
+    ) -> Result<Option<Answer>, NoMemory>
+        ensures asked { IfOk result (λ a. AsksForLock who verb name.now id.now self.old a self.new) }
+        ensures unchanged { OnErr result (self.new ≡ self.old) }
+    {
+        let answer = at_once(alloc, verb)?;
+        match self.locks.ask(alloc, who, verb, name, id) {
+            Ok(Some(_)) => Ok(Some(answer)),
+            Ok(None) => Ok(None),
+            Err(error) => Ok(Some(refusal(alloc, error)?)),
+        }
+    }
+
+    // The same, with the answer as the reply to the request.
+    fn ask_named(
+        &mut self,
+        alloc: Global,
+        who: u64,
+        verb: LockVerb,
+        name: &Text,
+        id: Id,
+    ) -> Result<Option<Message>, NoMemory>
+        ensures asked { IfOk result (λ r. AsksByName who verb name.now id self.old r self.new) }
+        ensures unchanged { OnErr result (self.new ≡ self.old) }
+    {
+        match self.ask_for_lock(alloc, who, verb, name, &id)? {
+            Some(answer) => Ok(Some(answer.into_reply(id))),
+            None => Ok(None),
+        }
+    }
+
+    // The first answer to a session's request that was passed on.
+    fn collect_sent(&mut self, alloc: Global, who: u64) -> Result<Option<Message>, NoMemory>
+        ensures given { IfOk result (λ m. CollectsSent who self.old m self.new) }
+        ensures none { IfOk result (λ m. IfNone m (self.new ≡ self.old)) }
+        ensures none_sent { IfOk result (λ m. IfNone m (filter (passes (Sought.Due who)) self.new.forwards.ledger.pending ≡ [])) }
+        ensures unchanged { OnErr result (self.new ≡ self.old) }
+    {
+        self.forwards.collect(alloc, who)
+    }
+
+    // The first late answer that a session is owed.
+    fn collect_late(&mut self, alloc: Global, who: u64) -> Result<Option<Message>, NoMemory>
+        ensures given { IfOk result (λ m. CollectsLate who self.old m self.new) }
+        ensures none { IfOk result (λ m. IfNone m (self.new ≡ self.old)) }
+        ensures table { IsDeskTable self.old.locks.locks }
+        ensures unchanged { OnErr result (self.new ≡ self.old) }
+    {
+        let Some((name, late)) = self.locks.first_answer(who) else {
+            return Ok(None);
+        };
+        let name = name.copy()?;
+        let id = late.id.copy()?;
+        let answer = late_answer(alloc, late.won)?;
+        self.locks.answer_told(who, &name);
+        Ok(Some(answer.into_reply(id)))
+    }
+
+    // The first notice that a session is owed.
+    fn collect_notice(&mut self, alloc: Global, who: u64) -> Result<Option<Message>, NoMemory>
+        ensures given { IfOk result (λ m. CollectsNotice who self.old m self.new) }
+        ensures none { IfOk result (λ m. IfNone m (self.new ≡ self.old)) }
+        ensures table { IsDeskTable self.old.locks.locks }
+        ensures unchanged { OnErr result (self.new ≡ self.old) }
+    {
+        let Some(notice) = self.locks.first_notice(who)? else {
+            return Ok(None);
+        };
+        let message = message_of(alloc, &notice)?;
+        self.locks.notice_told(who, lock_of(&notice));
+        Ok(Some(message))
+    }
+
+    // The first answer or notice for a lock, where no other answer is owed.
+    fn collect_of_lock(&mut self, alloc: Global, who: u64) -> Result<Option<Message>, NoMemory>
+        requires none_sent { filter (passes (Sought.Due who)) self.old.forwards.ledger.pending ≡ [] }
+        ensures given { IfOk result (λ r. CollectsTo (owing_of self.old who) r (owing_of self.new who)) }
+        ensures others { (other : ℕ) → other ≢ who → owing_of self.new other ≡ owing_of self.old other }
+        ensures owners { (name : List ℕ) → owner_of self.new name ≡ owner_of self.old name }
+        ensures does { IfOk result (λ m. CollectsOfLock (slice_get (answers_to who self.old.locks.locks) 0) who self.old m self.new) }
+        ensures unchanged { OnErr result (self.new ≡ self.old) }
+    {
+        match self.collect_late(alloc, who)? {
+            Some(message) => Ok(Some(message)),
+            None => self.collect_notice(alloc, who),
+        }
+    }
+
+    // A session ends.
+    fn drop_session(&mut self, who: u64)
+        ensures after { EndsSession who self.old self.new }
+    {
+        self.forwards.end_session(who);
+        self.locks.end_session(who);
+    }
+
+    // The session, and whether anything is owed to it.
+    fn marked(&self, member: Member) -> Member
+        ensures value { result ≡ marked (owing_of self.now) member }
+    {
+        Member {
+            who: member.who,
+            owed: self.forwards.owes(member.who) || self.locks.owes(member.who),
+        }
+    }
+}
+
+impl Authority for RelayDesk {
+    ghost owing = { λ d who. owing_of d who };
+
+    ghost owner = { λ d name. owner_of d name };
+
+    /// A transaction is passed on, and a lock asked for at the desk. `NoMemory` leaves the whole desk as it was.
+    fn ask(&mut self, alloc: Global, who: u64, ask: Ask) -> Result<Option<Message>, NoMemory>
+        ensures asked { IfOk result (λ r. AsksTo (owing_of self.old who) ask.id r (owing_of self.new who)) }
+        ensures others { LeavesOthers who (owing_of self.old) (owing_of self.new) }
+        ensures does { IfOk result (λ r. Asks who ask.id ask.verb self.old r self.new) }
+        ensures whole { OnErr result (self.new ≡ self.old) }
+    {
+        let Ask { id, verb } = ask;
+        match verb {
+            Verb::Transact(operations) => self.transact(alloc, who, operations, id),
+            Verb::Lock(name) => self.ask_named(alloc, who, LockVerb::Lock, &name, id),
+            Verb::Steal(name) => self.ask_named(alloc, who, LockVerb::Steal, &name, id),
+            Verb::Unlock(name) => self.ask_named(alloc, who, LockVerb::Unlock, &name, id),
+        }
+    }
+
+    fn collect(&mut self, alloc: Global, who: u64) -> Result<Option<Message>, NoMemory>
+        ensures given { IfOk result (λ r. CollectsTo (owing_of self.old who) r (owing_of self.new who)) }
+        ensures others { (other : ℕ) → other ≢ who → owing_of self.new other ≡ owing_of self.old other }
+        ensures owners { (name : List ℕ) → owner_of self.new name ≡ owner_of self.old name }
+        ensures does { IfOk result (λ m. Collects who self.old m self.new) }
+        ensures unchanged { OnErr result (self.new ≡ self.old) }
+    {
+        match self.collect_sent(alloc, who)? {
+            Some(message) => Ok(Some(message)),
+            None => self.collect_of_lock(alloc, who),
+        }
+    }
+
+    fn end_session(&mut self, who: u64)
+        ensures silent { owing_of self.new who ≡ silent }
+        ensures owns_none { (name : List ℕ) → owner_of self.new name ≢ Some who }
+        ensures others { LeavesOthers who (owing_of self.old) (owing_of self.new) }
+        ensures after { EndsSession who self.old self.new }
+    {
+        self.drop_session(who);
+    }
+
+    fn mark(&self, members: &mut [Member])
+        ensures marked { members.new ≡ map (marked (owing_of self.now)) members.old }
+    {
+        for member in members.iter_mut() {
+            *member = self.marked(*member);
+        }
+    }
+}
