@@ -2,8 +2,9 @@
 
 use crate::fault::Fault;
 use crate::{
-    changes, commands, data, desks, devices, folds, forwards, full_stores, ids, locks, messages,
-    queries, readers, schemas, scripts, sources, stores, stories, streams, upstreams,
+    authorities, changes, commands, data, desks, devices, folds, forwards, full_stores, ids, locks,
+    messages, queries, readers, relay_desks, schemas, scripts, sources, stores, stories, streams,
+    upstreams,
 };
 use ovs_types::Schema;
 use serde_json::Value;
@@ -64,6 +65,7 @@ fn of_schema(alloc: Global, schema: &Schema, what: &str, parts: &[Value]) -> Res
         "updates" => queries::updates(alloc, schema, parts),
         "source" => sources::source(alloc, schema, parts),
         "desk" => desks::desk(alloc, schema, parts),
+        "authorities" => authorities::authorities(alloc, schema, parts),
         "upstream" => upstreams::upstream(alloc, schema, parts),
         "reader" => readers::reader(alloc, schema, parts),
         _ => Err(Fault::Malformed),
@@ -93,6 +95,7 @@ fn alone(alloc: Global, what: &str, parts: &[Value]) -> Result<Option<String>, F
         "message" => messages::message(alloc, parts)?,
         "locks" => locks::locks(alloc, parts)?,
         "forwards" => forwards::forwards(alloc, parts)?,
+        "relay desk" => relay_desks::relay_desk(alloc, parts)?,
         "counted" => devices::counted(alloc, parts)?,
         "fold bytes" => folds::fold_bytes(alloc, parts)?,
         "world bytes" => stories::world_bytes(alloc, parts)?,

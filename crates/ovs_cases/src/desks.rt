@@ -10,7 +10,8 @@ use ovs_wire::{Id, Message};
 use serde_json::Value;
 use std::alloc::Global;
 
-fn session(parts: &[Value]) -> Result<u64, Fault> {
+/// The session of an event.
+pub(crate) fn session(parts: &[Value]) -> Result<u64, Fault> {
     part(parts, 1)?.as_u64().ok_or(Fault::Malformed)
 }
 
@@ -25,7 +26,8 @@ fn operations(parts: &[Value]) -> Result<Vec<Value>, Fault> {
     }
 }
 
-fn verb(alloc: Global, what: &str, parts: &[Value]) -> Result<Verb, Fault> {
+/// What an event asks.
+pub(crate) fn verb(alloc: Global, what: &str, parts: &[Value]) -> Result<Verb, Fault> {
     match what {
         "transact" => Ok(Verb::Transact(operations(parts)?)),
         "lock" => Ok(Verb::Lock(name(alloc, parts)?)),
@@ -35,15 +37,16 @@ fn verb(alloc: Global, what: &str, parts: &[Value]) -> Result<Verb, Fault> {
     }
 }
 
-fn told(alloc: Global, message: &Option<Message>) -> Result<String, Fault> {
+/// A message as text.
+pub(crate) fn told(alloc: Global, message: &Option<Message>) -> Result<String, Fault> {
     match message {
         Some(message) => text_of(alloc, message),
         None => word(alloc, "nothing"),
     }
 }
 
-// What a session is told at once; the request's id is the session's number.
-fn asked<A: Authority>(
+/// What a session is told at once; the request's id is the session's number.
+pub(crate) fn asked<A: Authority>(
     alloc: Global,
     authority: &mut A,
     who: u64,
@@ -53,11 +56,21 @@ fn asked<A: Authority>(
     told(alloc, &authority.ask(alloc, who, Ask { id, verb })?)
 }
 
-fn collected<A: Authority>(alloc: Global, authority: &mut A, who: u64) -> Result<String, Fault> {
+/// What a session is told next.
+pub(crate) fn collected<A: Authority>(
+    alloc: Global,
+    authority: &mut A,
+    who: u64,
+) -> Result<String, Fault> {
     told(alloc, &authority.collect(alloc, who)?)
 }
 
-fn ended<A: Authority>(alloc: Global, authority: &mut A, who: u64) -> Result<String, Fault> {
+/// A session ends.
+pub(crate) fn ended<A: Authority>(
+    alloc: Global,
+    authority: &mut A,
+    who: u64,
+) -> Result<String, Fault> {
     authority.end_session(who);
     word(alloc, "ended")
 }

@@ -4,6 +4,7 @@
 //! A line is `["WHAT", ARGUMENT, ..] => ANSWER`. Empty lines and lines that begin with `#` are passed over.
 #![tactic(auto)]
 
+mod authorities;
 mod case;
 mod changes;
 mod columns;
@@ -20,6 +21,7 @@ mod locks;
 mod messages;
 mod queries;
 mod readers;
+mod relay_desks;
 mod schemas;
 mod scripts;
 mod sources;

@@ -1,0 +1,104 @@
+//! What every authority answers, whichever it is: the source's desk and a relay's.
+
+use crate::case::{add, list, text, word};
+use crate::desks::{ended, session, verb};
+use crate::fault::Fault;
+use ovs_authority::{Ask, Authority, Member, Verb};
+use ovs_desk::RelayDesk;
+use ovs_source::{FreshRows, Source, SourceDesk};
+use ovs_types::{RowId, Schema, Text, TxnId};
+use ovs_wire::{Id, Message};
+use serde_json::Value;
+use std::alloc::Global;
+
+// What a message is, in a word.
+fn kind(message: &Option<Message>) -> &'static str {
+    match message {
+        Some(Message::Reply { error, .. }) => {
+            if error.as_value().is_null() {
+                "reply"
+            } else {
+                "refusal"
+            }
+        }
+        Some(Message::Notice { .. }) => "notice",
+        Some(Message::Request { .. }) => "request",
+        None => "nothing",
+    }
+}
+
+fn asked<A: Authority>(
+    alloc: Global,
+    authority: &mut A,
+    who: u64,
+    verb: Verb,
+) -> Result<String, Fault> {
+    let id = Id::from_number(who);
+    word(alloc, kind(&authority.ask(alloc, who, Ask { id, verb })?))
+}
+
+fn collected<A: Authority>(alloc: Global, authority: &mut A, who: u64) -> Result<String, Fault> {
+    word(alloc, kind(&authority.collect(alloc, who)?))
+}
+
+// Whether `collect` has something for a session.
+fn marked<A: Authority>(alloc: Global, authority: &A, who: u64) -> Result<String, Fault> {
+    let mut members = [Member { who, owed: true }];
+    authority.mark(&mut members);
+    let owed = members.iter().all(|member| member.owed);
+    word(alloc, if owed { "owed" } else { "not owed" })
+}
+
+fn event<A: Authority>(alloc: Global, authority: &mut A, parts: &[Value]) -> Result<String, Fault> {
+    match text(parts, 0)? {
+        "told" => collected(alloc, authority, session(parts)?),
+        "marked" => marked(alloc, authority, session(parts)?),
+        "end" => ended(alloc, authority, session(parts)?),
+        what => asked(alloc, authority, session(parts)?, verb(alloc, what, parts)?),
+    }
+}
+
+fn answers<A: Authority>(
+    alloc: Global,
+    authority: &mut A,
+    events: &[Value],
+) -> Result<String, Fault> {
+    let mut answers = String::new(alloc);
+    for one in events {
+        let parts = one.as_array().ok_or(Fault::Malformed)?;
+        let answer = event(alloc, authority, parts.as_slice())?;
+        add(&mut answers, answer.as_str())?;
+    }
+    Ok(answers)
+}
+
+fn of_source(alloc: Global, schema: &Schema, events: &[Value]) -> Result<String, Fault> {
+    let source = Source::new(alloc, schema)?;
+    let first = TxnId::from(1u128 << 64);
+    let mut desk = SourceDesk::new(alloc, source, FreshRows::new(RowId::from(1u128)), first);
+    answers(alloc, &mut desk, events)
+}
+
+fn of_relay(alloc: Global, events: &[Value]) -> Result<String, Fault> {
+    let mut desk = RelayDesk::new(alloc, Text::new(alloc, "net")?);
+    desk.found_source();
+    answers(alloc, &mut desk, events)
+}
+
+/// `["authorities", [EVENT, ..]]`, where an event is `["lock", SESSION, NAME]`, `["steal", SESSION, NAME]`, `["unlock", SESSION,
+/// NAME]`, `["told", SESSION]`, `["marked", SESSION]` or `["end", SESSION]`: what kind of answer each gets from the source's desk,
+/// and the same from a relay's.
+pub(crate) fn authorities(
+    alloc: Global,
+    schema: &Schema,
+    parts: &[Value],
+) -> Result<String, Fault> {
+    let events = list(parts, 1)?;
+    let source = of_source(alloc, schema, events)?;
+    let relay = of_relay(alloc, events)?;
+    if source.as_str() == relay.as_str() {
+        Ok(source)
+    } else {
+        Ok(format!(in alloc; "{} / {}", source.as_str(), relay.as_str())?)
+    }
+}
