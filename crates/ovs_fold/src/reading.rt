@@ -1,6 +1,6 @@
 //! What a link's line says.
 
-ghost use Rattle.std.specs.Prelude.{◌≡◌, ◌≢◌, IfOk, OnOk, option_map};
+ghost use Rattle.std.specs.Prelude.{◌≡◌, IfOk, option_map};
 ghost use Rattle.serde_json.specs.View.{view};
 ghost use Rattle.ovs_rows.specs.ChangeReading.{read_change};
 ghost use Rattle.ovs_rows.specs.Change.{IsChangeOf};
@@ -9,9 +9,9 @@ ghost use Rattle.ovs_fold.specs.Reading.{parts_of, change_or_refusal, link_betwe
 use crate::words::Refusal;
 use ovs_json::three_items;
 use ovs_links::Link;
-use ovs_rows::{Change, ChangeError};
+use ovs_rows::Change;
 use ovs_script::json_of_line;
-use ovs_types::{DatumError, NoMemory, Schema, TxnId};
+use ovs_types::{NoMemory, Schema, TxnId};
 use serde_json::Value;
 use std::alloc::Global;
 
@@ -26,17 +26,6 @@ fn parts_of(value: &Value) -> Option<(&str, &str, &Value)>
     Some((prev, id, change))
 }
 
-// A fault of a change as a refusal, but for want of memory.
-fn change_refusal(fault: ChangeError) -> Result<Refusal, NoMemory>
-    ensures value { IfOk result (λ refusal. refusal ≡ Refusal.BadChange fault) }
-    ensures fault { OnOk result (fault ≢ ChangeError.NoMemory) }
-{
-    match fault {
-        ChangeError::NoMemory | ChangeError::Datum(DatumError::NoMemory) => Err(NoMemory),
-        _ => Ok(Refusal::BadChange(fault)),
-    }
-}
-
 fn change_of(
     alloc: Global,
     value: &Value,
@@ -47,7 +36,7 @@ fn change_of(
 {
     match Change::read(alloc, value, schema) {
         Ok(change) => Ok(Ok(change)),
-        Err(fault) => Ok(Err(change_refusal(fault)?)),
+        Err(fault) => Ok(Err(Refusal::BadChange(fault.of_value()?))),
     }
 }
 

@@ -18,4 +18,4 @@ pub use parts::{
 };
 pub use same::same_json;
 pub use text::Text;
-pub use writing::{listed, put, text_json, two, under_name};
+pub use writing::{error_json, listed, put, text_json, two, under_name};

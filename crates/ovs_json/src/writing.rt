@@ -3,7 +3,7 @@
 ghost use Rattle.std.specs.Prelude.{◌≡◌, IfOk, OnOk};
 ghost use Rattle.serde_json.specs.View.{view, items_view, members_view};
 ghost use Rattle.serde_json.specs.Data.{string, put};
-ghost use Rattle.ovs_json.specs.Putting.{two, listed, under_name};
+ghost use Rattle.ovs_json.specs.Putting.{two, listed, under_name, error_json};
 
 use crate::no_memory::NoMemory;
 use serde_json::{Map, Value};
@@ -68,4 +68,14 @@ pub fn under_name(alloc: Global, name: &str, value: Value) -> Result<Value, NoMe
     let mut members = Map::new(alloc);
     put(alloc, &mut members, name, value)?;
     Ok(Value::Object(members))
+}
+
+/// What a refusal is told as, `{"error": TEXT}` (RFC 7047 section 4.1.3).
+///
+/// # Errors
+/// `NoMemory` alone.
+pub fn error_json(alloc: Global, text: &str) -> Result<Value, NoMemory>
+    ensures value { IfOk result (λ v. view v ≡ error_json text.now) }
+{
+    under_name(alloc, "error", text_json(alloc, text)?)
 }

@@ -1,7 +1,7 @@
 -- What a transaction does: its answers, and the rows after it (RFC 7047 section 4.1.3).
-use Rattle.std.specs.Prelude.{ℕ, List, [], ◌∷◌, Bool, map, Option, Some, None, Ok, Err, codes}
-use Rattle.serde_json.specs.Data.{Data, null, string}
-use Rattle.ovs_json.specs.Putting.{under_name}
+use Rattle.std.specs.Prelude.{ℕ, List, [], ◌∷◌, Bool, map, Option, Some, None, Ok, Err}
+use Rattle.serde_json.specs.Data.{Data, null}
+use Rattle.ovs_json.specs.Putting.{error_json}
 use Rattle.ovs_json.specs.Results.{◌>>=◌}
 use Rattle.ovs_types.specs.declared.schema.Table.{Table}
 use Rattle.ovs_types.specs.NamedReading.{NamedIds}
@@ -24,10 +24,6 @@ pub record Setting : Type 0 where
 abbrev pub outcome_of : Setting → Option ℕ → Data → Rows → Read Done
 outcome_of s id d rows = read_operation s.names s.tables s.owns id d >>= λ operation. carried_out s.tables s.commit s.before operation rows
 
--- {"error": TEXT}
-abbrev pub error_json : Fault → Data
-error_json f = under_name (codes "error") (string (fault_text f))
-
 -- an answer for each operation, and the rows after them, if none failed
 pub record Effect : Type 0 where
   pub answers : List Data
@@ -39,7 +35,7 @@ with_answer answer e = record { answers = answer ∷ e.answers; rows = e.rows }
 -- what is answered where an operation and those after it have come to this: after one that fails none is carried out
 abbrev pub effect_after : List Data → Read Done → (Rows → Effect) → Effect
 effect_after ds (Ok done) rest = with_answer done.answer (rest done.rows)
-effect_after ds (Err f) rest = record { answers = error_json f ∷ map (λ d. null) ds; rows = None }
+effect_after ds (Err f) rest = record { answers = error_json (fault_text f) ∷ map (λ d. null) ds; rows = None }
 
 -- the id that the first of the operations is given, if it is given one
 abbrev pub first_given : List (Option ℕ) → Option ℕ

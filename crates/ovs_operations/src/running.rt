@@ -4,24 +4,18 @@ ghost use Rattle.std.specs.Prelude.{◌≡◌, ◌++◌, Some, None, Ok, Err, tr
 ghost use Rattle.serde_json.specs.Data.{null};
 ghost use Rattle.serde_json.specs.View.{view};
 ghost use Rattle.ovs_rows.specs.DatabaseDifference.{database_difference};
-ghost use Rattle.ovs_operations.specs.Effect.{outcome_of, error_json, first_given, later_given, effect};
+ghost use Rattle.ovs_operations.specs.Effect.{outcome_of, first_given, later_given, effect};
 ghost use Rattle.ovs_operations.specs.Given.{setting_of, MayCommit, ComesTo};
 
 use crate::carrying::carried_out;
 use crate::fault::Fault;
 use crate::reading::operation::read_operation;
 use crate::setting::Setting;
-use ovs_json::{text_json, under_name};
+use ovs_json::error_json;
 use ovs_rows::{Change, Draft};
 use ovs_types::{NoMemory, RowId, Schema};
 use serde_json::Value;
 use std::alloc::Global;
-
-fn error_json(alloc: Global, fault: Fault) -> Result<Value, NoMemory>
-    ensures value { IfOk result (λ v. view v ≡ error_json fault) }
-{
-    under_name(alloc, "error", text_json(alloc, fault.text())?)
-}
 
 // Reads an operation, which is given an id if it inserts a row, and carries it out.
 fn outcome_of(
@@ -91,7 +85,7 @@ fn run_all(
         match outcome_of(alloc, setting, schema, id, operation, work)? {
             Ok(answer) => answers.push(answer)?,
             Err(fault) => {
-                answers.push(error_json(alloc, fault)?)?;
+                answers.push(error_json(alloc, fault.text())?)?;
                 add_nulls(answers, rest)?;
                 return Ok(false);
             }

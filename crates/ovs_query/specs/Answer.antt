@@ -1,12 +1,12 @@
 -- What a transaction that only reads answers, from one database (RFC 7047 section 4.1.3).
 use Rattle.std.specs.Prelude.{◌≡◌, ◌<◌, ℕ, List, [], ◌∷◌, Bool, true, false, ◌||◌, Some, is_err, Result, Ok, Err, if◌then◌else◌, codes, option_and_then, length, slice_get}
 use Rattle.std.specs.Option.{ok_or}
-use Rattle.serde_json.specs.Data.{Data, null, string, object, no_members, Items, no_items, item}
+use Rattle.serde_json.specs.Data.{Data, null, object, no_members, Items, no_items, item}
 use Rattle.serde_json.specs.Find.{get, as_str}
 use Rattle.serde_json.specs.View.{view}
 use Rattle.serde_json.specs.declared.value.Value.{Value}
 use Rattle.ovs_json.specs.Parts.{is_first}
-use Rattle.ovs_json.specs.Putting.{under_name}
+use Rattle.ovs_json.specs.Putting.{error_json}
 use Rattle.ovs_json.specs.Results.{◌>>=◌, result_map}
 use Rattle.ovs_types.specs.declared.schema.Table.{Table}
 use Rattle.ovs_rows.specs.Row.{Rows}
@@ -46,14 +46,10 @@ result_of tables rows d = if is_operation (codes "comment") d then comment_resul
 abbrev pub seen : Result Value QueryError → Read Data
 seen r = result_map view r
 
--- {"error": TEXT}
-abbrev pub error_json : QueryError → Data
-error_json e = under_name (codes "error") (string (query_text e))
-
 -- its result in the answer
 abbrev pub told : Read Data → Data
 told (Ok d) = d
-told (Err e) = error_json e
+told (Err e) = error_json (query_text e)
 
 -- ---- the results of all
 

@@ -4,12 +4,12 @@ ghost use Rattle.std.specs.Prelude.{◌≡◌, IfOk, List, map, true, false};
 ghost use Rattle.std.specs.List.{list_all};
 ghost use Rattle.serde_json.specs.View.{view, items_view, items_of};
 ghost use Rattle.serde_json.specs.Data.{Data, array};
-ghost use Rattle.ovs_query.specs.Answer.{is_operation, only_reads, error_json, comment_result, select_result, result_of, results, seen, AreResults};
+ghost use Rattle.ovs_query.specs.Answer.{is_operation, only_reads, comment_result, select_result, result_of, results, seen, AreResults};
 
 use crate::error::QueryError;
 use crate::reading::conditions::PlainValues;
 use crate::reading::select::read_select;
-use ovs_json::{is_word, text_json, under_name};
+use ovs_json::{error_json, is_word};
 use ovs_rows::Database;
 use ovs_types::NoMemory;
 use serde_json::{Map, Value};
@@ -35,12 +35,6 @@ pub fn read_only(operations: &[Value]) -> bool
     ensures value { result ≡ list_all (λ v. only_reads (view v)) operations.now }
 {
     operations.iter().all(only_reads)
-}
-
-fn error_json(alloc: Global, fault: QueryError) -> Result<Value, NoMemory>
-    ensures value { IfOk result (λ v. view v ≡ error_json fault) }
-{
-    under_name(alloc, "error", text_json(alloc, fault.text())?)
 }
 
 // A comment needs a text, and does nothing.
@@ -98,7 +92,7 @@ fn results_of(
             match result_of(alloc, database, operation)? {
                 Ok(value) => answers.push(value)?,
                 Err(fault) => {
-                    answers.push(error_json(alloc, fault)?)?;
+                    answers.push(error_json(alloc, fault.text())?)?;
                     failed = true;
                 }
             }

@@ -17,8 +17,8 @@ use crate::up_event::{Links, UpEvent};
 use ovs_authority::Answer;
 use ovs_json::{NoMemory, is_empty_object, is_word};
 use ovs_links::Link;
-use ovs_rows::{Change, ChangeError};
-use ovs_types::{DatumError, Schema, SchemaError, TxnId};
+use ovs_rows::Change;
+use ovs_types::{Schema, SchemaError, TxnId};
 use ovs_wire::{Id, Message};
 use serde_json::Value;
 use std::alloc::Global;
@@ -46,21 +46,12 @@ pub struct Heard {
     pub event: UpEvent,
 }
 
-fn change_fault(fault: ChangeError) -> UpError
-    ensures told { result ≢ UpError.NoMemory → (result ≡ UpError.Change fault) × (fault ≢ ChangeError.NoMemory) }
-{
-    match fault {
-        ChangeError::NoMemory | ChangeError::Datum(DatumError::NoMemory) => UpError::NoMemory,
-        _ => UpError::Change(fault),
-    }
-}
-
 fn change_in(alloc: Global, updates: &Value, schema: &Schema) -> Result<Change, UpError>
     ensures exact { Gives UpError.NoMemory (λ c. c) result (change_in (read_change schema.now.description.tables (view updates.now))) }
 {
     match Change::read(alloc, updates, schema) {
         Ok(change) => Ok(change),
-        Err(fault) => Err(change_fault(fault)),
+        Err(fault) => Err(UpError::Change(fault.of_value()?)),
     }
 }
 
