@@ -1,6 +1,6 @@
 //! What is published: a database with its steps.
 
-ghost use Rattle.std.specs.Prelude.{◌≡◌, [], IfSome};
+ghost use Rattle.std.specs.Prelude.{◌≡◌, ◌<◌, [], IfSome, IfNone, length};
 ghost use Rattle.ovs_links.specs.Steps.{folded_of};
 ghost use Rattle.ovs_links.specs.Absorbing.{folded_by};
 ghost use Rattle.ovs_views.specs.Published.{GoesOn};
@@ -64,9 +64,11 @@ impl<K: NodeName> Shown<K> {
         &self.folded
     }
 
-    /// The front that knows the steps, where they are no fewer than those that are known, which then begin them.
+    /// The front that knows the steps, where they are no fewer than those that are known, which then begin them. `None` exactly
+    /// where they are fewer.
     pub fn since(&self, known: &Front<K>) -> Option<Front<K>>
         ensures value { IfSome result (λ f. (f ≡ self.now) × GoesOn K.schema known.now f) }
+        ensures fewer { IfNone result (length self.now < length known.now) }
     {
         if self.front.len() < known.len() {
             return None;

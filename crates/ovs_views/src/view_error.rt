@@ -20,12 +20,22 @@ pub enum ViewError {
 }
 
 impl From<Gone> for ViewError {
+    ghost use Rattle.std.specs.Prelude.{◌≡◌};
+    ghost use Rattle.ovs_views.specs.declared.view_error.ViewError.TheVariants as faults;
+
+    ghost from_gives = { λ _ e. e ≡ faults.Gone };
+
     fn from(_gone: Gone) -> ViewError {
         ViewError::Gone
     }
 }
 
 impl From<NoMemory> for ViewError {
+    ghost use Rattle.std.specs.Prelude.{◌≡◌};
+    ghost use Rattle.ovs_views.specs.declared.view_error.ViewError.TheVariants as faults;
+
+    ghost from_gives = { λ _ e. e ≡ faults.NoMemory };
+
     fn from(_want: NoMemory) -> ViewError {
         ViewError::NoMemory
     }

@@ -1,6 +1,6 @@
 //! The session of a reader at a node.
 
-ghost use Rattle.std.specs.Prelude.{◌≡◌, [], true, IfOk, OnOk, OnErr};
+ghost use Rattle.std.specs.Prelude.{◌≡◌, ◌<◌, [], true, length, IfOk, IfErr, OnOk, OnErr};
 ghost use Rattle.ovs_links.specs.Absorbing.{folded_by};
 ghost use Rattle.ovs_reader.specs.Session.{new_session};
 ghost use Rattle.ovs_reader.specs.Turns.{seen_turn, turn, after_turn};
@@ -57,7 +57,7 @@ impl<K: NodeName> ViewSession<K> {
     /// Answers a message (RFC 7047 section 4.1) from what is shown.
     ///
     /// # Errors
-    /// `Gone` where that is less than what the session was shown before; `NoMemory`. Then nothing is changed.
+    /// `Gone` only where that is less than what the session was shown before; `NoMemory`. Then nothing is changed.
     pub fn take_message(
         &mut self,
         alloc: Global,
@@ -66,6 +66,7 @@ impl<K: NodeName> ViewSession<K> {
     ) -> Result<Turn, ViewError>
         ensures turn { IfOk result (λ t. seen_turn t ≡ turn self.old.session (folded_by K.schema shown.now) message) }
         ensures after { OnOk result (self.new ≡ record { session = after_turn self.old.session (folded_by K.schema shown.now) message; last = shown.now }) }
+        ensures gone { IfErr result (λ e. e ≡ ViewError.Gone → length shown.now < length self.old.last) }
         ensures unchanged { OnErr result (self.new ≡ self.old) }
     {
         let last = shown.since(&self.last).ok_or(Gone)?;
@@ -77,10 +78,11 @@ impl<K: NodeName> ViewSession<K> {
     /// The notifications that its monitors weren't given yet (RFC 7047 section 4.1.6), up to what is shown.
     ///
     /// # Errors
-    /// `Gone` where that is less than what the session was shown before; `NoMemory`. Then nothing is changed.
+    /// `Gone` only where that is less than what the session was shown before; `NoMemory`. Then nothing is changed.
     pub fn pump(&mut self, alloc: Global, shown: &Shown<K>) -> Result<Vec<Message>, ViewError>
         ensures told { IfOk result (λ ms. ms.items ≡ told self.old.session.monitors (folded_by K.schema shown.now).steps) }
         ensures after { OnOk result (self.new ≡ record { session = after_pump self.old.session (folded_by K.schema shown.now); last = shown.now }) }
+        ensures gone { IfErr result (λ e. e ≡ ViewError.Gone → length shown.now < length self.old.last) }
         ensures unchanged { OnErr result (self.new ≡ self.old) }
     {
         let last = shown.since(&self.last).ok_or(Gone)?;
