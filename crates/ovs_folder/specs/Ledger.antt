@@ -42,6 +42,11 @@ pub record IsAccountOf (links : FinMap nat_cmp Link) (came : List (Item Link)) (
   pub short_count : Counts short full
   pub room : full ≢ [] → len links ≡ max_links
 
+-- one link is taken of a feed, behind all that were taken before
+pub record TakesOne (old new : FeedValue Link) : Type 0 where
+  pub item : Item Link
+  pub taken : new ≡ record { taken = old.taken ++ item ∷ []; ends = old.ends; returned = old.returned }
+
 -- a store, what came of the feed, the link that is kept, and how many were refused
 pub record IntakeValue : Type 0 where
   pub store : Stored

@@ -1,6 +1,6 @@
 //! How links come in.
 
-ghost use Rattle.std.specs.Prelude.{◌≡◌, ◌<◌, ◌^◌, ◌++◌, ◌∷◌, ◌↔◌, [], None, false, OnOk, OnErr, IfOk, IfErr, IsTrue, length, map};
+ghost use Rattle.std.specs.Prelude.{◌≡◌, ◌<◌, ◌^◌, ◌++◌, ◌∷◌, ◌↔◌, [], None, true, false, OnOk, OnErr, IfOk, IfErr, IsTrue, length, map};
 ghost use mathlib.Core.List.{IsPrefix};
 ghost use Rattle.ovs_feed.specs.Feed.{IsDrained};
 ghost use Rattle.ovs_links.specs.Sets.{Holds};
@@ -8,7 +8,7 @@ ghost use Rattle.ovs_links.specs.Settling.{after_settle, settled_of};
 ghost use Rattle.ovs_links.specs.Steps.{folded_of};
 ghost use Rattle.ovs_links.specs.declared.link.Link.{Link};
 ghost use Rattle.ovs_views.specs.Published.{IsNodeChain};
-ghost use Rattle.ovs_folder.specs.Ledger.{IsAccountOf, WasSent, IsFresh, steps_in};
+ghost use Rattle.ovs_folder.specs.Ledger.{IsAccountOf, WasSent, IsFresh, TakesOne, steps_in};
 
 use crate::node_link::NodeLink;
 use ovs_feed::{Feed, FeedEnd, FeedName, FeedQueue};
@@ -104,10 +104,11 @@ impl<K: NodeName, Q: FeedName> Intake<K, Q> {
         }
     }
 
-    /// Pops one link, and keeps it to be taken. False where the feed was empty.
+    /// Pops one link, and keeps it to be taken. False exactly where the feed was empty.
     pub fn pop<R: Wait>(&mut self, rt: &R, queue: &FeedQueue<NodeLink<K>, Q>) -> bool
         requires none { self.old.kept ≡ None }
         ensures store { self.new.store ≡ self.old.store }
+        ensures popped { result ≡ true → TakesOne self.old.feed self.new.feed }
         ensures empty { result ≡ false → (self.new ≡ self.old) × IsDrained self.old.feed }
     {
         match self.feed.take(rt, queue) {

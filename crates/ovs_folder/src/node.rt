@@ -1,6 +1,6 @@
 //! Takes, folds and publishes.
 
-ghost use Rattle.std.specs.Prelude.{◌≡◌, ◌++◌, ◌∷◌, ◌↔◌, [], Ok, None, false, OnOk, IfErr, IsTrue, length, map};
+ghost use Rattle.std.specs.Prelude.{◌≡◌, ◌⊎◌, ◌++◌, ◌∷◌, ◌↔◌, [], Ok, None, true, false, OnOk, IfErr, IsTrue, length, map};
 ghost use Rattle.left_right.specs.Handles.{published, pending};
 ghost use Rattle.ovs_feed.specs.Feed.{IsDrained};
 ghost use Rattle.ovs_links.specs.Sets.{Holds};
@@ -8,7 +8,7 @@ ghost use Rattle.ovs_links.specs.Settling.{chain_of, settled_of};
 ghost use Rattle.ovs_links.specs.declared.link.Link.{Link};
 ghost use Rattle.ovs_views.specs.Published.{IsNodeChain};
 ghost use Rattle.ovs_folder.specs.InStep.{IsAtRest, IsInStep};
-ghost use Rattle.ovs_folder.specs.Ledger.{IsAccountOf, WasSent, steps_in};
+ghost use Rattle.ovs_folder.specs.Ledger.{IsAccountOf, TakesOne, WasSent, steps_in};
 
 use crate::intake::{Closed, Intake};
 use crate::node_link::NodeLink;
@@ -94,7 +94,7 @@ impl<K: NodeName, Q: FeedName, R: Wait + Drop> Node<K, Q, Handle<K, R>> {
     }
 
     /// Does what an earlier want of memory left, and then takes one link more, folds the chain, publishes it and posts it on the
-    /// board. False where the feed was empty, and nothing is left to do.
+    /// board. True where a link was taken, false where the feed was empty; then nothing is left to do.
     ///
     /// # Errors
     /// `NoMemory` alone; then what is left is kept for the next call.
@@ -107,6 +107,8 @@ impl<K: NodeName, Q: FeedName, R: Wait + Drop> Node<K, Q, Handle<K, R>> {
         requires in_step { IsInStep (published self.old.publisher.handle) (pending self.old.publisher.handle) self.old.publisher.front self.old.publisher.kept (steps_in self.old.intake.store) }
         ensures in_step { IsInStep (published self.new.publisher.handle) (pending self.new.publisher.handle) self.new.publisher.front self.new.publisher.kept (steps_in self.new.intake.store) }
         ensures rest { OnOk result (IsAtRest self.new.intake self.new.settled (published self.new.publisher.handle)) }
+        ensures once { (self.new.intake.feed ≡ self.old.intake.feed) ⊎ TakesOne self.old.intake.feed self.new.intake.feed }
+        ensures popped { result ≡ Ok true → TakesOne self.old.intake.feed self.new.intake.feed }
         ensures drained { result ≡ Ok false → (self.new.intake.feed ≡ self.old.intake.feed) × IsDrained self.old.intake.feed }
     {
         self.work_off_and_post(rt, board)?;
