@@ -1,0 +1,11 @@
+use Rattle.ovs_session.proofs.Moved.{moved_more, moved_noted, moved_still}
+use Rattle.ovs_session.proofs.turns.turn.Goals as goal
+
+pub returns-in-Some-clause-moved : goal.returns-in-Some-clause-moved
+returns-in-Some-clause-moved g c = moved_still g.S.Service.answers g.S.Service.tells _ _ _ _
+
+pub returns-clause-moved : goal.returns-clause-moved
+returns-clause-moved g c =
+    let aa = g.S.Service.answers in
+    let ts = g.S.Service.tells in
+    moved_more aa ts _ _ _ _ _ _ _ _ _ _ c.go_on-turned.ensures.moved (moved_noted aa ts _ _ _ _ _ _ c.note.ensures.value)

@@ -1,0 +1,4 @@
+pub mod Counting
+pub mod Serving
+pub mod Moving
+pub mod Whole

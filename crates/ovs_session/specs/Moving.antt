@@ -1,0 +1,74 @@
+-- What a session does to the bytes of its devices, as far as they tell them.
+use Rattle.std.specs.Prelude.{◌≡◌, ℕ, ◌≤◌, ◌⊎◌, List, Option, Some, None, Bool, true, false, Result, Ok, Err, if◌then◌else◌, length}
+use Rattle.std.specs.Io.KnownBytes.{Consumes, Appends, IsAtEnd}
+use Rattle.ovs_wire.specs.Frames.{Ending, Rest, Fault}
+use Rattle.ovs_wire.specs.Limits.{most_bytes}
+use Rattle.ovs_session.specs.declared.came.Came.{Came}
+use Rattle.ovs_session.specs.declared.came.Came.TheVariants as cames
+use Rattle.ovs_session.specs.declared.ended.Ended.{Ended}
+use Rattle.ovs_session.specs.declared.ended.Ended.TheVariants.{Closed, ReadFault, WriteFault, BadInput, TurnsSpent, Gone, NoMemory}
+use Rattle.ovs_session.specs.declared.ended.Refusal.{Refusal}
+use Rattle.ovs_session.specs.declared.ended.Refusal.TheVariants as refusals
+use Rattle.ovs_session.specs.Serving.{SessionValue, Served, IsBounded}
+
+-- the stream has a fault
+abbrev pub is_fault : Ending → Bool
+is_fault (Rest rest) = false
+is_fault (Fault fault) = true
+
+-- a read found the reader's end
+abbrev pub is_end : Came → Bool
+is_end cames.Bytes = false
+is_end cames.Nothing = false
+is_end cames.End = true
+
+-- it is no longer than a message may be
+abbrev pub IsShort : List ℕ → Type 0
+IsShort message = length message ≤ most_bytes
+
+-- nothing more comes of a session that ended so
+abbrev pub is_final : Ended → Bool
+is_final TurnsSpent = false
+is_final NoMemory = false
+is_final Closed = true
+is_final ReadFault = true
+is_final WriteFault = true
+is_final BadInput = true
+is_final Gone = true
+
+-- the end is kept where it is final
+abbrev pub kept : Ended → Option Ended
+kept ended = if is_final ended then Some ended else None
+
+-- why a session has ended for good, where it has
+abbrev pub ended_by : {X : Type 0} → Result X Ended → Option Ended
+ended_by (Ok x) = None
+ended_by (Err ended) = kept ended
+
+-- a session ends so for this refusal
+abbrev pub IsRefusedFor : Refusal → Ended → Type 0
+IsRefusedFor refusals.BadInput ended = ended ≡ BadInput
+IsRefusedFor refusals.Gone ended = ended ≡ Gone
+IsRefusedFor refusals.NoMemory ended = ended ≡ NoMemory
+
+-- a session ends so for some refusal
+abbrev pub IsRefusal : Ended → Type 0
+IsRefusal ended = (refusal : Refusal) × IsRefusedFor refusal ended
+
+-- the stream has a fault, or the service refuses the held message
+abbrev pub IsBad : {C : Type 0} → (C → List ℕ → Type 0) → SessionValue C → Type 0
+IsBad refuses s = (is_fault s.framing.ending ≡ true) ⊎ ((m : List ℕ) × (s.held ≡ Some m) × refuses s.core m)
+
+-- The session moved bytes from its reader, of which the first is left and then the second, to its writer, which has the
+-- third and then the fourth: what it read and what it wrote belong together, what is unsent stays within the bound, it is
+-- at the end only where its reader is, and from then on it reads nothing.
+pub record Moved {C : Type 0} (answers : C → List ℕ → List ℕ → C → Type 0) (tells : C → List ℕ → C → Type 0) (limit : ℕ)
+    (input unread output written : Option (List ℕ)) (old new : SessionValue C) : Type 0 where
+  pub came : List ℕ
+  pub went : List ℕ
+  pub reads : Consumes input unread came
+  pub writes : Appends output written went
+  pub served : Served answers tells old came went new
+  pub bounded : IsBounded answers tells limit old new
+  pub ends : new.is_at_end ≡ true → (old.is_at_end ≡ true) ⊎ IsAtEnd unread
+  pub stays : old.is_at_end ≡ true → (new.is_at_end ≡ true) × (unread ≡ input)

@@ -1,0 +1,23 @@
+//! What came by a read.
+ghost use Rattle.std.specs.Prelude.{◌≡◌};
+ghost use Rattle.ovs_session.specs.Moving.{is_end};
+
+/// What came by a read.
+#[derive(Debug, Clone, Copy, PartialEq, Eq)]
+pub(crate) enum Came {
+    /// Bytes.
+    Bytes,
+    /// Nothing for now.
+    Nothing,
+    /// The reader's end.
+    End,
+}
+
+impl Came {
+    /// Whether the reader is at its end.
+    pub(crate) fn is_end(self) -> bool
+        ensures value { result ≡ is_end self }
+    {
+        matches!(self, Came::End)
+    }
+}

@@ -1,0 +1,86 @@
+//! What was said and isn't written yet.
+ghost use Rattle.std.specs.Prelude.{◌≡◌, ◌⊎◌, ◌++◌, ℕ, List, [], Ok, length, OnOk, OnErr, IfErr, IfOk};
+ghost use Rattle.std.specs.Io.KnownBytes.{Appends};
+
+use crate::ended::Ended;
+use ovs_json::NoMemory;
+use ovs_wire::is_passing;
+use std::alloc::Global;
+use std::io::Write;
+use std::marker::Model;
+
+/// The bytes that are to be written, in order. A contract sees them as a list.
+#[derive(Debug, Drop)]
+pub struct Outbox {
+    bytes: Vec<u8>,
+    // how many at their front are written
+    sent: usize,
+}
+
+impl Model for Outbox {
+    ghost use Rattle.std.specs.Prelude.{ℕ, List, ◌≤◌, drop, length};
+
+    ghost Value = { List ℕ };
+
+    ghost view = { λ o. drop o.sent o.bytes.items };
+
+    ghost invariant = { λ o. o.sent ≤ length o.bytes.items };
+}
+
+impl Outbox {
+    /// Nothing is to be written.
+    pub(crate) fn new(alloc: Global) -> Outbox
+        ensures empty { result ≡ [] }
+    {
+        Outbox {
+            bytes: Vec::new(alloc),
+            sent: 0,
+        }
+    }
+
+    /// How many bytes are to be written.
+    pub fn len(&self) -> usize
+        ensures value { result ≡ length self.now }
+    {
+        self.bytes.len() - self.sent
+    }
+
+    /// Puts a text behind what is to be written. After `NoMemory` nothing has changed.
+    pub fn push(&mut self, text: &[u8]) -> Result<(), NoMemory>
+        ensures ok { OnOk result (self.new ≡ self.old ++ text.now) }
+        ensures err { OnErr result (self.new ≡ self.old) }
+    {
+        self.bytes.extend_from_slice(text)?;
+        Ok(())
+    }
+
+    // Forgets what is written, once it is at least half.
+    fn compact(&mut self)
+        ensures value { self.new ≡ self.old }
+    {
+        if self.sent >= self.bytes.len() - self.sent {
+            self.bytes.drain(..self.sent);
+            self.sent = 0;
+        }
+    }
+
+    /// Writes once, and says how many bytes the writer took: none where it says that none passed for now.
+    ///
+    /// `WriteFault`, its only error, where the write failed, or passed no byte without saying why.
+    pub(crate) fn write_once<W: Write>(&mut self, writer: &mut W) -> Result<usize, Ended>
+        ensures written { (went : List ℕ) × Appends (W.contents writer.old) (W.contents writer.new) went
+            × (self.old ≡ went ++ self.new) × IfOk result (λ n. n ≡ length went) × OnErr result (went ≡ []) }
+        ensures fault { IfErr result (λ e. e ≡ Ended.WriteFault) }
+    {
+        match writer.write(&self.bytes[self.sent..]) {
+            Ok(0) => Err(Ended::WriteFault),
+            Ok(count) => {
+                self.sent += count;
+                self.compact();
+                Ok(count)
+            }
+            Err(error) if is_passing(&error) => Ok(0),
+            Err(_) => Err(Ended::WriteFault),
+        }
+    }
+}

@@ -1,0 +1,236 @@
+//! A session: bytes in, texts out.
+ghost use Rattle.std.specs.Prelude.{◌≡◌, ◌≤◌, ◌+◌, ◌⊎◌, ◌||◌, ◌++◌, ◌↔◌, ℕ, List, [], Some, None, Ok, Err, Bool, true, false, IsTrue, IfErr, IfOk, OnOk, OnErr, length, vec_len, vec_capacity};
+ghost use Rattle.std.specs.Io.KnownBytes.{Consumes, Appends, IsAtEnd};
+ghost use Rattle.ovs_wire.specs.Framing.{Framing, Feeds};
+ghost use Rattle.ovs_session.specs.Counting.{HasCalled, HasWritten};
+ghost use Rattle.ovs_session.specs.Moving.{is_end, is_fault, ended_by};
+ghost use Rattle.ovs_session.specs.Serving.{SessionValue, Holds, fresh};
+
+mod answering;
+
+use crate::came::Came;
+use crate::counts::Counts;
+use crate::ended::Ended;
+use crate::inbox::{Inbox, MessageBytes};
+use crate::outbox::Outbox;
+use crate::reserved::append_reserved;
+pub(crate) use answering::{answer_held, tell_new};
+use ovs_json::NoMemory;
+use ovs_wire::is_passing;
+use std::alloc::Global;
+use std::io::{Read, Write};
+use std::marker::Model;
+
+/// How many bytes a read asks for.
+const READ_BYTES: usize = 4096;
+
+// Reads once, behind bytes that have the room for it.
+fn read_behind<R: Read>(bytes: &mut Vec<u8>, reader: &mut R) -> Result<Came, Ended>
+    requires room { vec_len bytes.old + 4096 ≤ vec_capacity bytes.old }
+    ensures read { (came : List ℕ) × Consumes (R.remaining reader.old) (R.remaining reader.new) came
+        × (bytes.new.items ≡ bytes.old.items ++ came) }
+    ensures end { IfOk result (λ came. is_end came ≡ true → IsAtEnd (R.remaining reader.new)) }
+    ensures fault { IfErr result (λ e. e ≡ Ended.ReadFault) }
+{
+    let mut piece = [0u8; READ_BYTES];
+    match reader.read(&mut piece) {
+        Ok(0) => Ok(Came::End),
+        Ok(count) => {
+            append_reserved(bytes, &piece[..count]);
+            Ok(Came::Bytes)
+        }
+        Err(error) if is_passing(&error) => Ok(Came::Nothing),
+        Err(_) => Err(Ended::ReadFault),
+    }
+}
+
+/// A session with a peer: what was read and not framed yet, what was framed and isn't answered yet, what its service knows of
+/// it, and what was said and isn't written yet. A contract sees it as a `SessionValue`.
+#[derive(Drop)]
+pub struct Session<C> {
+    unfed: Vec<u8>,
+    inbox: Inbox,
+    held: Option<MessageBytes>,
+    core: C,
+    outbox: Outbox,
+    is_at_end: bool,
+    counts: Counts,
+    ended: Option<Ended>,
+}
+
+impl<C> Model for Session<C> {
+    ghost use Rattle.ovs_session.specs.Serving.{SessionValue};
+
+    ghost Value = { SessionValue C };
+
+    ghost view = { λ s. record {
+      unfed = s.unfed.items;
+      framing = s.inbox;
+      held = s.held;
+      core = s.core;
+      unsent = s.outbox;
+      is_at_end = s.is_at_end;
+      counts = s.counts;
+      ended = s.ended;
+    } };
+}
+
+impl<C> Session<C> {
+    /// A session of which nothing was read or said yet.
+    pub fn new(alloc: Global, core: C) -> Session<C>
+        ensures fresh { result ≡ fresh core }
+    {
+        Session {
+            unfed: Vec::new(alloc),
+            inbox: Inbox::new(alloc),
+            held: None,
+            core,
+            outbox: Outbox::new(alloc),
+            is_at_end: false,
+            counts: Counts {
+                turns: 0,
+                messages: 0,
+                bytes_out: 0,
+            },
+            ended: None,
+        }
+    }
+
+    /// What its service knows of it.
+    pub fn core(&self) -> &C
+        ensures value { result.now ≡ self.now.core }
+    {
+        &self.core
+    }
+
+    /// What its service knows of it, without the session.
+    pub fn into_core(self) -> C
+        ensures value { result ≡ self.core }
+    {
+        let Session { core, .. } = self;
+        core
+    }
+
+    /// What it has counted.
+    pub fn counts(&self) -> Counts
+        ensures value { result ≡ self.now.counts }
+    {
+        self.counts
+    }
+
+    /// Why it has ended for good, if it has.
+    pub fn ended(&self) -> Option<Ended>
+        ensures value { result ≡ self.now.ended }
+    {
+        self.ended
+    }
+
+    /// How many bytes were said and aren't written yet.
+    pub fn unsent(&self) -> usize
+        ensures value { result ≡ length self.now.unsent }
+    {
+        self.outbox.len()
+    }
+
+    /// Whether all that was read is fed.
+    pub(crate) fn is_fed(&self) -> bool
+        ensures value { IsTrue result ↔ (self.now.unfed ≡ []) }
+    {
+        self.unfed.is_empty()
+    }
+
+    /// Whether a read found the reader's end.
+    pub(crate) fn is_at_end(&self) -> bool
+        ensures value { result ≡ self.now.is_at_end }
+    {
+        self.is_at_end
+    }
+
+    /// Whether the stream has a fault.
+    pub(crate) fn has_fault(&self) -> bool
+        ensures value { result ≡ is_fault self.now.framing.ending }
+    {
+        self.inbox.has_fault()
+    }
+
+    /// Reads once, into the bytes that are to be fed.
+    ///
+    /// `ReadFault` where the read failed. `NoMemory`: nothing was read.
+    pub(crate) fn read_once<R: Read>(&mut self, reader: &mut R) -> Result<Came, Ended>
+        ensures read { (came : List ℕ) × Consumes (R.remaining reader.old) (R.remaining reader.new) came
+            × (self.new ≡ record self.old { unfed = self.old.unfed ++ came; counts = self.new.counts }) }
+        ensures counted { HasCalled self.old.counts self.new.counts }
+        ensures end { IfOk result (λ came. is_end came ≡ true → IsAtEnd (R.remaining reader.new)) }
+        ensures fault { IfErr result (λ e. (e ≡ Ended.ReadFault) ⊎ (e ≡ Ended.NoMemory)) }
+    {
+        if self.unfed.reserve(READ_BYTES).is_err() {
+            return Err(Ended::NoMemory);
+        }
+        self.counts.add_turn();
+        read_behind(&mut self.unfed, reader)
+    }
+
+    /// Keeps that a read found the end, where it did.
+    pub(crate) fn note_end(&mut self, came: Came)
+        ensures value { self.new ≡ record self.old { is_at_end = self.old.is_at_end || is_end came } }
+    {
+        self.is_at_end = self.is_at_end || came.is_end();
+    }
+
+    /// Feeds the framer what was read. After `NoMemory` nothing has changed.
+    pub(crate) fn feed(&mut self) -> Result<(), NoMemory>
+        ensures fed { OnOk result ((framing : Framing) × Feeds self.old.framing self.old.unfed framing
+            × (self.new ≡ record self.old { unfed = []; framing = framing })) }
+        ensures unchanged { OnErr result (self.new ≡ self.old) }
+    {
+        self.inbox.feed(&self.unfed)?;
+        self.unfed.clear();
+        Ok(())
+    }
+
+    /// Takes the next message out of the framer, where none is held; `false` where there is none. After `NoMemory`
+    /// nothing has changed.
+    pub(crate) fn hold(&mut self) -> Result<bool, NoMemory>
+        ensures held { (self.new ≡ self.old) ⊎ Holds self.old self.new }
+        ensures none { result ≡ Ok false → (self.new ≡ self.old) × (self.old.held ≡ None) × (self.old.framing.waiting ≡ []) }
+    {
+        if self.held.is_some() {
+            return Ok(true);
+        }
+        let alloc = *self.unfed.allocator();
+        match self.inbox.take(alloc)? {
+            Some(message) => {
+                self.held = Some(message);
+                self.counts.add_message();
+                Ok(true)
+            }
+            None => Ok(false),
+        }
+    }
+
+    /// Writes once. Whether bytes passed.
+    ///
+    /// `WriteFault`, its only error.
+    pub(crate) fn write_once<W: Write>(&mut self, writer: &mut W) -> Result<bool, Ended>
+        ensures written { (went rest : List ℕ) × Appends (W.contents writer.old) (W.contents writer.new) went
+            × (self.old.unsent ≡ went ++ rest)
+            × (self.new ≡ record self.old { unsent = rest; counts = self.new.counts })
+            × HasWritten (length went) self.old.counts self.new.counts }
+        ensures fault { IfErr result (λ e. e ≡ Ended.WriteFault) }
+    {
+        self.counts.add_turn();
+        let count = self.outbox.write_once(writer)?;
+        self.counts.add_bytes(count);
+        Ok(count > 0)
+    }
+
+    /// Keeps why it has ended for good, where it has.
+    pub(crate) fn note<T>(&mut self, turned: &Result<T, Ended>)
+        ensures value { self.new ≡ record self.old { ended = ended_by turned.now } }
+    {
+        self.ended = match turned {
+            Err(ended) if ended.is_final() => Some(*ended),
+            _ => None,
+        };
+    }
+}

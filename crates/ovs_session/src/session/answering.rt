@@ -1,0 +1,47 @@
+//! A session answers a message, and tells what is new.
+ghost use Rattle.std.specs.Prelude.{◌≡◌, ◌<◌, ℕ, List, Some, None, Err, IfErr, OnOk, length};
+ghost use Rattle.ovs_session.specs.Moving.{IsRefusal};
+ghost use Rattle.ovs_session.specs.Serving.{Worked};
+
+use crate::ended::Ended;
+use crate::service::Service;
+use crate::session::Session;
+
+/// Answers the message that is held, where one is. Where the service refuses it, it stays held and nothing has changed.
+pub(crate) fn answer_held<S: Service>(
+    session: &mut Session<S::Session>,
+    service: &mut S,
+) -> Result<(), Ended>
+    ensures worked { (limit : ℕ) → length session.old.unsent < limit → Worked S.answers S.tells limit session.old session.new }
+    ensures none { OnOk result (session.new.held ≡ None) }
+    ensures rest { session.new ≡ record session.old { held = session.new.held; core = session.new.core; unsent = session.new.unsent } }
+    ensures refused { IfErr result (λ e. IsRefusal e) }
+    ensures bad { result ≡ Err Ended.BadInput → (m : List ℕ) × (session.new.held ≡ Some m) × S.refuses session.new.core m }
+{
+    match session.held.take() {
+        None => Ok(()),
+        Some(message) => match service.answer(
+            &mut session.core,
+            message.as_slice(),
+            &mut session.outbox,
+        ) {
+            Ok(()) => Ok(()),
+            Err(refusal) => {
+                session.held = Some(message);
+                Err(refusal.into())
+            }
+        },
+    }
+}
+
+/// Tells what is new. Where the service refuses, nothing has changed.
+pub(crate) fn tell_new<S: Service>(
+    session: &mut Session<S::Session>,
+    service: &mut S,
+) -> Result<(), Ended>
+    ensures worked { (limit : ℕ) → length session.old.unsent < limit → Worked S.answers S.tells limit session.old session.new }
+    ensures rest { session.new ≡ record session.old { core = session.new.core; unsent = session.new.unsent } }
+    ensures refused { IfErr result (λ e. IsRefusal e × (e ≡ Ended.BadInput → ⊥)) }
+{
+    Ok(service.tell(&mut session.core, &mut session.outbox)?)
+}

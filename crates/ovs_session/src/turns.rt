@@ -1,0 +1,68 @@
+//! A session's turn.
+ghost use Rattle.std.specs.Prelude.{◌≡◌, Some, None, Err};
+ghost use Rattle.ovs_session.specs.Counting.{SpendsAtMost};
+ghost use Rattle.ovs_session.specs.Moving.{Moved, IsBad, ended_by};
+ghost use Rattle.ovs_session.specs.Serving.{IsDone};
+
+use crate::ended::Ended;
+use crate::limits::{Limits, Pace};
+use crate::service::Service;
+use crate::session::Session;
+use crate::steps::{answer_all, exchange, tell_below};
+use std::io::{Read, Write};
+
+// A turn of a session that hasn't ended.
+fn go_on<S: Service, R: Read, W: Write>(
+    session: &mut Session<S::Session>,
+    service: &mut S,
+    reader: &mut R,
+    writer: &mut W,
+    limits: Limits,
+) -> Result<Pace, Ended>
+    ensures moved { Moved S.answers S.tells limits.most_unsent (R.remaining reader.old) (R.remaining reader.new)
+        (W.contents writer.old) (W.contents writer.new) session.old session.new }
+    ensures closed { result ≡ Err Ended.Closed → IsDone session.new }
+    ensures bad { result ≡ Err Ended.BadInput → IsBad S.refuses session.new }
+    ensures spent { SpendsAtMost 1 limits.messages session.old.counts session.new.counts }
+{
+    let is_done = answer_all(session, service, limits)?;
+    tell_below(session, service, limits)?;
+    exchange(session, service, reader, writer, is_done)
+}
+
+/// One turn of a session: it answers the messages that are whole, tells what is new, and then calls one device at most. It
+/// writes where something is to be written, and else it reads where no message is left to be answered. While the limit of
+/// bytes or more wait to be written, it only writes.
+///
+/// What it reads, answers, tells and writes belongs together, and so do several turns: see `Moved`. An error that is final
+/// is kept: every later turn answers it again, and nothing more is read or written.
+///
+/// - `Closed`: the reader is at its end, every message was answered, and all that was said is written.
+/// - `BadInput`: the stream has a fault, and the messages before it are answered and all that was said is written; or the
+///   service refuses the message that is held.
+/// - `ReadFault`, `WriteFault`: the call of the device failed. That nothing passed for now is no failure.
+/// - `Gone`: the service answers so.
+/// - `NoMemory`: nothing is lost. What was read is kept, a message that was taken stays held, and the turn may be made again.
+pub fn turn<S: Service, R: Read, W: Write>(
+    session: &mut Session<S::Session>,
+    service: &mut S,
+    reader: &mut R,
+    writer: &mut W,
+    limits: Limits,
+) -> Result<Pace, Ended>
+    ensures moved { Moved S.answers S.tells limits.most_unsent (R.remaining reader.old) (R.remaining reader.new)
+        (W.contents writer.old) (W.contents writer.new) session.old session.new }
+    ensures over { (e : _) → session.old.ended ≡ Some e
+        → (result ≡ Err e) × (session.new ≡ session.old) × (reader.new ≡ reader.old) × (writer.new ≡ writer.old) }
+    ensures ends { session.old.ended ≡ None → session.new.ended ≡ ended_by result }
+    ensures closed { session.old.ended ≡ None → result ≡ Err Ended.Closed → IsDone session.new }
+    ensures bad { session.old.ended ≡ None → result ≡ Err Ended.BadInput → IsBad S.refuses session.new }
+    ensures spent { SpendsAtMost 1 limits.messages session.old.counts session.new.counts }
+{
+    if let Some(ended) = session.ended() {
+        return Err(ended);
+    }
+    let turned = go_on(session, service, reader, writer, limits);
+    session.note(&turned);
+    turned
+}
