@@ -1,8 +1,7 @@
 -- What a session does to the bytes of its devices, as far as they tell them.
-use Rattle.std.specs.Prelude.{◌≡◌, ℕ, ◌≤◌, ◌⊎◌, List, Option, Some, None, Bool, true, false, Result, Ok, Err, if◌then◌else◌, length}
+use Rattle.std.specs.Prelude.{◌≡◌, ℕ, ◌⊎◌, List, Option, Some, None, Bool, true, false, Result, Ok, Err, if◌then◌else◌}
 use Rattle.std.specs.Io.KnownBytes.{Consumes, Appends, IsAtEnd}
 use Rattle.ovs_wire.specs.Frames.{Ending, Rest, Fault}
-use Rattle.ovs_wire.specs.Limits.{most_bytes}
 use Rattle.ovs_session.specs.declared.came.Came.{Came}
 use Rattle.ovs_session.specs.declared.came.Came.TheVariants as cames
 use Rattle.ovs_session.specs.declared.ended.Ended.{Ended}
@@ -21,10 +20,6 @@ abbrev pub is_end : Came → Bool
 is_end cames.Bytes = false
 is_end cames.Nothing = false
 is_end cames.End = true
-
--- it is no longer than a message may be
-abbrev pub IsShort : List ℕ → Type 0
-IsShort message = length message ≤ most_bytes
 
 -- nothing more comes of a session that ended so
 abbrev pub is_final : Ended → Bool

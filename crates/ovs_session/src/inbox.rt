@@ -45,23 +45,33 @@ fn tells_fault(fed: Result<(), FrameError>) -> Result<bool, NoMemory>
 }
 
 /// A framer whose messages are taken out whole, or stay where memory runs out.
+///
+/// The room for a message is made before it is taken out, since a message that was taken can't be put back. How long it may
+/// be is known from what was fed: a message that waits became whole with the last piece, and so is no longer than that and
+/// the rest before it.
 #[derive(Debug, Drop)]
 pub(crate) struct Inbox {
     framer: Framer,
     has_fault: bool,
+    // no message that waits is longer
+    most: usize,
+    // the rest of the stream is no longer
+    rest: usize,
+    // how long the last piece was, behind which no rest is left once a message was taken
+    piece: usize,
 }
 
 impl Model for Inbox {
-    ghost use Rattle.std.specs.Prelude.{◌≡◌, All};
+    ghost use Rattle.std.specs.Prelude.{◌≡◌};
     ghost use Rattle.ovs_wire.specs.Framing.{Framing};
-    ghost use Rattle.ovs_session.specs.Moving.{is_fault, IsShort};
+    ghost use Rattle.ovs_session.specs.Moving.{is_fault};
+    ghost use Rattle.ovs_session.specs.Room.{HasRoom};
 
     ghost Value = { Framing };
 
     ghost view = { λ i. i.framer };
 
-    ghost invariant = { λ i. (i.has_fault ≡ is_fault i.framer.ending)
-        × All IsShort i.framer.waiting };
+    ghost invariant = { λ i. (i.has_fault ≡ is_fault i.framer.ending) × HasRoom i.framer i.most i.rest i.piece };
 }
 
 impl Inbox {
@@ -72,6 +82,9 @@ impl Inbox {
         Inbox {
             framer: Framer::new(alloc),
             has_fault: false,
+            most: 0,
+            rest: 0,
+            piece: 0,
         }
     }
 
@@ -82,12 +95,16 @@ impl Inbox {
         self.has_fault
     }
 
-    /// Takes the next piece of the stream. After `NoMemory` nothing of it was taken.
+    /// Takes the next piece of the stream, where no message waits. After `NoMemory` nothing of it was taken.
     pub(crate) fn feed(&mut self, piece: &[u8]) -> Result<(), NoMemory>
+        requires none { self.old.waiting ≡ [] }
         ensures fed { OnOk result (Feeds self.old piece.now self.new) }
         ensures unchanged { OnErr result (self.new ≡ self.old) }
     {
         self.has_fault = tells_fault(self.framer.feed(piece))?;
+        self.most = self.rest.saturating_add(piece.len()).min(MAX_MESSAGE_BYTES);
+        self.rest = self.most;
+        self.piece = piece.len();
         Ok(())
     }
 
@@ -97,12 +114,13 @@ impl Inbox {
         ensures none { result ≡ Ok None → (self.new ≡ self.old) × (self.old.waiting ≡ []) }
         ensures err { OnErr result (self.new ≡ self.old) }
     {
-        let mut bytes = Vec::with_capacity(alloc, MAX_MESSAGE_BYTES)?;
+        let mut bytes = Vec::with_capacity(alloc, self.most)?;
         let Some(message) = self.framer.next() else {
+            self.most = 0;
             return Ok(None);
         };
         append_reserved(&mut bytes, message);
-        bytes.shrink_to(0);
+        self.rest = self.piece;
         Ok(Some(MessageBytes { bytes }))
     }
 }

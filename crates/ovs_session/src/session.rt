@@ -177,8 +177,9 @@ impl<C> Session<C> {
         self.is_at_end = self.is_at_end || came.is_end();
     }
 
-    /// Feeds the framer what was read. After `NoMemory` nothing has changed.
+    /// Feeds the framer what was read, where no message waits. After `NoMemory` nothing has changed.
     pub(crate) fn feed(&mut self) -> Result<(), NoMemory>
+        requires none { self.old.framing.waiting ≡ [] }
         ensures fed { OnOk result ((framing : Framing) × Feeds self.old.framing self.old.unfed framing
             × (self.new ≡ record self.old { unfed = []; framing = framing })) }
         ensures unchanged { OnErr result (self.new ≡ self.old) }

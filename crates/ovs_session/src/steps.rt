@@ -75,6 +75,7 @@ fn refill<S: Service, R: Read>(
     _service: &S,
     reader: &mut R,
 ) -> Result<Pace, Ended>
+    requires none { session.old.framing.waiting ≡ [] }
     ensures moved { (limit : ℕ) (output : Option (List ℕ)) → session.old.is_at_end ≡ false → Moved S.answers S.tells limit
         (R.remaining reader.old) (R.remaining reader.new) output output session.old session.new }
     ensures spent { SpendsAtMost 1 0 session.old.counts session.new.counts }
@@ -96,6 +97,7 @@ fn take_in<S: Service, R: Read>(
     service: &S,
     reader: &mut R,
 ) -> Result<Pace, Ended>
+    requires none { session.old.framing.waiting ≡ [] }
     ensures moved { (limit : ℕ) (output : Option (List ℕ)) → Moved S.answers S.tells limit
         (R.remaining reader.old) (R.remaining reader.new) output output session.old session.new }
     ensures closed { result ≡ Err Ended.Closed → (session.new ≡ session.old) × (session.old.unfed ≡ []) × (session.old.is_at_end ≡ true) }
