@@ -2,13 +2,15 @@
 use Rattle.std.specs.Prelude.{◌≡◌, ℕ, ◌⊎◌, List, Option, Some, None, Bool, true, false, Result, Ok, Err, if◌then◌else◌}
 use Rattle.std.specs.Io.KnownBytes.{Consumes, Appends, IsAtEnd}
 use Rattle.ovs_wire.specs.Frames.{Ending, Rest, Fault}
+use Rattle.ovs_session.specs.declared.limits.Pace.{Pace}
+use Rattle.ovs_session.specs.declared.limits.Pace.TheVariants.{Idle, Busy}
 use Rattle.ovs_session.specs.declared.came.Came.{Came}
 use Rattle.ovs_session.specs.declared.came.Came.TheVariants as cames
 use Rattle.ovs_session.specs.declared.ended.Ended.{Ended}
 use Rattle.ovs_session.specs.declared.ended.Ended.TheVariants.{Closed, ReadFault, WriteFault, BadInput, TurnsSpent, Gone, NoMemory}
 use Rattle.ovs_session.specs.declared.ended.Refusal.{Refusal}
 use Rattle.ovs_session.specs.declared.ended.Refusal.TheVariants as refusals
-use Rattle.ovs_session.specs.Serving.{SessionValue, Served, IsBounded}
+use Rattle.ovs_session.specs.Serving.{SessionValue, Served, IsBounded, IsDone, IsIdle}
 
 -- the stream has a fault
 abbrev pub is_fault : Ending → Bool
@@ -53,6 +55,12 @@ IsRefusal ended = (refusal : Refusal) × IsRefusedFor refusal ended
 -- the stream has a fault, or the service refuses the held message
 abbrev pub IsBad : {C : Type 0} → (C → List ℕ → Type 0) → SessionValue C → Type 0
 IsBad refuses s = (is_fault s.framing.ending ≡ true) ⊎ ((m : List ℕ) × (s.held ≡ Some m) × refuses s.core m)
+
+-- the session has ended only where all is done, or its input is bad, and is idle only where it can do nothing by itself
+pub record IsAnswer {C : Type 0} (refuses : C → List ℕ → Type 0) (result : Result Pace Ended) (s : SessionValue C) : Type 0 where
+  pub closed : result ≡ Err Closed → IsDone s
+  pub bad : result ≡ Err BadInput → IsBad refuses s
+  pub idle : result ≡ Ok Idle → IsIdle s
 
 -- The session moved bytes from its reader, of which the first is left and then the second, to its writer, which has the
 -- third and then the fourth: what it read and what it wrote belong together, what is unsent stays within the bound, it is

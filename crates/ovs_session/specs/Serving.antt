@@ -74,6 +74,10 @@ pub record IsDone {C : Type 0} (s : SessionValue C) : Type 0 where
   pub unsent : s.unsent ≡ []
   pub is_at_end : s.is_at_end ≡ true
 
+-- something is still to be written, or all that was read is answered
+abbrev pub IsIdle : {C : Type 0} → SessionValue C → Type 0
+IsIdle s = (0 < length s.unsent) ⊎ ((s.unfed ≡ []) × (s.framing.waiting ≡ []) × (s.held ≡ None))
+
 module _ {C : Type 0} (answers : C → List ℕ → List ℕ → C → Type 0) (tells : C → List ℕ → C → Type 0) where
   -- this is said in the first state, and leaves the second
   abbrev pub Says : Said → C → C → Type 0

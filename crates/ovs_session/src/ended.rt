@@ -65,6 +65,17 @@ pub enum Refusal {
     NoMemory,
 }
 
+impl From<NoMemory> for Refusal {
+    ghost use Rattle.std.specs.Prelude.{◌≡◌};
+    ghost use Rattle.ovs_session.specs.declared.ended.Refusal.TheVariants as refusals;
+
+    ghost from_gives = { λ _ e. e ≡ refusals.NoMemory };
+
+    fn from(_error: NoMemory) -> Refusal {
+        Refusal::NoMemory
+    }
+}
+
 impl From<Refusal> for Ended {
     ghost use Rattle.ovs_session.specs.Moving.{IsRefusedFor};
 

@@ -30,6 +30,7 @@ fn read_behind<R: Read>(bytes: &mut Vec<u8>, reader: &mut R) -> Result<Came, End
     ensures read { (came : List ℕ) × Consumes (R.remaining reader.old) (R.remaining reader.new) came
         × (bytes.new.items ≡ bytes.old.items ++ came) }
     ensures end { IfOk result (λ came. is_end came ≡ true → IsAtEnd (R.remaining reader.new)) }
+    ensures nothing { result ≡ Ok Came.Nothing → bytes.new.items ≡ bytes.old.items }
     ensures fault { IfErr result (λ e. e ≡ Ended.ReadFault) }
 {
     let mut piece = [0u8; READ_BYTES];
@@ -161,6 +162,7 @@ impl<C> Session<C> {
             × (self.new ≡ record self.old { unfed = self.old.unfed ++ came; counts = self.new.counts }) }
         ensures counted { HasCalled self.old.counts self.new.counts }
         ensures end { IfOk result (λ came. is_end came ≡ true → IsAtEnd (R.remaining reader.new)) }
+        ensures nothing { result ≡ Ok Came.Nothing → self.new.unfed ≡ self.old.unfed }
         ensures fault { IfErr result (λ e. (e ≡ Ended.ReadFault) ⊎ (e ≡ Ended.NoMemory)) }
     {
         if self.unfed.reserve(READ_BYTES).is_err() {
@@ -217,6 +219,7 @@ impl<C> Session<C> {
             × (self.old.unsent ≡ went ++ rest)
             × (self.new ≡ record self.old { unsent = rest; counts = self.new.counts })
             × HasWritten (length went) self.old.counts self.new.counts }
+        ensures nothing { result ≡ Ok false → self.new.unsent ≡ self.old.unsent }
         ensures fault { IfErr result (λ e. e ≡ Ended.WriteFault) }
     {
         self.counts.add_turn();

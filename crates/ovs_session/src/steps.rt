@@ -1,8 +1,8 @@
 //! The steps of a turn.
-ghost use Rattle.std.specs.Prelude.{◌≡◌, ◌⊎◌, ℕ, List, [], Option, Some, None, Ok, Err, true, false, IfErr};
+ghost use Rattle.std.specs.Prelude.{◌≡◌, ◌<◌, ◌⊎◌, ℕ, List, [], Option, Some, None, Ok, Err, true, false, IfErr, length};
 ghost use Rattle.ovs_session.specs.Counting.{SpendsAtMost};
 ghost use Rattle.ovs_session.specs.Moving.{Moved, IsRefusal, is_fault};
-ghost use Rattle.ovs_session.specs.Serving.{Worked, IsDone};
+ghost use Rattle.ovs_session.specs.Serving.{Worked, IsDone, IsIdle};
 
 use crate::came::Came;
 use crate::ended::Ended;
@@ -45,7 +45,7 @@ pub(crate) fn tell_below<S: Service>(
     ensures rest { session.new ≡ record session.old { core = session.new.core; unsent = session.new.unsent } }
     ensures refused { IfErr result (λ e. IsRefusal e × (e ≡ Ended.BadInput → ⊥)) }
 {
-    if session.unsent() >= limits.most_unsent {
+    if limits.most_unsent <= session.unsent() {
         return Ok(());
     }
     tell_new(session, service)
@@ -57,8 +57,10 @@ fn send<S: Service, W: Write>(
     _service: &S,
     writer: &mut W,
 ) -> Result<Pace, Ended>
+    requires some { 0 < length session.old.unsent }
     ensures moved { (limit : ℕ) (input : Option (List ℕ)) → Moved S.answers S.tells limit input input
         (W.contents writer.old) (W.contents writer.new) session.old session.new }
+    ensures idle { result ≡ Ok Pace.Idle → 0 < length session.new.unsent }
     ensures spent { SpendsAtMost 1 0 session.old.counts session.new.counts }
     ensures fault { IfErr result (λ e. e ≡ Ended.WriteFault) }
 {
@@ -78,17 +80,18 @@ fn refill<S: Service, R: Read>(
     requires none { session.old.framing.waiting ≡ [] }
     ensures moved { (limit : ℕ) (output : Option (List ℕ)) → session.old.is_at_end ≡ false → Moved S.answers S.tells limit
         (R.remaining reader.old) (R.remaining reader.new) output output session.old session.new }
+    ensures idle { result ≡ Ok Pace.Idle → (session.new.unfed ≡ session.old.unfed) × (session.new.framing ≡ session.old.framing)
+        × (session.new.held ≡ session.old.held) }
     ensures spent { SpendsAtMost 1 0 session.old.counts session.new.counts }
     ensures fault { IfErr result (λ e. (e ≡ Ended.ReadFault) ⊎ (e ≡ Ended.NoMemory)) }
 {
     let came = session.read_once(reader)?;
     session.note_end(came);
+    if came == Came::Nothing {
+        return Ok(Pace::Idle);
+    }
     session.feed()?;
-    Ok(if came == Came::Nothing {
-        Pace::Idle
-    } else {
-        Pace::Busy
-    })
+    Ok(Pace::Busy)
 }
 
 // Feeds what was read before, says why the input is over, or reads, where no message is left and nothing is to be written.
@@ -101,6 +104,7 @@ fn take_in<S: Service, R: Read>(
     ensures moved { (limit : ℕ) (output : Option (List ℕ)) → Moved S.answers S.tells limit
         (R.remaining reader.old) (R.remaining reader.new) output output session.old session.new }
     ensures closed { result ≡ Err Ended.Closed → (session.new ≡ session.old) × (session.old.unfed ≡ []) × (session.old.is_at_end ≡ true) }
+    ensures idle { result ≡ Ok Pace.Idle → (session.new.unfed ≡ []) × (session.new.framing.waiting ≡ []) × (session.new.held ≡ session.old.held) }
     ensures bad { result ≡ Err Ended.BadInput → is_fault session.new.framing.ending ≡ true }
     ensures spent { SpendsAtMost 1 0 session.old.counts session.new.counts }
 {
@@ -129,6 +133,7 @@ pub(crate) fn exchange<S: Service, R: Read, W: Write>(
     ensures moved { (limit : ℕ) → Moved S.answers S.tells limit (R.remaining reader.old) (R.remaining reader.new)
         (W.contents writer.old) (W.contents writer.new) session.old session.new }
     ensures closed { result ≡ Err Ended.Closed → IsDone session.new }
+    ensures idle { result ≡ Ok Pace.Idle → IsIdle session.new }
     ensures bad { result ≡ Err Ended.BadInput → is_fault session.new.framing.ending ≡ true }
     ensures spent { SpendsAtMost 1 0 session.old.counts session.new.counts }
 {

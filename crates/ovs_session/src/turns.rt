@@ -1,8 +1,8 @@
 //! A session's turn.
-ghost use Rattle.std.specs.Prelude.{◌≡◌, Some, None, Err};
+ghost use Rattle.std.specs.Prelude.{◌≡◌, Some, None, Ok, Err};
 ghost use Rattle.ovs_session.specs.Counting.{SpendsAtMost};
-ghost use Rattle.ovs_session.specs.Moving.{Moved, IsBad, ended_by};
-ghost use Rattle.ovs_session.specs.Serving.{IsDone};
+ghost use Rattle.ovs_session.specs.Moving.{Moved, IsAnswer, IsBad, ended_by};
+ghost use Rattle.ovs_session.specs.Serving.{IsDone, IsIdle};
 
 use crate::ended::Ended;
 use crate::limits::{Limits, Pace};
@@ -22,6 +22,7 @@ fn go_on<S: Service, R: Read, W: Write>(
     ensures moved { Moved S.answers S.tells limits.most_unsent (R.remaining reader.old) (R.remaining reader.new)
         (W.contents writer.old) (W.contents writer.new) session.old session.new }
     ensures closed { result ≡ Err Ended.Closed → IsDone session.new }
+    ensures idle { result ≡ Ok Pace.Idle → IsIdle session.new }
     ensures bad { result ≡ Err Ended.BadInput → IsBad S.refuses session.new }
     ensures spent { SpendsAtMost 1 limits.messages session.old.counts session.new.counts }
 {
@@ -55,8 +56,7 @@ pub fn turn<S: Service, R: Read, W: Write>(
     ensures over { (e : _) → session.old.ended ≡ Some e
         → (result ≡ Err e) × (session.new ≡ session.old) × (reader.new ≡ reader.old) × (writer.new ≡ writer.old) }
     ensures ends { session.old.ended ≡ None → session.new.ended ≡ ended_by result }
-    ensures closed { session.old.ended ≡ None → result ≡ Err Ended.Closed → IsDone session.new }
-    ensures bad { session.old.ended ≡ None → result ≡ Err Ended.BadInput → IsBad S.refuses session.new }
+    ensures answer { session.old.ended ≡ None → IsAnswer S.refuses result session.new }
     ensures spent { SpendsAtMost 1 limits.messages session.old.counts session.new.counts }
 {
     if let Some(ended) = session.ended() {

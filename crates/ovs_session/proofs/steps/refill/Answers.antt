@@ -21,11 +21,10 @@ returns-then-eq-clause-moved g c limit output was =
     let ts = g.S.Service.tells in
     let read = moved_read aa ts limit _ _ output _ _ was c.read_once.ensures.counted c.read_once.ensures.read in
     let noted = moved_end aa ts limit _ output _ _ _ c.in_ok-came.ensures.end c.note_end.ensures.value in
-    moved_more aa ts limit _ _ _ _ _ _ _ _ _ (moved_more aa ts limit _ _ _ _ _ _ _ _ _ read noted)
-    (moved_fed aa ts limit _ output _ _ c.in_ok-feed.ensures.fed)
+    moved_more aa ts limit _ _ _ _ _ _ _ _ _ read noted
 
-pub returns-else-eq-clause-moved : goal.returns-else-eq-clause-moved
-returns-else-eq-clause-moved g c limit output was =
+pub returns-clause-moved : goal.returns-clause-moved
+returns-clause-moved g c limit output was =
     let aa = g.S.Service.answers in
     let ts = g.S.Service.tells in
     let read = moved_read aa ts limit _ _ output _ _ was c.read_once.ensures.counted c.read_once.ensures.read in

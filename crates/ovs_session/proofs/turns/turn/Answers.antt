@@ -1,3 +1,4 @@
+use Rattle.ovs_session.proofs.Ends.{answer_noted}
 use Rattle.ovs_session.proofs.Moved.{moved_more, moved_noted, moved_still}
 use Rattle.ovs_session.proofs.turns.turn.Goals as goal
 
@@ -9,3 +10,8 @@ returns-clause-moved g c =
     let aa = g.S.Service.answers in
     let ts = g.S.Service.tells in
     moved_more aa ts _ _ _ _ _ _ _ _ _ _ c.go_on-turned.ensures.moved (moved_noted aa ts _ _ _ _ _ _ c.note.ensures.value)
+
+pub returns-clause-answer : goal.returns-clause-answer
+returns-clause-answer g c was =
+    let on = c.go_on-turned.ensures in
+    answer_noted g.S.Service.refuses _ _ _ _ c.note.ensures.value on.closed on.bad on.idle
