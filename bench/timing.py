@@ -41,10 +41,10 @@ def each(program, schema, line, rows, times):
     return (more - seconds(program, schema, line(rows, 1))) / times
 
 
-def compare(program, schema, sizes, questions):
+def compare(program, schema, sizes, questions, what="rows"):
     """Prints what each question costs at the two sizes, and the ratio. A question has a name, its line, and how often it is asked at each size."""
     small_rows, large_rows = sizes
-    print(f"{'':24}{small_rows:>8,} rows{large_rows:>8,} rows{'ratio':>10}")
+    print(f"{'':24}{small_rows:>8,} {what}{large_rows:>8,} {what}{'ratio':>10}")
     for name, line, few, many in questions:
         small = each(program, schema, line, small_rows, few)
         large = each(program, schema, line, large_rows, many)
