@@ -151,3 +151,9 @@ module _ {C : Type 0} (answers : C → List ℕ → List ℕ → C → Type 0) (
     bounded = inl (subst (λ (l : List ℕ). length l ≤ length a.unsent) (sym (ap (λ z. z.unsent) is)) (le_same a.unsent));
     same_end = ap (λ z. z.is_at_end) is;
   })
+
+  -- where nothing has happened, what is the same at the beginning
+  pub moved_from : (i j o p : Option (List ℕ)) (a b : SessionValue C) → i ≡ j → o ≡ p → a ≡ b → Moved answers tells limit i j o p a b
+  moved_from i j o p a b x y z =
+      subst (λ (k : Option (List ℕ)). Moved answers tells limit k j o p a b) (sym x)
+      (subst (λ (k : Option (List ℕ)). Moved answers tells limit j j k p a b) (sym y) (moved_worked j p a b (worked_still answers tells limit a b (sym z))))
