@@ -1,5 +1,5 @@
 -- What a session does to the bytes of its devices, as far as they tell them.
-use Rattle.std.specs.Prelude.{◌≡◌, ℕ, ◌⊎◌, List, Option, Some, None, Bool, true, false, Result, Ok, Err, if◌then◌else◌}
+use Rattle.std.specs.Prelude.{◌≡◌, ℕ, ◌⊎◌, List, [], Option, Some, None, Bool, true, false, Result, Ok, Err, if◌then◌else◌}
 use Rattle.std.specs.Io.KnownBytes.{Consumes, Appends, IsAtEnd}
 use Rattle.ovs_wire.specs.Frames.{Ending, Rest, Fault}
 use Rattle.ovs_session.specs.declared.limits.Pace.{Pace}
@@ -52,9 +52,13 @@ IsRefusedFor refusals.NoMemory ended = ended ≡ NoMemory
 abbrev pub IsRefusal : Ended → Type 0
 IsRefusal ended = (refusal : Refusal) × IsRefusedFor refusal ended
 
+-- the stream has a fault, before which all is answered, and all that was said is written
+abbrev pub IsFaulty : {C : Type 0} → SessionValue C → Type 0
+IsFaulty s = (is_fault s.framing.ending ≡ true) × (s.framing.waiting ≡ []) × (s.held ≡ None) × (s.unsent ≡ [])
+
 -- the stream has a fault, or the service refuses the held message
 abbrev pub IsBad : {C : Type 0} → (C → List ℕ → Type 0) → SessionValue C → Type 0
-IsBad refuses s = (is_fault s.framing.ending ≡ true) ⊎ ((m : List ℕ) × (s.held ≡ Some m) × refuses s.core m)
+IsBad refuses s = IsFaulty s ⊎ ((m : List ℕ) × (s.held ≡ Some m) × refuses s.core m)
 
 -- the session has ended only where all is done, or its input is bad, and is idle only where it can do nothing by itself
 pub record IsAnswer {C : Type 0} (refuses : C → List ℕ → Type 0) (result : Result Pace Ended) (s : SessionValue C) : Type 0 where

@@ -1,7 +1,7 @@
 //! The steps of a turn.
 ghost use Rattle.std.specs.Prelude.{◌≡◌, ◌<◌, ◌⊎◌, ℕ, List, [], Option, Some, None, Ok, Err, true, false, IfErr, length};
 ghost use Rattle.ovs_session.specs.Counting.{SpendsAtMost};
-ghost use Rattle.ovs_session.specs.Moving.{Moved, IsRefusal, is_fault};
+ghost use Rattle.ovs_session.specs.Moving.{Moved, IsFaulty, IsRefusal, is_fault};
 ghost use Rattle.ovs_session.specs.Serving.{Worked, IsDone, IsIdle};
 
 use crate::came::Came;
@@ -105,7 +105,7 @@ fn take_in<S: Service, R: Read>(
         (R.remaining reader.old) (R.remaining reader.new) output output session.old session.new }
     ensures closed { result ≡ Err Ended.Closed → (session.new ≡ session.old) × (session.old.unfed ≡ []) × (session.old.is_at_end ≡ true) }
     ensures idle { result ≡ Ok Pace.Idle → (session.new.unfed ≡ []) × (session.new.framing.waiting ≡ []) × (session.new.held ≡ session.old.held) }
-    ensures bad { result ≡ Err Ended.BadInput → is_fault session.new.framing.ending ≡ true }
+    ensures bad { result ≡ Err Ended.BadInput → (session.new ≡ session.old) × (is_fault session.old.framing.ending ≡ true) }
     ensures spent { SpendsAtMost 1 0 session.old.counts session.new.counts }
 {
     if !session.is_fed() {
@@ -134,7 +134,7 @@ pub(crate) fn exchange<S: Service, R: Read, W: Write>(
         (W.contents writer.old) (W.contents writer.new) session.old session.new }
     ensures closed { result ≡ Err Ended.Closed → IsDone session.new }
     ensures idle { result ≡ Ok Pace.Idle → IsIdle session.new }
-    ensures bad { result ≡ Err Ended.BadInput → is_fault session.new.framing.ending ≡ true }
+    ensures bad { result ≡ Err Ended.BadInput → IsFaulty session.new }
     ensures spent { SpendsAtMost 1 0 session.old.counts session.new.counts }
 {
     if session.unsent() > 0 {
