@@ -7,5 +7,5 @@ pub use ovs_folder::{
 };
 pub use ovs_history::Opened;
 pub use ovs_views::{
-    Board, Front, Gone, NodeName, Publisher, Told, View, ViewError, ViewSession, teach,
+    Board, Front, Gone, Handle, NodeName, Publisher, Told, View, ViewError, ViewSession, teach,
 };

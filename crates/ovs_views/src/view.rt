@@ -48,10 +48,20 @@ impl<K: NodeName> Model for View<K> {
 }
 
 impl<K: NodeName> View<K> {
-    pub(crate) fn new(handle: ReadHandle<Shown<K>>, known: Front<K>) -> View<K>
+    /// The view that reads by this handle, and has seen this.
+    pub fn new(handle: ReadHandle<Shown<K>>, known: Front<K>) -> View<K>
         ensures value { result ≡ known }
     {
         View { handle, known }
+    }
+
+    /// The handle by which it reads, and what it has seen or was told of: so taken apart a view goes to another thread, where
+    /// it is put together again.
+    pub fn into_parts(self) -> (ReadHandle<Shown<K>>, Front<K>)
+        ensures known { result.1 ≡ self }
+    {
+        let View { handle, known } = self;
+        (handle, known)
     }
 
     /// All that this view has seen or was told of.
