@@ -1,7 +1,8 @@
--- The links that a session makes are of its schema's tables.
-use Rattle.std.proofs.Common.{◌≡◌, ◌==◌, ◌&&◌, ◌^◌, ℕ, Bool, true, false, cond, List, [], ◌∷◌, Ok, Err, refl, sym, subst}
-use Rattle.std.specs.Prelude.{Result, nat_le}
+-- A message brings one link at most, which is of the schema's tables.
+use Rattle.std.proofs.Common.{◌≡◌, ◌==◌, ◌&&◌, ◌^◌, ◌≤◌, ℕ, Bool, true, false, cond, List, [], ◌∷◌, length, Ok, Err, refl, sym, subst, arith}
+use Rattle.std.specs.Prelude.{Result, nat_le, IfOk}
 use Rattle.serde_json.specs.Data.{Data}
+use Rattle.ovs_json.specs.Gives.{Gives}
 use Rattle.ovs_json.specs.Results.{◌>>=◌}
 use Rattle.ovs_types.specs.SchemaReading.{read_description}
 use Rattle.ovs_types.specs.declared.schema.Table.{Table}
@@ -16,7 +17,8 @@ use Rattle.ovs_upstream.specs.Requests.{monitor_request}
 use Rattle.ovs_json.specs.Parts.{is_empty_object}
 use Rattle.ovs_upstream.specs.Talk.{Talk, Schema, Reached, Update, Aside, Improper}
 use Rattle.ovs_upstream.specs.Hearing.{Hearing, heard, says, opened, are_ends, change_in, made, linked, placed, reached, hears_at, links_in}
-use Rattle.ovs_upstream.specs.declared.error.UpError.TheVariants.{OtherSchema, BadId}
+use Rattle.ovs_upstream.specs.declared.error.UpError.{UpError}
+use Rattle.ovs_upstream.specs.declared.error.UpError.TheVariants.{OtherSchema, BadId, NoMemory}
 use Rattle.ovs_upstream.specs.declared.up_event.UpEvent.{UpEvent}
 use Rattle.ovs_upstream.specs.declared.up_event.UpEvent.TheVariants as event
 use Rattle.ovs_upstream.specs.declared.up_session.Heard.{Heard}
@@ -25,8 +27,11 @@ use Rattle.ovs_upstream.specs.declared.up_session.Stage.TheVariants as stage
 use Rattle.ovs_upstream.specs.declared.up_session.UpSession.{UpSession}
 use Rattle.ovs_upstream.proofs.Runs.{NoLinks}
 
-abbrev AreOf : List Table → Heard → Type 0
-AreOf tables h = AllOf (IsOfTables tables) (links_in h.event)
+abbrev pub AreOf : List Table → Heard → Type 0
+AreOf tables h = AllOf (IsOfTables tables) (links_in h.event) × (length (links_in h.event) ≤ 1)
+
+no_links : (tables : List Table) → AllOf (IsOfTables tables) [] × (length {A = Link} [] ≤ 1)
+no_links tables = (tt, omega arith)
 
 abbrev same : Hearing → Hearing → Type 0
 same r q = r ≡ q
@@ -38,12 +43,12 @@ linked_of : (tables : List Table) (prev id : ℕ) (d : Data) (h : Heard) → lin
 linked_of tables prev id d h = by (are_ends prev id) (read_change tables d) refl
   where
     by : (b : Bool) (r : Result Actions ChangeError) → read_change tables d ≡ r → cond b (change_in r >>= made prev id) (Err BadId) ≡ Ok h → AreOf tables h
-    by true (Ok c) read e = given tables (record { stage = stage.At id; event = event.Links (record { prev = prev; id = id; change = c } ∷ []) }) h (of_tables tables d c (found tables d c read), tt) e
+    by true (Ok c) read e = given tables (record { stage = stage.At id; event = event.Links (record { prev = prev; id = id; change = c } ∷ []) }) h ((of_tables tables d c (found tables d c read), tt), omega arith) e
     by true (Err fault) read e = absurd (cc e)
     by false r read e = absurd (cc e)
 
 placed_of : (tables : List Table) (b : Bool) (id : ℕ) (h : Heard) → placed b id ≡ Ok h → AreOf tables h
-placed_of tables true id h e = given tables (record { stage = stage.At id; event = event.Nothing }) h tt e
+placed_of tables true id h e = given tables (record { stage = stage.At id; event = event.Nothing }) h (no_links tables) e
 placed_of tables false id h e = absurd (cc e)
 
 either : (tables : List Table) (b : Bool) (x y : Hearing) (h : Heard) → (x ≡ Ok h → AreOf tables h) → (y ≡ Ok h → AreOf tables h) → cond b x y ≡ Ok h → AreOf tables h
@@ -60,13 +65,13 @@ opened_of : (s : UpSession) (d : Data) (h : Heard) → opened s d ≡ Ok h → A
 opened_of s d h = by (says s.schema.description (read_description d))
   where
     by : (b : Bool) → cond b (heard stage.Asking (event.Send (monitor_request s.schema s.asked))) (Err OtherSchema) ≡ Ok h → AreOf s.schema.description.tables h
-    by true e = given s.schema.description.tables (record { stage = stage.Asking; event = event.Send (monitor_request s.schema s.asked) }) h tt e
+    by true e = given s.schema.description.tables (record { stage = stage.Asking; event = event.Send (monitor_request s.schema s.asked) }) h (no_links s.schema.description.tables) e
     by false e = absurd (cc e)
 
 aside_of : (tables : List Table) (at : Stage) (e : UpEvent) (h : Heard) → links_in e ≡ [] → heard at e ≡ Ok h → AreOf tables h
-aside_of tables at e h quiet same = given tables (record { stage = at; event = e }) h (subst (λ (ls : List Link). AllOf (IsOfTables tables) ls) (sym quiet) tt) same
+aside_of tables at e h quiet same = given tables (record { stage = at; event = e }) h (subst (λ (ls : List Link). AllOf (IsOfTables tables) ls × (length ls ≤ 1)) (sym quiet) (no_links tables)) same
 
-pub heard_of : (at : Stage) (s : UpSession) (t : Talk) (h : Heard) → NoLinks t → hears_at at s t ≡ Ok h → AllOf (IsOfTables s.schema.description.tables) (links_in h.event)
+heard_of : (at : Stage) (s : UpSession) (t : Talk) (h : Heard) → NoLinks t → hears_at at s t ≡ Ok h → AreOf s.schema.description.tables h
 heard_of stage.Ended s t h quiet e = absurd (cc e)
 heard_of stage.Opening s (Aside x) h quiet e = aside_of s.schema.description.tables stage.Opening x h quiet e
 heard_of stage.Asking s (Aside x) h quiet e = aside_of s.schema.description.tables stage.Asking x h quiet e
@@ -83,3 +88,9 @@ heard_of stage.Asking s Improper h quiet e = absurd (cc e)
 heard_of (stage.At p) s (Schema d) h quiet e = absurd (cc e)
 heard_of (stage.At p) s (Reached known id d) h quiet e = absurd (cc e)
 heard_of (stage.At p) s Improper h quiet e = absurd (cc e)
+
+-- so does what a call gives
+pub given_of : (s : UpSession) (t : Talk) (r : Result Heard UpError) → NoLinks t → Gives NoMemory (λ h. h) r (hears_at s.stage s t)
+    → IfOk r (λ h. AreOf s.schema.description.tables h)
+given_of s t (Ok h) quiet gives = heard_of s.stage s t h quiet gives
+given_of s t (Err e) quiet gives = tt

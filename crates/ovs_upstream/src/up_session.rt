@@ -1,6 +1,6 @@
 //! A session with an upstream: its messages in, links out.
 
-ghost use Rattle.std.specs.Prelude.{◌≡◌, ◌≢◌, [], ◌∷◌, Ok, Err, IfOk, OnOk, OnErr, map};
+ghost use Rattle.std.specs.Prelude.{◌≡◌, ◌≢◌, ◌≤◌, [], ◌∷◌, Ok, Err, IfOk, OnOk, OnErr, length, map};
 ghost use Rattle.serde_json.specs.View.{view};
 ghost use Rattle.ovs_json.specs.Gives.{Gives};
 ghost use Rattle.ovs_types.specs.SchemaReading.{read_description};
@@ -149,12 +149,9 @@ impl UpSession {
         // Where it sends the request for the monitor, each name stands in it once, and the id can be read.
         ensures asked { OnOk result (self.old.stage ≡ Stage.Opening → self.new.stage ≡ Stage.Asking → CanBeAsked self.old.schema self.old.asked) }
     {
-        if let Stage::Ended = self.stage {
-            return Err(UpError::Ended);
-        }
         match self.hear(alloc, message) {
             Ok(heard) => {
-                self.stage = heard.stage;
+                self.go_on(heard.stage);
                 Ok(heard.event)
             }
             Err(error) => {
@@ -164,7 +161,40 @@ impl UpSession {
         }
     }
 
-    fn hear(&self, alloc: Global, message: Message) -> Result<Heard, UpError>
+    /// What the next message of the upstream comes to, and how far the session is after it. Nothing is changed: `go_on` goes
+    /// there, once what was made of the message was handed on.
+    ///
+    /// # Errors
+    /// Those of `take_message`; `Ended` where the session has ended.
+    pub fn hear(&self, alloc: Global, message: Message) -> Result<Heard, UpError>
+        ensures exact { Gives UpError.NoMemory (λ h. h) result (hears self.now message) }
+        // It makes one link at most, which is a change of the schema's tables.
+        ensures tables { IfOk result (λ h. AllOf (IsOfTables self.now.schema.description.tables) (links_in h.event) × (length (links_in h.event) ≤ 1)) }
+        // Where it sends the request for the monitor, each name stands in it once, and the id can be read.
+        ensures asked { IfOk result (λ h. self.now.stage ≡ Stage.Opening → h.stage ≡ Stage.Asking → CanBeAsked self.now.schema self.now.asked) }
+        ensures over { self.now.stage ≡ Stage.Ended → result ≡ Err UpError.Ended }
+    {
+        if let Stage::Ended = self.stage {
+            return Err(UpError::Ended);
+        }
+        self.hear_open(alloc, message)
+    }
+
+    /// Goes on to what `hear` told.
+    pub fn go_on(&mut self, stage: Stage)
+        ensures value { self.new ≡ at_stage self.old stage }
+    {
+        self.stage = stage;
+    }
+
+    /// How far it has come.
+    pub fn stage(&self) -> Stage
+        ensures value { result ≡ self.now.stage }
+    {
+        self.stage
+    }
+
+    fn hear_open(&self, alloc: Global, message: Message) -> Result<Heard, UpError>
         requires open { self.now.stage ≢ Stage.Ended }
         ensures exact { Gives UpError.NoMemory (λ h. h) result (hears self.now message) }
         ensures asked { IfOk result (λ h. self.now.stage ≡ Stage.Opening → h.stage ≡ Stage.Asking → CanBeAsked self.now.schema self.now.asked) }
