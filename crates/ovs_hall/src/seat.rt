@@ -84,6 +84,7 @@ impl<V: Host, R: Read + Drop, W: Write + Drop> Seat<V, R, W> {
     /// Ends the session at its host.
     pub fn end(self, host: &mut V)
         ensures silent { V.is_silent host.new self.session.core }
+        ensures stays { (other : V.Session) → V.is_silent host.old other → V.is_silent host.new other }
     {
         let Seat { session, .. } = self;
         host.end(session.into_core());

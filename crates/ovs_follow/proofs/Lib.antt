@@ -1,0 +1,4 @@
+pub mod Decided
+pub mod Derived
+pub mod Passed
+pub mod OneLink

@@ -1,0 +1,25 @@
+use Rattle.std.proofs.Common.{◌≡◌, ◌∙◌, sym, subst, ap}
+use Rattle.ovs_session.specs.declared.ended.Ended.TheVariants.{Closed, BadInput, NoMemory}
+use Rattle.ovs_session.specs.Serving.{fresh}
+use Rattle.ovs_session.proofs.Moved.{moved_still}
+use Rattle.ovs_follow.specs.Following.{FollowingValue, Hears, Asks, begun}
+use Rattle.ovs_follow.specs.Followed.{HasFollowed}
+use Rattle.ovs_follow.proofs.follow.serve_one.Goals as goal
+
+pub returns-in-Ok-clause-followed : goal.returns-in-Ok-clause-followed
+returns-in-Ok-clause-followed g c =
+    subst (λ (f : FollowingValue). HasFollowed f c.args.limits.most_unsent (g.R.Read.remaining c.args.reader.now) (g.R.Read.remaining c.serve_new.new.reader)
+    (g.W.Write.contents c.args.writer.now) (g.W.Write.contents c.serve_new.new.writer) c.serve_new.result.ended c.serve_new.result.counts
+    (g.S.LinkSink.sent c.serve_new.result.sink)) c.in-Ok.ensures.begun c.serve_new.ensures.followed
+
+pub returns-in-Err-clause-followed : goal.returns-in-Err-clause-followed
+returns-in-Err-clause-followed g c =
+    let ended : c.unserved.result.ended ≡ NoMemory = c.unserved.ensures.ended in
+    record {
+      now = fresh (begun c.args.schema.now c.args.asked (g.S.LinkSink.sent c.args.sink));
+      moved = moved_still Hears Asks c.args.limits.most_unsent _ _ _;
+      counted = c.unserved.ensures.counts;
+      sends = ap g.S.LinkSink.sent (c.unserved.ensures.sink ∙ c.in-Err.ensures.back);
+      closed = λ is. absurd (let no : NoMemory ≡ Closed = sym ended ∙ is in cc);
+      bad = λ is. absurd (let no : NoMemory ≡ BadInput = sym ended ∙ is in cc);
+    }

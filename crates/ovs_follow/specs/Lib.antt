@@ -1,0 +1,4 @@
+pub mod Following
+pub mod Deriving
+pub mod Followed
+pub mod Sending

@@ -1,0 +1,161 @@
+//! A session with an upstream from one end to the other.
+
+ghost use Rattle.std.specs.Prelude.{◌≡◌, ◌≤◌, IfSome};
+ghost use Rattle.std.specs.Io.KnownBytes.{IsAtEnd};
+ghost use Rattle.ovs_links.specs.Sets.{IsOfTables};
+ghost use Rattle.ovs_links.specs.declared.link.Link.{Link};
+ghost use Rattle.ovs_upstream.specs.Hearing.{opening};
+ghost use Rattle.ovs_follow.specs.Following.{begun};
+ghost use Rattle.ovs_follow.specs.Deriving.{SendsFirst, SendsAll};
+ghost use Rattle.ovs_follow.specs.Followed.{HasFollowed};
+
+use crate::follower::Follower;
+use crate::following::Following;
+use crate::link_sink::LinkSink;
+use crate::source_side::SourceSide;
+use ovs_session::{Counts, Ended, Limits, Session, serve};
+use ovs_types::{Schema, TxnId};
+use std::alloc::Global;
+use std::io::{Read, Write};
+
+/// What is left of a session with an upstream after its end.
+#[derive(Drop)]
+pub struct Followed<S: LinkSink, D: SourceSide + Drop> {
+    /// Where its links went.
+    pub sink: S,
+    /// The side of the source.
+    pub source: D,
+    /// What it has counted.
+    pub counts: Counts,
+    /// Why it ended.
+    pub ended: Ended,
+}
+
+// The same without the side of the source.
+#[derive(Drop)]
+struct Served<S: LinkSink> {
+    sink: S,
+    counts: Counts,
+    ended: Ended,
+}
+
+// Serves a session that hasn't begun.
+fn serve_new<S: LinkSink, D: SourceSide + Drop, R: Read, W: Write>(
+    alloc: Global,
+    following: Following<S>,
+    follower: &mut Follower<S, D>,
+    reader: &mut R,
+    writer: &mut W,
+    limits: Limits,
+    most_turns: u32,
+) -> Served<S>
+    ensures followed { HasFollowed following limits.most_unsent (R.remaining reader.old) (R.remaining reader.new)
+        (W.contents writer.old) (W.contents writer.new) result.ended result.counts (S.sent result.sink) }
+    ensures spent { result.counts.turns ≤ most_turns }
+{
+    let mut session = Session::new(alloc, following);
+    let ended = serve(&mut session, follower, reader, writer, limits, most_turns);
+    let counts = session.counts();
+    Served {
+        sink: session.into_core().into_sink(),
+        counts,
+        ended,
+    }
+}
+
+// The session didn't begin.
+fn unserved<S: LinkSink>(sink: S) -> Served<S>
+    ensures sink { result.sink ≡ sink }
+    ensures counts { result.counts ≡ record { turns = 0; messages = 0; bytes_out = 0 } }
+    ensures ended { result.ended ≡ Ended.NoMemory }
+{
+    Served {
+        sink,
+        counts: Counts {
+            turns: 0,
+            messages: 0,
+            bytes_out: 0,
+        },
+        ended: Ended::NoMemory,
+    }
+}
+
+// Opens a session and serves it.
+fn serve_one<S: LinkSink, D: SourceSide + Drop, R: Read, W: Write>(
+    alloc: Global,
+    schema: &Schema,
+    asked: TxnId,
+    sink: S,
+    follower: &mut Follower<S, D>,
+    reader: &mut R,
+    writer: &mut W,
+    limits: Limits,
+    most_turns: u32,
+) -> Served<S>
+    requires takes { (l : Link) → IsOfTables schema.now.description.tables l → S.takes l }
+    ensures followed { HasFollowed (begun schema.now asked (S.sent sink)) limits.most_unsent (R.remaining reader.old) (R.remaining reader.new)
+        (W.contents writer.old) (W.contents writer.new) result.ended result.counts (S.sent result.sink) }
+    ensures spent { result.counts.turns ≤ most_turns }
+{
+    match Following::new(alloc, schema, asked, sink) {
+        Ok(following) => serve_new(
+            alloc, following, follower, reader, writer, limits, most_turns,
+        ),
+        Err(sink) => unserved(sink),
+    }
+}
+
+/// Follows an upstream for one session, by at most so many turns of one call of a device each: asks it for the schema (RFC 7047 section 4.1.2), then for
+/// all that comes after an id, sends the links that it makes of what the upstream says to a sink, and passes on what is asked
+/// of the source. At its end the source is lost.
+///
+/// Over a reader that tells its bytes, the links that it sends are the first of those that are derived from these bytes, and
+/// all of them where it ended `Closed`, which it does only at its reader's end. Where memory ran out before the session could
+/// be opened, it ends with `NoMemory`, and nothing was read, written or sent.
+///
+/// - `Closed`: the reader is at its end, all that was read is heard, and all that was said is written.
+/// - `BadInput`: the upstream's bytes have a fault, or a message is none, or is refused by the session (`UpError` of
+///   `ovs_upstream`), or the side of the source refuses a reply.
+/// - `ReadFault`, `WriteFault`: the call of the device failed.
+/// - `TurnsSpent`, `NoMemory`.
+pub fn follow_upstream<S: LinkSink, D: SourceSide + Drop, R: Read, W: Write>(
+    alloc: Global,
+    schema: &Schema,
+    asked: TxnId,
+    sink: S,
+    source: D,
+    reader: &mut R,
+    writer: &mut W,
+    limits: Limits,
+    most_turns: u32,
+) -> Followed<S, D>
+    requires takes { (l : Link) → IsOfTables schema.now.description.tables l → S.takes l }
+    ensures followed { HasFollowed (begun schema.now asked (S.sent sink)) limits.most_unsent (R.remaining reader.old) (R.remaining reader.new)
+        (W.contents writer.old) (W.contents writer.new) result.ended result.counts (S.sent result.sink) }
+    ensures sent { IfSome (R.remaining reader.old) (λ bytes. SendsFirst (opening schema.now asked) bytes (S.sent sink) (S.sent result.sink)) }
+    ensures closed { result.ended ≡ Ended.Closed → IsAtEnd (R.remaining reader.new)
+        × IfSome (R.remaining reader.old) (λ bytes. SendsAll (opening schema.now asked) bytes (S.sent sink) (S.sent result.sink)) }
+    ensures lost { (before : D) × D.loses before result.source }
+    ensures spent { result.counts.turns ≤ most_turns }
+{
+    let mut follower = Follower::new(alloc, source);
+    let served = serve_one(
+        alloc,
+        schema,
+        asked,
+        sink,
+        &mut follower,
+        reader,
+        writer,
+        limits,
+        most_turns,
+    );
+    let mut source = follower.into_source();
+    source.lost_source();
+    Followed {
+        sink: served.sink,
+        source,
+        counts: served.counts,
+        ended: served.ended,
+    }
+}

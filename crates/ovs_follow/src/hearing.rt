@@ -1,0 +1,53 @@
+//! What the text of a message comes to.
+
+ghost use Rattle.std.specs.Prelude.{◌≡◌, ◌≤◌, Ok, Err, IfOk, length};
+ghost use Rattle.ovs_wire.specs.Message.{Says};
+ghost use Rattle.ovs_links.specs.Sets.{AllOf, IsOfTables};
+ghost use Rattle.ovs_upstream.specs.Hearing.{hears, links_in};
+ghost use Rattle.ovs_upstream.specs.declared.error.UpError.{UpError};
+ghost use Rattle.ovs_follow.specs.Following.{IsHeard, IsUnheard, SaysNone};
+
+use ovs_session::Refusal;
+use ovs_upstream::{Heard, UpError, UpSession};
+use ovs_wire::{Message, MessageError};
+use std::alloc::Global;
+
+// The message that a text says.
+fn read(alloc: Global, text: &[u8]) -> Result<Message, Refusal>
+    ensures says { IfOk result (λ m. Says text.now m) }
+    ensures none { result ≡ Err Refusal.BadInput → SaysNone text.now }
+{
+    match Message::read(alloc, text) {
+        Ok(message) => Ok(message),
+        Err(MessageError::NoMemory) => Err(Refusal::NoMemory),
+        Err(_) => Err(Refusal::BadInput),
+    }
+}
+
+// What a message comes to.
+fn hear_message(alloc: Global, up: &UpSession, message: Message) -> Result<Heard, Refusal>
+    ensures heard { IfOk result (λ h. hears up.now message ≡ Ok h) }
+    ensures tables { IfOk result (λ h. AllOf (IsOfTables up.now.schema.description.tables) (links_in h.event) × (length (links_in h.event) ≤ 1)) }
+    ensures bad { result ≡ Err Refusal.BadInput → (e : UpError) × (hears up.now message ≡ Err e) }
+{
+    match up.hear(alloc, message) {
+        Ok(heard) => Ok(heard),
+        Err(UpError::NoMemory) => Err(Refusal::NoMemory),
+        Err(_) => Err(Refusal::BadInput),
+    }
+}
+
+/// What the text of a message comes to, and how far the session is after it. Nothing is changed.
+///
+/// - `BadInput`: the text says no message, or the session refuses it.
+/// - `NoMemory`.
+pub(crate) fn hear(alloc: Global, up: &UpSession, text: &[u8]) -> Result<Heard, Refusal>
+    ensures heard { IfOk result (λ h. IsHeard up.now text.now h) }
+    ensures tables { IfOk result (λ h. AllOf (IsOfTables up.now.schema.description.tables) (links_in h.event) × (length (links_in h.event) ≤ 1)) }
+    ensures bad { result ≡ Err Refusal.BadInput → IsUnheard up.now text.now }
+{
+    match read(alloc, text) {
+        Ok(message) => hear_message(alloc, up, message),
+        Err(refusal) => Err(refusal),
+    }
+}

@@ -1,0 +1,21 @@
+//! What follows an upstream: a session whose messages become links, which go to a sink, with what is passed on to the source
+//! and what it says back.
+#![tactic(auto)]
+
+mod follow;
+mod follower;
+mod following;
+mod hearing;
+mod laws;
+mod link_sender;
+mod link_sink;
+mod saying;
+mod source_side;
+
+pub use follow::{Followed, follow_upstream};
+pub use follower::Follower;
+pub use following::Following;
+pub use laws::{derived_laws, following_laws};
+pub use link_sender::LinkSender;
+pub use link_sink::{LinkSink, Unsent};
+pub use source_side::{NoSource, SourceSide};

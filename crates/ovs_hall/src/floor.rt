@@ -1,0 +1,184 @@
+//! A worker: one thread that serves many sessions.
+
+use crate::again::Again;
+use crate::doors::{Doors, Woken};
+use crate::hall::Hall;
+use crate::host::Receives;
+use crate::seat::Seat;
+use crate::tally::Tally;
+use ovs_session::{Limits, Pace};
+use std::alloc::Global;
+use std::sync::Wait;
+
+// So many turns a session has at most before the next has some.
+const TURNS_AT_ONCE: usize = 4;
+
+// So many connections at most are taken before sessions are served again.
+const ACCEPTS_AT_ONCE: usize = 16;
+
+// So many sessions at most are asked for by the doors before they are served.
+const READY_AT_ONCE: usize = 4096;
+
+// The sessions of a worker, and those that have work left to do.
+struct Floor<V: Receives, D: Doors> {
+    hall: Hall<V, D::In, D::Out>,
+    again: Again,
+    tally: Tally,
+    limits: Limits,
+}
+
+impl<V: Receives, D: Doors> Floor<V, D> {
+    fn new(alloc: Global, limits: Limits) -> Floor<V, D> {
+        Floor {
+            hall: Hall::new(alloc),
+            again: Again::new(alloc),
+            tally: Tally::new(),
+            limits,
+        }
+    }
+
+    // Ends the session of this number.
+    fn end(&mut self, key: usize, host: &mut V) {
+        if let Some(seat) = self.hall.seat(key) {
+            self.tally.add(seat.session().counts());
+        }
+        self.hall.leave(key, host);
+    }
+
+    // Some turns of the session of this number. Whether it has work left to do.
+    fn serve(&mut self, key: usize, host: &mut V) -> bool {
+        for _turn in 0..TURNS_AT_ONCE {
+            match self.hall.turn(key, host) {
+                Some(Ok(Pace::Busy)) => {}
+                Some(Ok(Pace::Idle)) | None => return false,
+                Some(Err(ended)) if !ended.is_final() => return true,
+                Some(Err(_ended)) => {
+                    self.end(key, host);
+                    return false;
+                }
+            }
+        }
+        true
+    }
+
+    // The session of this number is to have turns. Where there is no memory to keep this it has them now.
+    fn call<R: Wait>(&mut self, rt: &R, key: usize, host: &mut V) {
+        if self.again.push(key) {
+            return;
+        }
+        for _ in rt.forever() {
+            if !self.serve(key, host) {
+                break;
+            }
+        }
+    }
+
+    // All sessions are to have turns.
+    fn call_all<R: Wait>(&mut self, rt: &R, host: &mut V) {
+        for key in 0..self.hall.keys_end() {
+            if self.hall.seat(key).is_some() {
+                self.call(rt, key, host);
+            }
+        }
+    }
+
+    // Each session that something came for is to have turns.
+    fn call_ready<R: Wait>(&mut self, rt: &R, host: &mut V, doors: &mut D) {
+        for _ready in 0..READY_AT_ONCE {
+            let Some(key) = doors.next_ready() else {
+                break;
+            };
+            self.call(rt, key, host);
+        }
+    }
+
+    // Some turns of each session that has work left to do.
+    fn serve_all<R: Wait>(&mut self, rt: &R, host: &mut V) {
+        for _waiting in 0..self.again.len() {
+            let Some(key) = self.again.pop() else {
+                break;
+            };
+            if self.serve(key, host) {
+                self.call(rt, key, host);
+            }
+        }
+    }
+
+    // Takes the next connection in. False where there is none, no more are taken, or there is no memory.
+    fn accept_one<R: Wait>(&mut self, rt: &R, alloc: Global, host: &mut V, doors: &mut D) -> bool {
+        let key = self.hall.next_key();
+        if self.again.make_room(key).is_err() {
+            return false;
+        }
+        let Some((reader, writer)) = doors.accept(key) else {
+            return false;
+        };
+        let Some(core) = host.begin() else {
+            return false;
+        };
+        let seat = Seat::new(alloc, core, reader, writer, self.limits);
+        match self.hall.enter(seat, host) {
+            Some(key) => {
+                self.call(rt, key, host);
+                true
+            }
+            None => false,
+        }
+    }
+
+    // Takes in the connections that wait.
+    fn accept<R: Wait>(&mut self, rt: &R, alloc: Global, host: &mut V, doors: &mut D) {
+        for _accept in 0..ACCEPTS_AT_ONCE {
+            if !self.accept_one(rt, alloc, host, doors) {
+                break;
+            }
+        }
+    }
+
+    // What is to be done after a wait.
+    fn go_on<R: Wait>(&mut self, rt: &R, alloc: Global, host: &mut V, doors: &mut D, woken: Woken) {
+        if woken.is_rung {
+            host.rung();
+            self.call_all(rt, host);
+        }
+        self.call_ready(rt, host, doors);
+        self.serve_all(rt, host);
+        if woken.may_accept {
+            self.accept(rt, alloc, host, doors);
+        }
+    }
+
+    // Ends all sessions.
+    fn close(self, host: &mut V) -> Tally {
+        let Floor {
+            hall,
+            again: _,
+            tally,
+            limits: _,
+        } = self;
+        hall.close(host);
+        tally
+    }
+}
+
+/// Serves the sessions that come in at the doors, until no more come and all have ended; what those counted is handed back.
+///
+/// Each session has the whole law of its own as a fact of its seat (`Seat`), and its end is told to the host. Served are
+/// those for which something came, and all of them once the bell was rung, each a few turns before the next.
+pub fn serve_many<V: Receives, D: Doors, R: Wait>(
+    rt: &R,
+    alloc: Global,
+    host: &mut V,
+    doors: &mut D,
+    limits: Limits,
+) -> Tally {
+    let mut floor = Floor::<V, D>::new(alloc, limits);
+    for _ in rt.forever() {
+        let woken = doors.wait(!floor.again.is_empty());
+        floor.go_on(rt, alloc, host, doors, woken);
+        if woken.is_closed && floor.hall.len() == 0 {
+            break;
+        }
+    }
+    floor.close(host)
+}

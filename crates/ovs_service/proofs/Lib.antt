@@ -1,0 +1,5 @@
+pub mod Settled
+pub mod Runs
+pub mod Promise
+pub mod Heard
+pub mod Marked

@@ -1,0 +1,101 @@
+-- What users are promised follows from what a session does.
+use Rattle.std.proofs.Common.{inl, inr, ◌≡◌, ℕ, List, [], ◌++◌, Option, length, ap, sym, ◌∙◌, subst, refl}
+use Rattle.ovs_types.specs.Schema.{SchemaValue}
+use Rattle.ovs_links.specs.declared.step.Step.{Step}
+use Rattle.ovs_authority.specs.declared.ask.Ask.{Ask}
+use Rattle.ovs_wire.specs.Frames.{AreFrames}
+use Rattle.ovs_wire.specs.declared.message.Message.{Message}
+use Rattle.ovs_session.specs.Counting.{IsAfter}
+use Rattle.ovs_session.specs.Moving.{Moved, IsBad}
+use Rattle.ovs_session.specs.Serving.{SessionValue, Served, IsDone, holding, text, fresh}
+use Rattle.ovs_session.specs.Whole.{Answers, AnswersAll}
+use Rattle.ovs_session.specs.declared.ended.Ended.{Ended}
+use Rattle.ovs_session.specs.declared.ended.Ended.TheVariants.{Closed, BadInput}
+use Rattle.ovs_session.proofs.Whole.{answers_from_new, answers_all}
+use Rattle.ovs_service.specs.Dues.{Comes}
+use Rattle.ovs_service.specs.Calls.{Give}
+use Rattle.ovs_service.specs.Texts.{AreTextsOf}
+use Rattle.ovs_service.specs.Client.{ClientValue, AnswersTo, TellsNew, SaysNothing, new_client, new_view}
+use Rattle.ovs_service.specs.Kept.{IsBadInput, WritesBeginning, WritesAll, Kept}
+use Rattle.ovs_service.proofs.Settled.{append_nil}
+use Rattle.ovs_service.proofs.Runs.{run_of}
+
+bad_of : (now : SessionValue ClientValue) → IsBad {C = ClientValue} (λ client text. SaysNothing text) now
+    → IsBadInput now.framing.ending now.framing.waiting now.held
+bad_of now (inl (fault, none, no_held, written)) = inl (fault, none, no_held)
+bad_of now (inr held) = inr held
+
+module _ (schema : SchemaValue) (replies : ℕ → Ask → Option Message → Type 0) (owes : ℕ → Message → Type 0) where
+  beginning_of : (who : ℕ) (last : List Step) (came went : List ℕ) (now : SessionValue ClientValue) (ended : Ended)
+      → (ended ≡ BadInput → IsBad {C = ClientValue} (λ client text. SaysNothing text) now) → Answers (AnswersTo schema replies owes) (TellsNew schema replies owes) (new_client who last) came went now
+      → WritesBeginning schema (replies who) (owes who) (new_view last) now.counts ended came went
+  beginning_of who last came went now ended bad a =
+      let run = run_of schema replies owes a.said (new_client who last) now.core a.runs in
+      let serves = run.serves in
+      record {
+        framed = a.framed;
+        unframed = now.unfed;
+        stream = a.stream;
+        calls = run.calls;
+        held = now.held;
+        waiting = now.framing.waiting;
+        ending = now.framing.ending;
+        frames = subst (λ (found : List (List ℕ)). AreFrames a.framed ((found ++ holding now.held) ++ now.framing.waiting) now.framing.ending) (sym run.heard_all) a.frames;
+        given = serves.settles.given;
+        text = text a.said;
+        texts = serves.settles.texts;
+        begins = (now.unsent, sym a.written);
+        due = now.core.due;
+        now = now.core.session;
+        gives = λ (later : List Message) (h : Comes (replies who) now.core.due later).
+            serves.gives (serves.settles.given ++ later) (serves.settles.comes later h);
+        bad = λ (e : ended ≡ BadInput). bad_of now (bad e);
+        messages_counted = subst (λ (found : List (List ℕ)). IsAfter now.counts.messages 0 (length (found ++ holding now.held))) (sym run.heard_all) a.messages_counted;
+        bytes_counted = a.bytes_counted;
+      }
+
+  all_of : (who : ℕ) (last : List Step) (came went : List ℕ) (now : SessionValue ClientValue)
+      → AnswersAll (AnswersTo schema replies owes) (TellsNew schema replies owes) (new_client who last) came went now
+      → now.core.due ≡ [] → WritesAll schema (replies who) (owes who) (new_view last) came went
+  all_of who last came went now a settled =
+      let run = run_of schema replies owes a.said (new_client who last) now.core a.runs in
+      let serves = run.serves in
+      record {
+        calls = run.calls;
+        ending = now.framing.ending;
+        frames = subst (λ (found : List (List ℕ)). AreFrames came found now.framing.ending) (sym run.heard_all) a.frames;
+        given = serves.settles.given;
+        texts = subst (λ (t : List ℕ). AreTextsOf serves.settles.given t) (sym a.written) serves.settles.texts;
+        now = now.core.session;
+        gives = subst (λ (l : List Message). Give schema (replies who) (owes who) run.calls (new_view last) l now.core.session)
+            (append_nil serves.settles.given)
+            (serves.gives (serves.settles.given ++ []) (serves.settles.comes []
+            (subst (λ (due : _). Comes (replies who) due []) (sym settled) refl)));
+      }
+
+  pub kept_by : (limit who : ℕ) (last : List Step) (input unread output written : Option (List ℕ)) (old now : SessionValue ClientValue) (ended : Ended)
+      → Moved (AnswersTo schema replies owes) (TellsNew schema replies owes) limit input unread output written old now
+      → old ≡ fresh (new_client who last) → (ended ≡ Closed → IsDone now × (now.core.due ≡ []))
+      → (ended ≡ BadInput → IsBad {C = ClientValue} (λ client text. SaysNothing text) now)
+      → Kept schema (replies who) (owes who) (new_view last) input unread output written now.counts ended
+  kept_by limit who last input unread output written old now ended moved began closed bad =
+      let served = subst (λ (s : SessionValue ClientValue).
+      Served (AnswersTo schema replies owes) (TellsNew schema replies owes) s moved.came moved.went now) began moved.served in
+      record {
+        came = moved.came;
+        went = moved.went;
+        reads = moved.reads;
+        writes = moved.writes;
+        beginning = beginning_of who last moved.came moved.went now ended bad
+            (answers_from_new (AnswersTo schema replies owes) (TellsNew schema replies owes) (new_client who last) moved.came moved.went now served);
+        all = λ (e : ended ≡ Closed). all_of who last moved.came moved.went now
+            (answers_all (AnswersTo schema replies owes) (TellsNew schema replies owes) (new_client who last) moved.came moved.went now served (closed e).0)
+            (closed e).1;
+      }
+
+  pub who_stays : (limit who : ℕ) (last : List Step) (input unread output written : Option (List ℕ)) (old now : SessionValue ClientValue)
+      → Moved (AnswersTo schema replies owes) (TellsNew schema replies owes) limit input unread output written old now
+      → old ≡ fresh (new_client who last) → now.core.who ≡ who
+  who_stays limit who last input unread output written old now moved began =
+      (run_of schema replies owes moved.served.said old.core now.core moved.served.runs).serves.who
+      ∙ ap (λ (s : SessionValue ClientValue). s.core.who) began

@@ -1,0 +1,82 @@
+-- What a reader's session is given, a call after another.
+use Rattle.std.specs.Prelude.{◌≡◌, ℕ, List, [], ◌∷◌, ◌++◌, Option, Some, None}
+use Rattle.std.specs.List.{AllByRecursion}
+use Rattle.std.specs.Option.{option_to_list}
+use Rattle.serde_json.specs.Data.{Data}
+use Rattle.ovs_types.specs.Schema.{SchemaValue}
+use Rattle.ovs_links.specs.Absorbing.{folded_by}
+use Rattle.ovs_links.specs.declared.step.Step.{Step}
+use Rattle.ovs_authority.specs.declared.ask.Ask.{Ask}
+use Rattle.ovs_wire.specs.Message.{Says}
+use Rattle.ovs_wire.specs.declared.message.Message.{Message}
+use Rattle.ovs_reader.specs.Answers.{Asked}
+use Rattle.ovs_reader.specs.Session.{SessionValue}
+use Rattle.ovs_reader.specs.Turns.{TurnValue, turn, after_turn}
+use Rattle.ovs_reader.specs.Telling as telling
+use Rattle.ovs_reader.specs.Telling.{after_pump}
+use Rattle.ovs_views.specs.Published.{GoesOn, ViewSessionValue}
+use Rattle.ovs_service.specs.Dues.{Replies}
+use Rattle.ovs_service.specs.Replies.{IsOwed, seen_ask}
+
+-- a call for a session: a text is answered from these steps; what is new in these steps is told; or these messages of the
+-- authority are collected
+pub data Call : Type 0 where
+  Answer : List ℕ → List Step → Call
+  Pump : List Step → Call
+  Collect : List Message → Call
+
+-- the texts that are heard
+abbrev pub heard : List Call → List (List ℕ)
+heard [] = []
+heard (Answer text shown ∷ calls) = text ∷ heard calls
+heard (Pump shown ∷ calls) = heard calls
+heard (Collect messages ∷ calls) = heard calls
+
+-- first of all what is new is told
+abbrev pub TellsFirst : List Call → Type 0
+TellsFirst [] = ⊥
+TellsFirst (Answer text shown ∷ calls) = ⊥
+TellsFirst (Pump shown ∷ calls) = Unit {0}
+TellsFirst (Collect messages ∷ calls) = ⊥
+
+-- the session after these steps were shown, and this came of it
+abbrev pub shown_to : List Step → SessionValue → ViewSessionValue
+shown_to shown session = record { session = session; last = shown }
+
+module _ (replies : Ask → Option Message → Type 0) where
+  -- this comes of an ask: the authority's reply, where there is one
+  abbrev pub AskGives : Option (Data × Asked) → List Message → Type 0
+  AskGives None given = given ≡ []
+  AskGives (Some asked) given = (ask : Ask) × (seen_ask ask ≡ asked)
+      × ((reply : Option Message) × Replies replies ask reply × (given ≡ option_to_list reply))
+
+  -- this comes of a turn: its reply, or what comes of its ask
+  abbrev pub TurnGives : TurnValue → List Message → Type 0
+  TurnGives t given = (asked : List Message) × AskGives t.ask asked × (given ≡ option_to_list t.out ++ asked)
+
+module _ (schema : SchemaValue) (replies : Ask → Option Message → Type 0) (owes : Message → Type 0) where
+  -- The text says a message, which is answered from steps that go on from those that were shown before.
+  pub record Answers (text : List ℕ) (shown : List Step) (old : ViewSessionValue) (given : List Message) (new : ViewSessionValue) : Type 0 where
+    pub message : Message
+    pub says : Says text message
+    pub goes_on : GoesOn schema old.last shown
+    pub gives : TurnGives replies (turn old.session (folded_by schema shown) message) given
+    pub after : new ≡ shown_to shown (after_turn old.session (folded_by schema shown) message)
+
+  -- What monitors tell of steps that go on from those that were shown before.
+  pub record Pumps (shown : List Step) (old : ViewSessionValue) (given : List Message) (new : ViewSessionValue) : Type 0 where
+    pub goes_on : GoesOn schema old.last shown
+    pub gives : given ≡ telling.told old.session.monitors (folded_by schema shown).steps
+    pub after : new ≡ shown_to shown (after_pump old.session (folded_by schema shown))
+
+  -- one call gives these messages
+  abbrev pub CallGives : Call → ViewSessionValue → List Message → ViewSessionValue → Type 0
+  CallGives (Answer text shown) old given new = Answers text shown old given new
+  CallGives (Pump shown) old given new = Pumps shown old given new
+  CallGives (Collect messages) old given new = AllByRecursion (IsOwed owes) messages × (given ≡ messages) × (new ≡ old)
+
+  -- calls give these messages, one call after another
+  abbrev pub Give : List Call → ViewSessionValue → List Message → ViewSessionValue → Type 0
+  Give [] old given new = (given ≡ []) × (new ≡ old)
+  Give (call ∷ calls) old given new = (mid : ViewSessionValue) × (first : List Message) × (rest : List Message)
+      × CallGives call old first mid × Give calls mid rest new × (given ≡ first ++ rest)

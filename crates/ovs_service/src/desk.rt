@@ -1,0 +1,46 @@
+//! The authority as a service reaches it.
+ghost use Rattle.std.specs.Prelude.{◌≡◌, ℕ, Option, IfOk, IfSome, map};
+ghost use Rattle.ovs_authority.specs.declared.ask.Ask.{Ask};
+ghost use Rattle.ovs_wire.specs.declared.message.Message.{Message};
+ghost use Rattle.ovs_service.specs.Replies.{RepliesTo, IsAnswer, number_of};
+
+use ovs_authority::{Ask, Member};
+use ovs_json::NoMemory;
+use ovs_wire::Message;
+use std::alloc::Global;
+
+/// The authority that answers what only the source can answer, as a service reaches it: one call at a time, between which
+/// others may call it too. So it is an `Authority` of which less is known.
+pub trait Desk {
+    // What a session asks may be replied to so at once, or not.
+    ghost replies: { ℕ → Ask → Option Message → Type 0 };
+
+    // This may be collected for a session.
+    ghost owes: { ℕ → Message → Type 0 };
+
+    // Nothing is kept for the session of this number any more.
+    ghost is_silent: { Self → ℕ → Type 0 };
+
+    /// Asks for a session, and gives the reply where it is known at once.
+    ///
+    /// # Errors
+    /// `NoMemory` alone; then nothing was asked.
+    fn ask(&mut self, alloc: Global, who: u64, ask: &Ask) -> Result<Option<Message>, NoMemory>
+        ensures replied { IfOk result (λ r. replies who ask.now r × RepliesTo ask.now.id r) };
+
+    /// The next message for a session, where one is owed.
+    ///
+    /// # Errors
+    /// `NoMemory` alone; then nothing was given.
+    fn collect(&mut self, alloc: Global, who: u64) -> Result<Option<Message>, NoMemory>
+        ensures given { IfOk result (λ r. IfSome r (λ m. owes who m × IsAnswer m)) };
+
+    /// Ends a session. No memory is taken.
+    fn end_session(&mut self, who: u64)
+        ensures silent { is_silent self.new who }
+        ensures stays { (other : ℕ) → is_silent self.old other → is_silent self.new other };
+
+    /// Notes for each of these sessions whether `collect` has a message for it. No memory is taken.
+    fn mark(&mut self, members: &mut [Member])
+        ensures same { map number_of members.new ≡ map number_of members.old };
+}

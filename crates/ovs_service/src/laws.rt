@@ -1,0 +1,22 @@
+//! What users are promised, of any session that this service serves.
+ghost use Rattle.std.specs.Prelude.{◌≡◌, ℕ, List, [], Option};
+ghost use Rattle.ovs_links.specs.declared.step.Step.{Step};
+ghost use Rattle.ovs_session.specs.Moving.{Moved, IsBad};
+ghost use Rattle.ovs_session.specs.Serving.{SessionValue, IsDone, fresh};
+ghost use Rattle.ovs_session.specs.declared.ended.Ended.{Ended};
+ghost use Rattle.ovs_service.specs.Client.{ClientValue, AnswersTo, TellsNew, SaysNothing, new_client, new_view};
+ghost use Rattle.ovs_service.specs.Kept.{Kept};
+
+use crate::desk::Desk;
+use ovs_views::NodeName;
+
+/// What a session of a reader did since it was new, in however many turns, and whoever made them (a `Seat` of `ovs_hall` keeps
+/// it as a fact of its own), is what users are promised: it wrote a beginning of the text of what its calls gave. It may be told
+/// to be closed where it is done and nothing is due, and bad input where its input is bad.
+pub fn reader_laws<K: NodeName, D: Desk>()
+    ensures kept { (limit who : ℕ) (last : List Step) (i j o p : Option (List ℕ)) (now : SessionValue ClientValue) (ended : Ended)
+        → Moved (AnswersTo K.schema D.replies D.owes) (TellsNew K.schema D.replies D.owes) limit i j o p (fresh (new_client who last)) now
+        → (ended ≡ Ended.Closed → IsDone now × (now.core.due ≡ []))
+        → (ended ≡ Ended.BadInput → IsBad {C = ClientValue} (λ client text. SaysNothing text) now)
+        → Kept K.schema (D.replies who) (D.owes who) (new_view last) i j o p now.counts ended }
+{}

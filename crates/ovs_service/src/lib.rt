@@ -1,0 +1,23 @@
+//! A node's service of its readers: messages in, answers and notifications out, by a view of what is published and an authority
+//! that answers what only the source can answer.
+#![tactic(auto)]
+
+mod adding;
+mod client;
+mod collecting;
+mod desk;
+mod due;
+mod expecting;
+mod laws;
+mod saying;
+mod service;
+mod serving;
+mod settling;
+mod sole;
+
+pub use client::Client;
+pub use desk::Desk;
+pub use laws::reader_laws;
+pub use service::NodeService;
+pub use serving::{Served, serve_reader};
+pub use sole::{Sole, copy_ask};

@@ -1,0 +1,143 @@
+//! A node serves its readers.
+ghost use Rattle.std.specs.Prelude.{◌≡◌, ◌++◌, ℕ, List, IfOk, OnOk, OnErr, Err, map};
+ghost use mathlib.Core.List.{IsPrefix};
+ghost use Rattle.ovs_wire.specs.Message.{Says};
+ghost use Rattle.ovs_service.specs.Replies.{number_of};
+ghost use Rattle.ovs_service.specs.Client.{new_client, SaysNothing, AnswersTo, TellsNew};
+
+use crate::client::Client;
+use crate::desk::Desk;
+use ovs_authority::Member;
+use ovs_hall::Host;
+use ovs_session::{Outbox, Refusal, Service};
+use ovs_views::{NodeName, Told, View};
+use ovs_wire::{Message, MessageError};
+use std::alloc::Global;
+
+// The message that a text says.
+fn read(alloc: Global, text: &[u8]) -> Result<Message, Refusal>
+    ensures says { IfOk result (Says text.now) }
+    ensures bad { result ≡ Err Refusal.BadInput → SaysNothing text.now }
+{
+    match Message::read(alloc, text) {
+        Ok(message) => Ok(message),
+        Err(MessageError::NoMemory) => Err(Refusal::NoMemory),
+        Err(_) => Err(Refusal::BadInput),
+    }
+}
+
+/// A node's service of its readers: each message is answered from a view of what is published, or by the authority where only
+/// the source can answer, and each reader is told what its monitors show and what the authority owes it.
+pub struct NodeService<K: NodeName, D: Desk> {
+    alloc: Global,
+    view: View<K>,
+    desk: D,
+}
+
+impl<K: NodeName, D: Desk> NodeService<K, D> {
+    /// The service by this view and this authority.
+    pub fn new(alloc: Global, view: View<K>, desk: D) -> NodeService<K, D>
+        ensures view { result.view ≡ view }
+        ensures desk { result.desk ≡ desk }
+    {
+        NodeService { alloc, view, desk }
+    }
+
+    /// Its view and its authority.
+    pub fn into_parts(self) -> (View<K>, D)
+        ensures view { result.0 ≡ self.view }
+        ensures desk { result.1 ≡ self.desk }
+    {
+        let NodeService {
+            alloc: _,
+            view,
+            desk,
+        } = self;
+        (view, desk)
+    }
+
+    /// A reader of which nothing was heard yet, which is shown no less than what the view knows.
+    pub fn client(&self, who: u64) -> Client<K>
+        ensures value { result ≡ new_client who self.now.view }
+    {
+        Client::new(self.alloc, who, self.view.known())
+    }
+
+    /// From now on readers are shown no less than this.
+    pub fn learn(&mut self, told: &Told<K>)
+        ensures kept { IsPrefix self.old.view self.new.view }
+        ensures told { IsPrefix told.now self.new.view }
+        ensures desk { self.new.desk ≡ self.old.desk }
+    {
+        self.view.learn(told);
+    }
+
+    /// Notes for each of these sessions whether the authority owes it something: one call for all of a worker's sessions.
+    pub fn mark(&mut self, members: &mut [Member])
+        ensures same { map number_of members.new ≡ map number_of members.old }
+        ensures view { self.new.view ≡ self.old.view }
+    {
+        self.desk.mark(members);
+    }
+
+    // Tells what its monitors show and what the authority owes it. After a refusal nothing has changed.
+    fn tell_new(&mut self, client: &mut Client<K>, out: &mut Outbox) -> Result<(), Refusal>
+        ensures told { OnOk result ((said : List ℕ) × TellsNew K.schema D.replies D.owes client.old said client.new × (out.new ≡ out.old ++ said)) }
+        ensures unchanged { OnErr result ((client.new ≡ client.old) × (out.new ≡ out.old)) }
+        ensures never_bad { result ≡ Err Refusal.BadInput → ⊥ }
+    {
+        client.pump(self.alloc, &mut self.view)?;
+        client.collect(self.alloc, &mut self.desk);
+        client.settle(self.alloc, &mut self.desk, out);
+        Ok(())
+    }
+}
+
+impl<K: NodeName, D: Desk> Service for NodeService<K, D> {
+    type Session = Client<K>;
+
+    ghost answers = { λ old text said new. AnswersTo K.schema D.replies D.owes old text said new };
+
+    ghost tells = { λ old said new. TellsNew K.schema D.replies D.owes old said new };
+
+    ghost refuses = { λ _ text. SaysNothing text };
+
+    /// Answers a message. What can't be said for want of memory stays due, and is said before all that comes after it.
+    ///
+    /// `BadInput` where the text says no message.
+    fn answer(
+        &mut self,
+        client: &mut Client<K>,
+        text: &[u8],
+        out: &mut Outbox,
+    ) -> Result<(), Refusal> {
+        let message = read(self.alloc, text)?;
+        client.hear(self.alloc, &mut self.view, message)?;
+        client.settle(self.alloc, &mut self.desk, out);
+        Ok(())
+    }
+
+    /// Says what is due, and then what the client's monitors tell and what the authority owes it.
+    fn tell(&mut self, client: &mut Client<K>, out: &mut Outbox) -> Result<(), Refusal> {
+        let is_changed = client.settle(self.alloc, &mut self.desk, out);
+        if !client.is_settled() {
+            return if is_changed {
+                Ok(())
+            } else {
+                Err(Refusal::NoMemory)
+            };
+        }
+        match self.tell_new(client, out) {
+            Err(_) if is_changed => Ok(()),
+            told => told,
+        }
+    }
+}
+
+impl<K: NodeName, D: Desk> Host for NodeService<K, D> {
+    ghost is_silent = { λ service client. D.is_silent service.desk client.who };
+
+    fn end(&mut self, client: Client<K>) {
+        self.desk.end_session(client.who());
+    }
+}
