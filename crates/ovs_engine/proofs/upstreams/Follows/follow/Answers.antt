@@ -1,0 +1,16 @@
+use Rattle.std.proofs.Common.{sym, subst, ap, ◌∙◌}
+use Rattle.std.proofs.Math.Logic.{∥∥₁_map}
+use Rattle.ovs_types.specs.Schema.{SchemaValue}
+use Rattle.ovs_links.specs.Sets.{AllOf, IsOfTables}
+use Rattle.ovs_engine.proofs.Admitted.{admitted_more}
+use Rattle.ovs_engine.proofs.upstreams.Follows.follow.Goals as goal
+
+pub follow_upstream-followed-requires : goal.follow_upstream-followed-requires
+follow_upstream-followed-requires g c =
+    record { takes = λ l of. subst (λ (s : SchemaValue). IsOfTables s.description.tables l) c.args.self.now.schema_is of }
+
+pub again-requires : goal.again-requires
+again-requires g c =
+    let was = ∥∥₁_map c.into_end.ensures.admitted (λ a. subst (λ (e : _). AllOf g.C.Connector.admits e.1) (sym c.new-sink.ensures.end) a) in
+    let now = ∥∥₁_map was (λ a. admitted_more g.C.Connector.admits c.args.self.now.schema.now c.args.asked _ _ _ c.requires.lawful c.follow_upstream-followed.ensures.sent a) in
+    record { admitted = ∥∥₁_map now (λ a. subst (λ (e : _). AllOf g.C.Connector.admits e.1) (sym c.into_parts-end.ensures.end) a) }

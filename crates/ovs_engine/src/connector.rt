@@ -1,0 +1,28 @@
+//! Where connections come from.
+
+ghost use Rattle.std.specs.Prelude.{◌≡◌, IfSome};
+ghost use Rattle.ovs_links.specs.declared.link.Link.{Link};
+ghost use Rattle.ovs_engine.specs.Lines.{AdmitsBytes};
+
+use ovs_types::TxnId;
+use std::io::{Read, Write};
+
+/// Connections with one peer, one after another.
+pub trait Connector {
+    /// What a connection is read from.
+    type In: Read + Drop;
+
+    /// What it is written to.
+    type Out: Write + Drop;
+
+    // The links that may come of its connections.
+    ghost admits: { Link → Type 0 };
+
+    /// Whether there is to be another connection; it may wait until there is.
+    fn next(&mut self) -> bool;
+
+    /// The connection, to be asked for what comes after this id; `None` where it can't be had now. Its bytes stand for links
+    /// alone that may come of it; where it doesn't tell them any link may.
+    fn open(&mut self, asked: TxnId) -> Option<(Self::In, Self::Out)>
+        ensures lawful { IfSome result (λ connection. AdmitsBytes admits asked (Self.In.remaining connection.0)) };
+}

@@ -1,0 +1,23 @@
+//! A node in threads: one for each upstream, one for each worker that serves readers, and the folder in the caller's.
+#![tactic(auto)]
+
+mod connector;
+mod crew;
+mod desk_lock;
+mod desks;
+mod feed_sink;
+mod folding;
+mod line;
+mod node_threads;
+mod party;
+mod serving;
+mod upstreams;
+mod workers;
+
+pub use connector::Connector;
+pub use crew::{Crew, SourceDesk, UpstreamParts, WorkerParts};
+pub use desk_lock::{DeskLock, LockedDesk};
+pub use feed_sink::FeedSink;
+pub use line::Line;
+pub use node_threads::{Counters, NotRun, Ran, Shared, ThreadBack, run_node};
+pub use party::Party;

@@ -1,0 +1,51 @@
+//! What the thread of an upstream sends with.
+
+ghost use Rattle.std.specs.Prelude.{◌≡◌, []};
+ghost use Rattle.ovs_links.specs.Sets.{AllOf};
+
+use crate::connector::Connector;
+use ovs_feed::{FeedEnd, FeedName};
+use ovs_folder::NodeLink;
+use ovs_views::NodeName;
+use std::marker::PhantomData;
+
+/// An end of a node's feed, to which nothing was sent but links that may come of a connector's connections.
+#[derive(Drop)]
+pub struct Line<K: NodeName, Q: FeedName, C: Connector> {
+    end: FeedEnd<NodeLink<K>, Q>,
+    of: PhantomData<C>,
+    ghost admitted: { ∥ AllOf C.admits end.1 ∥₁ },
+}
+
+impl<K: NodeName, Q: FeedName, C: Connector> Line<K, Q, C> {
+    /// An end to which nothing was sent.
+    pub fn new(end: FeedEnd<NodeLink<K>, Q>) -> Line<K, Q, C>
+        requires unsent { end.1 ≡ [] }
+        ensures end { result.end ≡ end }
+    {
+        Line {
+            end,
+            of: PhantomData,
+        }
+    }
+
+    /// An end to which nothing else was sent.
+    pub(crate) fn again(end: FeedEnd<NodeLink<K>, Q>) -> Line<K, Q, C>
+        requires admitted { ∥ AllOf C.admits end.1 ∥₁ }
+        ensures end { result.end ≡ end }
+    {
+        Line {
+            end,
+            of: PhantomData,
+        }
+    }
+
+    /// The end.
+    pub fn into_end(self) -> FeedEnd<NodeLink<K>, Q>
+        ensures end { result ≡ self.end }
+        ensures admitted { ∥ AllOf C.admits result.1 ∥₁ }
+    {
+        let Line { end, of: _ } = self;
+        end
+    }
+}

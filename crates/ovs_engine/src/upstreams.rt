@@ -1,0 +1,150 @@
+//! The threads of a node's upstreams.
+
+ghost use Rattle.std.specs.Prelude.{◌≡◌};
+ghost use Rattle.ovs_engine.specs.Lines.{AdmitsBytes};
+
+use crate::connector::Connector;
+use crate::feed_sink::FeedSink;
+use crate::line::Line;
+use ovs_feed::{FeedName, FeedQueue};
+use ovs_folder::NodeLink;
+use ovs_follow::{Followed, SourceSide, follow_upstream};
+use ovs_hall::Tally;
+use ovs_session::Limits;
+use ovs_types::{Schema, TxnId};
+use ovs_views::{Board, NodeName, View, teach};
+use std::alloc::Global;
+use std::sync::{Mutex, Wait};
+use std::thread;
+
+// How often the board is asked at most for what a session before sent.
+const TAUGHT_AT_MOST: u32 = 1_000_000;
+
+// How many turns a session with an upstream has.
+const TURNS: u32 = 1_000_000;
+
+/// What follows an upstream: what it sends with, where its connections come from, and the desk's side where it is the source.
+#[derive(Drop)]
+pub(crate) struct Upstream<K: NodeName, Q: FeedName, C: Connector + Drop, D: SourceSide + Drop> {
+    pub(crate) line: Line<K, Q, C>,
+    pub(crate) connector: C,
+    pub(crate) source: D,
+}
+
+/// What the threads of upstreams share.
+#[derive(Drop)]
+pub(crate) struct Follows<'a, K: NodeName, Q: FeedName, R: Wait> {
+    pub(crate) rt: &'a R,
+    pub(crate) alloc: Global,
+    pub(crate) schema: &'a Schema,
+    pub(crate) queue: &'a FeedQueue<NodeLink<K>, Q>,
+    pub(crate) board: &'a Mutex<Board<K>>,
+    pub(crate) limits: Limits,
+    pub ghost schema_is: { schema.now ≡ K.schema },
+}
+
+// What is left of one session.
+#[derive(Drop)]
+struct Back<K: NodeName, Q: FeedName, C: Connector, D: SourceSide + Drop> {
+    line: Line<K, Q, C>,
+    // The id of the link that was sent last, if one was.
+    last: Option<TxnId>,
+    source: D,
+}
+
+impl<'a, K: NodeName, Q: FeedName, R: Wait> Follows<'a, K, Q, R> {
+    // The view learns what is posted on the board, and again until it knows what was sent last.
+    fn teach(&self, view: &mut View<K>, last: Option<TxnId>) {
+        for _ in 0..TAUGHT_AT_MOST {
+            teach(self.rt, self.board, view);
+            match last {
+                Some(id) if view.knows(id) != Ok(true) => thread::yield_now(),
+                _ => break,
+            }
+        }
+    }
+
+    // Follows one connection, which was asked for what comes after this id.
+    fn follow<C: Connector, D: SourceSide + Drop>(
+        &self,
+        asked: TxnId,
+        connection: (C::In, C::Out),
+        line: Line<K, Q, C>,
+        source: D,
+        tally: &mut Tally,
+    ) -> Back<K, Q, C, D>
+        requires lawful { AdmitsBytes C.admits asked (C.In.remaining connection.0) }
+    {
+        let (mut reader, mut writer) = connection;
+        let sink = FeedSink::new(self.rt, self.queue, line.into_end());
+        let followed = follow_upstream(
+            self.alloc,
+            self.schema,
+            asked,
+            sink,
+            source,
+            &mut reader,
+            &mut writer,
+            self.limits,
+            TURNS,
+        );
+        let Followed {
+            sink,
+            source,
+            counts,
+            ended: _,
+        } = followed;
+        tally.add(counts);
+        let (end, last) = sink.into_parts();
+        Back {
+            line: Line::again(end),
+            last,
+            source,
+        }
+    }
+
+    // The next connection, if it can be had, which is asked for what comes after what the node has folded, once it has folded
+    // what the one before sent.
+    fn follow_next<C: Connector, D: SourceSide + Drop>(
+        &self,
+        connector: &mut C,
+        view: &mut View<K>,
+        back: Back<K, Q, C, D>,
+        tally: &mut Tally,
+    ) -> Back<K, Q, C, D> {
+        self.teach(view, back.last);
+        let Ok(asked) = view.head() else {
+            return back;
+        };
+        match connector.open(asked) {
+            Some(connection) => self.follow(asked, connection, back.line, back.source, tally),
+            None => back,
+        }
+    }
+
+    /// All connections with an upstream, one after another.
+    pub(crate) fn follow_all<C: Connector + Drop, D: SourceSide + Drop>(
+        &self,
+        upstream: Upstream<K, Q, C, D>,
+        view: &mut View<K>,
+        tally: &mut Tally,
+    ) -> Line<K, Q, C> {
+        let Upstream {
+            line,
+            mut connector,
+            source,
+        } = upstream;
+        let mut back = Back {
+            line,
+            last: None,
+            source,
+        };
+        for _ in self.rt.forever() {
+            if !connector.next() {
+                break;
+            }
+            back = self.follow_next(&mut connector, view, back, tally);
+        }
+        back.line
+    }
+}

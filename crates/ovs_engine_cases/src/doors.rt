@@ -1,0 +1,127 @@
+//! Connections over memory, which come in at the doors of a hall.
+
+use crate::sessions::Script;
+use ovs_hall::{Doors, Woken};
+use std::io::{self, ErrorKind, Read, Write};
+use std::sync::atomic::{AtomicBool, Ordering};
+
+/// Gives the text of a session in pieces, none of them before all sessions are seated, and nothing for now between two.
+#[derive(Drop)]
+pub(crate) struct Pieces<'a> {
+    rest: &'a [u8],
+    piece: usize,
+    is_pause: bool,
+    have_all_come: &'a AtomicBool,
+}
+
+impl<'a> Read for Pieces<'a> {
+    fn read(&mut self, buf: &mut [u8]) -> io::Result<usize> {
+        self.is_pause = !self.is_pause;
+        if self.is_pause || !self.have_all_come.load(Ordering::SeqCst) {
+            return Err(ErrorKind::WouldBlock.into());
+        }
+        let len = self.piece.min(buf.len());
+        self.rest.read(&mut buf[..len])
+    }
+}
+
+/// Takes what is written in pieces, and sees whether it is what is wanted.
+#[derive(Drop)]
+pub(crate) struct Checked<'a> {
+    rest: &'a [u8],
+    piece: usize,
+    script: &'a Script,
+}
+
+impl<'a> Write for Checked<'a> {
+    fn write(&mut self, buf: &[u8]) -> io::Result<usize> {
+        let len = self.piece.min(buf.len());
+        match self.rest.strip_prefix(&buf[..len]) {
+            Some(rest) => {
+                self.rest = rest;
+                self.script.left.store(rest.len() as u64, Ordering::SeqCst);
+            }
+            None => self.script.is_wrong.store(true, Ordering::SeqCst),
+        }
+        Ok(len)
+    }
+
+    fn flush(&mut self) -> io::Result<()> {
+        Ok(())
+    }
+}
+
+/// Lets the sessions of these scripts in, one after another.
+#[derive(Drop)]
+pub(crate) struct MemoryDoors<'a> {
+    scripts: &'a [Script],
+    piece: usize,
+    have_all_come: &'a AtomicBool,
+    // How many sessions came in.
+    came: usize,
+    // The next that may go on.
+    next: usize,
+}
+
+impl<'a> MemoryDoors<'a> {
+    /// None came in yet.
+    pub(crate) fn new(
+        scripts: &'a [Script],
+        piece: usize,
+        have_all_come: &'a AtomicBool,
+    ) -> MemoryDoors<'a> {
+        MemoryDoors {
+            scripts,
+            piece,
+            have_all_come,
+            came: 0,
+            next: 0,
+        }
+    }
+}
+
+impl<'a> Doors for MemoryDoors<'a> {
+    type In = Pieces<'a>;
+
+    type Out = Checked<'a>;
+
+    // Every session may go on again: its reader has the next piece.
+    fn wait(&mut self, _is_busy: bool) -> Woken {
+        self.next = 0;
+        let may_accept = self.came < self.scripts.len();
+        if !may_accept {
+            self.have_all_come.store(true, Ordering::SeqCst);
+        }
+        Woken {
+            is_rung: false,
+            may_accept,
+            is_closed: !may_accept,
+        }
+    }
+
+    fn next_ready(&mut self) -> Option<usize> {
+        if self.next >= self.came {
+            return None;
+        }
+        let key = self.next;
+        self.next += 1;
+        Some(key)
+    }
+
+    fn accept(&mut self, _key: usize) -> Option<(Pieces<'a>, Checked<'a>)> {
+        let script = self.scripts.get(self.came)?;
+        self.came += 1;
+        let reader = Pieces {
+            rest: script.text.as_bytes(),
+            piece: self.piece,
+            is_pause: false,
+            have_all_come: self.have_all_come,
+        };
+        let writer = Checked {
+            rest: script.wanted.as_bytes(),
+            piece: self.piece,
+            script,
+        };
+        Some((reader, writer))
+    }
+}

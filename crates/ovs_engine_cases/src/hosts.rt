@@ -1,0 +1,58 @@
+//! A node's service with a desk of its own, for the sessions of one hall.
+
+ghost use Rattle.std.specs.Prelude.{◌≡◌};
+ghost use Rattle.ovs_service.specs.Client.{SaysNothing, AnswersTo, TellsNew};
+
+use ovs_hall::{Host, Receives};
+use ovs_node::NodeName;
+use ovs_service::{Client, Desk, NodeService};
+use ovs_session::{Outbox, Refusal, Service};
+
+/// A service of readers, which numbers them as they come.
+pub(crate) struct HallHost<K: NodeName, D: Desk> {
+    pub(crate) service: NodeService<K, D>,
+    /// The number of the next session.
+    pub(crate) next: u64,
+}
+
+impl<K: NodeName, D: Desk> Service for HallHost<K, D> {
+    type Session = Client<K>;
+
+    ghost answers = { λ old text said new. AnswersTo K.schema D.replies D.owes old text said new };
+
+    ghost tells = { λ old said new. TellsNew K.schema D.replies D.owes old said new };
+
+    ghost refuses = { λ _ text. SaysNothing text };
+
+    fn answer(
+        &mut self,
+        client: &mut Client<K>,
+        text: &[u8],
+        out: &mut Outbox,
+    ) -> Result<(), Refusal> {
+        self.service.answer(client, text, out)
+    }
+
+    fn tell(&mut self, client: &mut Client<K>, out: &mut Outbox) -> Result<(), Refusal> {
+        self.service.tell(client, out)
+    }
+}
+
+impl<K: NodeName, D: Desk> Host for HallHost<K, D> {
+    ghost is_silent = { λ host client. D.is_silent host.service.desk client.who };
+
+    fn end(&mut self, client: Client<K>) {
+        self.service.end(client);
+    }
+}
+
+impl<K: NodeName, D: Desk> Receives for HallHost<K, D> {
+    fn begin(&mut self) -> Option<Client<K>> {
+        let who = self.next;
+        self.next = who.checked_add(1)?;
+        Some(self.service.client(who))
+    }
+
+    // What is published is seen at the next entry, so that there is nothing to note.
+    fn rung(&mut self) {}
+}
