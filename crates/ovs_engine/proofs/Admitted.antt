@@ -1,5 +1,5 @@
 -- What was sent may come of the connections.
-use Rattle.std.proofs.Common.{◌≡◌, ◌++◌, ℕ, List, [], ◌∷◌, Option, Some, None, IfSome, sym, subst}
+use Rattle.std.proofs.Common.{◌++◌, ℕ, List, [], ◌∷◌, Option, Some, None, IfSome, sym, subst}
 use Rattle.ovs_types.specs.Schema.{SchemaValue}
 use Rattle.ovs_links.specs.Sets.{AllOf}
 use Rattle.ovs_links.specs.declared.link.Link.{Link}

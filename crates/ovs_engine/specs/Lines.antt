@@ -1,5 +1,5 @@
 -- What may come of an upstream's connections.
-use Rattle.std.specs.Prelude.{◌≡◌, ℕ, List, Option, Some, None}
+use Rattle.std.specs.Prelude.{ℕ, List, Option, Some, None}
 use Rattle.ovs_types.specs.Schema.{SchemaValue}
 use Rattle.ovs_links.specs.Sets.{AllOf}
 use Rattle.ovs_links.specs.declared.link.Link.{Link}

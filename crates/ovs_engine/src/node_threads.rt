@@ -87,7 +87,9 @@ pub struct Ran<K: NodeName, Q: FeedName, C: Connector, D: Drop, N> {
 
 impl<K: NodeName, Q: FeedName, C: Connector, D: Drop, N> Ran<K, Q, C, D, N> {
     /// What the next thread hands back, in the order in which they were added. Each is given once.
-    pub fn next_back(&mut self) -> Option<ThreadBack<K, Q, C, D>> {
+    pub fn next_back(&mut self) -> Option<ThreadBack<K, Q, C, D>>
+        ensures node { self.new.node ≡ self.old.node }
+    {
         let (party, handle, known, tally) = self.backs.next()?;
         Some(ThreadBack {
             party,

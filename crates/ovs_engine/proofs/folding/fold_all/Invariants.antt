@@ -1,4 +1,3 @@
-use Rattle.std.proofs.Common.{◌≡◌}
 use Rattle.left_right.specs.Handles.{published, pending}
 use Rattle.ovs_folder.specs.InStep.{IsInStep}
 use Rattle.ovs_folder.specs.Ledger.{steps_in}
