@@ -3,11 +3,11 @@
 ghost use Rattle.std.specs.Prelude.{◌≡◌, ◌+◌, OnOk, OnErr, IfErr, vec_len};
 
 use crate::connector::Connector;
-use crate::desk_lock::DeskLock;
+use crate::desk_lock::UpwardDesk;
 use crate::desks::SharedSide;
 use crate::line::Line;
 use crate::party::Party;
-use crate::serving::Job;
+use crate::serving::UpstreamJob;
 use crate::upstreams::Upstream;
 use ovs_feed::FeedName;
 use ovs_hall::{Bell, Doors};
@@ -36,7 +36,7 @@ pub struct WorkerParts<K: NodeName, D: Doors + Drop> {
 
 /// The desk that passes requests on to the source, with what wakes the workers whose sessions are owed something.
 #[derive(Drop)]
-pub struct SourceDesk<'a, L: DeskLock, B: Bell> {
+pub struct SourceDesk<'a, L: UpwardDesk, B: Bell> {
     /// The desk.
     pub desk: &'a L,
     /// The workers' bells.
@@ -51,22 +51,22 @@ pub struct Crew<
     Q: FeedName,
     C: Connector + Drop,
     D: Doors + Drop,
-    L: DeskLock,
+    L: UpwardDesk,
     B: Bell,
 > {
     pub(crate) alloc: Global,
-    pub(crate) jobs: Vec<Job<'a, K, Q, C, D, L, B>>,
+    pub(crate) jobs: Vec<UpstreamJob<'a, K, Q, C, D, L, B>>,
 }
 
-impl<'a, K: NodeName, Q: FeedName, C: Connector + Drop, D: Doors + Drop, L: DeskLock, B: Bell> Crew<
+impl<
     'a,
-    K,
-    Q,
-    C,
-    D,
-    L,
-    B,
-> {
+    K: NodeName,
+    Q: FeedName,
+    C: Connector + Drop,
+    D: Doors + Drop,
+    L: UpwardDesk,
+    B: Bell,
+> Crew<'a, K, Q, C, D, L, B> {
     /// None yet.
     pub fn new(alloc: Global) -> Crew<'a, K, Q, C, D, L, B>
         ensures none { vec_len result.jobs ≡ 0 }

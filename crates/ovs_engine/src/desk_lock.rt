@@ -10,8 +10,8 @@ use ovs_wire::Message;
 use std::alloc::Global;
 use std::sync::{Mutex, Wait};
 
-/// A desk that threads share: each calls it by itself, so that no caller knows what it holds. What each call does is what
-/// `RelayDesk` says of the one of its name.
+/// A desk that threads share: each calls it by itself, so that no caller knows what it holds. What each call does is what its
+/// `Authority` says of the one of its name.
 pub trait DeskLock {
     /// Asks for a session, and gives the reply where it is known at once.
     ///
@@ -33,7 +33,10 @@ pub trait DeskLock {
     /// Notes for each of these sessions whether `collect` has a message for it.
     fn mark(&self, members: &mut [Member])
         ensures same { map number_of members.new ≡ map number_of members.old };
+}
 
+/// A relay's desk, as the thread of the upstream shares it that is the source.
+pub trait UpwardDesk: DeskLock {
     /// The next request to go up.
     ///
     /// # Errors
@@ -86,7 +89,9 @@ impl<'a, R: Wait> DeskLock for LockedDesk<'a, R> {
     fn mark(&self, members: &mut [Member]) {
         self.desk.lock(self.rt).mark(members);
     }
+}
 
+impl<'a, R: Wait> UpwardDesk for LockedDesk<'a, R> {
     fn take_up(&self, alloc: Global) -> Result<Option<Message>, NoMemory> {
         self.desk.lock(self.rt).take_up(alloc)
     }

@@ -1,16 +1,46 @@
-//! What the folder's thread does.
+//! What the folder's thread does, beside all others.
 
+ghost use Rattle.std.specs.Prelude.{◌≡◌, IfOk, IfErr};
 ghost use Rattle.left_right.specs.Handles.{published, pending};
 ghost use Rattle.ovs_folder.specs.InStep.{IsInStep};
 ghost use Rattle.ovs_folder.specs.Ledger.{steps_in};
 
+use crate::party::beside_with_views;
+use left_right::ReadHandle;
 use ovs_feed::{FeedName, FeedQueue};
 use ovs_folder::{Node, NodeLink};
 use ovs_hall::Bell;
-use ovs_views::{Board, Handle, NodeName};
+use ovs_threads::Work;
+use ovs_views::{Board, Front, Handle, NodeName, Shown};
+use std::alloc::Global;
 use std::sync::atomic::{AtomicU64, Ordering};
 use std::sync::{Mutex, Wait};
 use std::thread;
+use std::thread::Threads;
+
+/// What the folder's thread shares with the others.
+#[derive(Drop)]
+pub struct Folding<'a, K: NodeName, Q: FeedName, B: Bell, R: Wait> {
+    /// What it waits with.
+    pub rt: &'a R,
+    /// Where links come from.
+    pub queue: &'a FeedQueue<NodeLink<K>, Q>,
+    /// Where what is published is told.
+    pub board: &'a Mutex<Board<K>>,
+    /// What wakes the workers.
+    pub bells: &'a [B],
+    /// How many other threads run.
+    pub running: &'a AtomicU64,
+}
+
+/// There was no memory to begin: nothing was done, and all is handed back.
+#[derive(Drop)]
+pub struct NotFolded<J, N> {
+    /// What the threads were to have.
+    pub jobs: Vec<J>,
+    /// The node.
+    pub node: N,
+}
 
 /// Rings all bells.
 pub(crate) fn ring_all<B: Bell>(bells: &[B]) {
@@ -19,26 +49,74 @@ pub(crate) fn ring_all<B: Bell>(bells: &[B]) {
     }
 }
 
-/// Folds until no other thread runs any more and nothing is left to fold, and rings the bells once something was published. It
-/// sleeps while there is nothing to do; after want of memory it tries again.
-pub(crate) fn fold_all<K: NodeName, Q: FeedName, H: Wait + Drop, B: Bell, R: Wait>(
-    rt: &R,
-    queue: &FeedQueue<NodeLink<K>, Q>,
-    board: &Mutex<Board<K>>,
-    running: &AtomicU64,
-    bells: &[B],
-    node: &mut Node<K, Q, Handle<K, H>>,
-)
-    requires in_step { IsInStep (published node.old.publisher.handle) (pending node.old.publisher.handle) node.old.publisher.front node.old.publisher.kept (steps_in node.old.intake.store) }
-    ensures in_step { IsInStep (published node.new.publisher.handle) (pending node.new.publisher.handle) node.new.publisher.front node.new.publisher.kept (steps_in node.new.intake.store) }
+impl<'a, K: NodeName, Q: FeedName, B: Bell, R: Wait> Folding<'a, K, Q, B, R> {
+    /// Folds until no other thread runs any more and nothing is left to fold, and rings the bells once something was published.
+    /// It sleeps while there is nothing to do; after want of memory it tries again.
+    pub(crate) fn fold_all<H: Wait + Drop>(&self, node: &mut Node<K, Q, Handle<K, H>>)
+        requires in_step { IsInStep (published node.old.publisher.handle) (pending node.old.publisher.handle) node.old.publisher.front node.old.publisher.kept (steps_in node.old.intake.store) }
+        ensures in_step { IsInStep (published node.new.publisher.handle) (pending node.new.publisher.handle) node.new.publisher.front node.new.publisher.kept (steps_in node.new.intake.store) }
+    {
+        for _ in self.rt.forever() {
+            let is_last = self.running.load(Ordering::SeqCst) == 0;
+            match node.fold_next(self.rt, self.queue, self.board) {
+                Ok(true) => ring_all(self.bells),
+                Ok(false) if is_last => break,
+                Ok(false) => self.queue.wait(self.rt),
+                Err(_) => thread::yield_now(),
+            }
+        }
+    }
+}
+
+/// Does each job in a thread of its own, and folds beside them in this one, until all have come to their ends and nothing is
+/// left to fold.
+///
+/// # Errors
+/// `NotFolded` where memory ran out before a thread was started.
+pub fn fold_beside<
+    K: NodeName + Send + Sync,
+    Q: FeedName,
+    E: Send + Drop,
+    F: Send + Drop,
+    Y: Send + Drop,
+    W: Work<(E, ReadHandle<Shown<K>>, Front<K>), (F, ReadHandle<Shown<K>>, Front<K>, Y)> + Sync,
+    B: Bell,
+    H: Wait + Drop,
+    R: Threads + Wait + Sync,
+>(
+    alloc: Global,
+    folding: &Folding<K, Q, B, R>,
+    jobs: Vec<(E, ReadHandle<Shown<K>>, Front<K>)>,
+    work: &W,
+    node: Node<K, Q, Handle<K, H>>,
+) -> Result<
+    (
+        Vec<(F, ReadHandle<Shown<K>>, Front<K>, Y)>,
+        Node<K, Q, Handle<K, H>>,
+    ),
+    NotFolded<(E, ReadHandle<Shown<K>>, Front<K>), Node<K, Q, Handle<K, H>>>,
+>
+    requires in_step { IsInStep (published node.publisher.handle) (pending node.publisher.handle) node.publisher.front node.publisher.kept (steps_in node.intake.store) }
+    ensures in_step { IfOk result (λ r. IsInStep (published r.1.publisher.handle) (pending r.1.publisher.handle) r.1.publisher.front r.1.publisher.kept (steps_in r.1.intake.store)) }
+    ensures handed_back { IfErr result (λ n. n.jobs ≡ jobs) }
 {
-    for _ in rt.forever() {
-        let is_last = running.load(Ordering::SeqCst) == 0;
-        match node.fold_next(rt, queue, board) {
-            Ok(true) => ring_all(bells),
-            Ok(false) if is_last => break,
-            Ok(false) => queue.wait(rt),
-            Err(_) => thread::yield_now(),
+    folding.running.store(jobs.len() as u64, Ordering::SeqCst);
+    let folds = move || -> Node<K, Q, Handle<K, H>>
+        requires { IsInStep (published node.publisher.handle) (pending node.publisher.handle) node.publisher.front node.publisher.kept (steps_in node.intake.store) }
+        ensures { IsInStep (published result.publisher.handle) (pending result.publisher.handle) result.publisher.front result.publisher.kept (steps_in result.intake.store) }
+    {
+        let mut node = node;
+        folding.fold_all(&mut node);
+        node
+    };
+    match beside_with_views(folding.rt, alloc, jobs, work, folds) {
+        Ok(done) => Ok(done),
+        Err(not_begun) => {
+            folding.running.store(0, Ordering::SeqCst);
+            Err(NotFolded {
+                node: (not_begun.here)(),
+                jobs: not_begun.jobs,
+            })
         }
     }
 }

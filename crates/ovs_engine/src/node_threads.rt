@@ -1,30 +1,28 @@
 //! A node in threads, from its beginning to its end.
 
-ghost use Rattle.std.specs.Prelude.{◌≡◌, IfOk, IfErr};
-ghost use denote.Param.Send.{IsSend, IsSync};
+ghost use Rattle.std.specs.Prelude.{◌≡◌, IfOk};
 ghost use Rattle.left_right.specs.Handles.{published, pending};
 ghost use Rattle.ovs_folder.specs.InStep.{IsInStep};
 ghost use Rattle.ovs_folder.specs.Ledger.{steps_in};
 
 use crate::connector::Connector;
 use crate::crew::Crew;
-use crate::desk_lock::DeskLock;
-use crate::folding::fold_all;
+use crate::desk_lock::{DeskLock, UpwardDesk};
+use crate::finished::{Finished, Returned};
+use crate::folding::Folding;
 use crate::line::Line;
-use crate::party::Party;
-use crate::serving::{Back, Serving, beside_serving};
+use crate::serving::{Serving, beside_upstreams};
 use crate::upstreams::Follows;
 use ovs_feed::{FeedName, FeedQueue};
 use ovs_folder::{Node, NodeLink};
-use ovs_hall::{Bell, Doors, Tally};
+use ovs_hall::{Bell, Doors};
 use ovs_session::Limits;
 use ovs_types::Schema;
-use ovs_views::{Board, Handle, NodeName, View};
+use ovs_views::{Board, Handle, NodeName};
 use std::alloc::Global;
-use std::sync::atomic::{AtomicU64, Ordering};
+use std::sync::atomic::AtomicU64;
 use std::sync::{Mutex, Wait};
 use std::thread::Threads;
-use std::vec::IntoIter;
 
 /// What the threads of a node share.
 #[derive(Drop)]
@@ -64,40 +62,23 @@ impl Counters {
             running: AtomicU64::new(0),
         }
     }
-}
 
-/// What a thread hands back.
-#[derive(Drop)]
-pub struct ThreadBack<K: NodeName, Q: FeedName, C: Connector, D> {
-    /// What an upstream's links were sent with, or a worker's doors.
-    pub party: Party<Line<K, Q, C>, D>,
-    /// Its view.
-    pub view: View<K>,
-    /// What its sessions counted.
-    pub tally: Tally,
-}
+    /// The number of the next session of any worker.
+    pub fn numbers(&self) -> &AtomicU64 {
+        &self.numbers
+    }
 
-/// What is left of a node whose threads have come to their ends.
-#[derive(Drop)]
-pub struct Ran<K: NodeName, Q: FeedName, C: Connector, D: Drop, N> {
-    /// The node; all that its upstreams sent before they ended was taken, folded and published.
-    pub node: N,
-    backs: IntoIter<Back<K, Q, C, D>>,
-}
-
-impl<K: NodeName, Q: FeedName, C: Connector, D: Drop, N> Ran<K, Q, C, D, N> {
-    /// What the next thread hands back, in the order in which they were added. Each is given once.
-    pub fn next_back(&mut self) -> Option<ThreadBack<K, Q, C, D>>
-        ensures node { self.new.node ≡ self.old.node }
-    {
-        let (party, handle, known, tally) = self.backs.next()?;
-        Some(ThreadBack {
-            party,
-            view: View::new(handle, known),
-            tally,
-        })
+    /// How many threads run beside the folder's.
+    pub fn running(&self) -> &AtomicU64 {
+        &self.running
     }
 }
+
+/// What a thread hands back: an upstream's line, or a worker's doors.
+pub type ThreadBack<K, Q, C, D> = Returned<K, Line<K, Q, C>, D>;
+
+/// What is left of a node whose threads have come to their ends.
+pub type Ran<K, Q, C, D, N> = Finished<K, Line<K, Q, C>, D, N>;
 
 /// There was no memory to begin: nothing was done, and all is handed back.
 #[derive(Drop)]
@@ -107,7 +88,7 @@ pub struct NotRun<
     Q: FeedName,
     C: Connector + Drop,
     D: Doors + Drop,
-    L: DeskLock,
+    L: UpwardDesk,
     B: Bell,
     N,
 > {
@@ -130,7 +111,7 @@ pub fn run_node<
     Q: FeedName + Send + Sync,
     C: Connector<In: Send, Out: Send> + Drop + Send,
     D: Doors<In: Send, Out: Send> + Drop + Send,
-    L: DeskLock + Sync,
+    L: UpwardDesk + Sync,
     B: Bell + Sync,
     H: Wait + Drop,
     R: Threads + Wait + Sync,
@@ -147,10 +128,15 @@ pub fn run_node<
     requires in_step { IsInStep (published node.publisher.handle) (pending node.publisher.handle) node.publisher.front node.publisher.kept (steps_in node.intake.store) }
     ensures in_step { IfOk result (λ r. IsInStep (published r.node.publisher.handle) (pending r.node.publisher.handle) r.node.publisher.front r.node.publisher.kept (steps_in r.node.intake.store)) }
 {
-    let running = &shared.counters.running;
-    running.store(crew.jobs.len() as u64, Ordering::SeqCst);
+    let folding = Folding {
+        rt: shared.rt,
+        queue: shared.queue,
+        board: shared.board,
+        bells: shared.bells,
+        running: shared.counters.running(),
+    };
     let serving = Serving {
-        follows: Follows {
+        feeds: Follows {
             rt: shared.rt,
             alloc,
             schema: shared.schema,
@@ -158,40 +144,24 @@ pub fn run_node<
             board: shared.board,
             limits: shared.limits,
         },
+        rt: shared.rt,
+        alloc,
+        queue: shared.queue,
         desk: shared.desk,
         upward: shared.upward,
-        numbers: &shared.counters.numbers,
-        running,
+        bells: shared.bells,
+        numbers: shared.counters.numbers(),
+        running: shared.counters.running(),
+        limits: shared.limits,
     };
-    let folds = move || -> Node<K, Q, Handle<K, H>>
-        requires { IsInStep (published node.publisher.handle) (pending node.publisher.handle) node.publisher.front node.publisher.kept (steps_in node.intake.store) }
-        ensures { IsInStep (published result.publisher.handle) (pending result.publisher.handle) result.publisher.front result.publisher.kept (steps_in result.intake.store) }
-    {
-        let mut node = node;
-        fold_all(
-            shared.rt,
-            shared.queue,
-            shared.board,
-            running,
-            shared.bells,
-            &mut node,
-        );
-        node
-    };
-    match beside_serving(alloc, crew.jobs, &serving, folds) {
-        Ok((backs, node)) => Ok(Ran {
-            node,
-            backs: backs.into_iter(),
+    match beside_upstreams(&folding, crew.jobs, &serving, node) {
+        Ok((backs, node)) => Ok(Finished::new(node, backs)),
+        Err(not_folded) => Err(NotRun {
+            node: not_folded.node,
+            crew: Crew {
+                alloc,
+                jobs: not_folded.jobs,
+            },
         }),
-        Err(not_begun) => {
-            running.store(0, Ordering::SeqCst);
-            Err(NotRun {
-                node: (not_begun.here)(),
-                crew: Crew {
-                    alloc,
-                    jobs: not_begun.jobs,
-                },
-            })
-        }
     }
 }

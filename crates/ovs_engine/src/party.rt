@@ -12,17 +12,11 @@ use std::thread::Threads;
 /// What a thread beside the folder's is for.
 #[derive(Drop)]
 pub enum Party<U, W> {
-    /// It follows an upstream.
+    /// It sends links to the node's feed: those of an upstream, or at the source those of its own desk.
     Upstream(U),
     /// It serves readers.
     Worker(W),
 }
-
-/// What a thread has, with the parts of its view.
-pub(crate) type Job<K, E> = (E, ReadHandle<Shown<K>>, Front<K>);
-
-/// What comes back of it, with what its sessions counted.
-pub(crate) type Back<K, F, Y> = (F, ReadHandle<Shown<K>>, Front<K>, Y);
 
 /// Does each job that has a view in a thread of its own, beside what is to be done here.
 pub(crate) fn beside_with_views<

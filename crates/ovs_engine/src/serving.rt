@@ -1,70 +1,98 @@
 //! What the threads of a node do.
 
-ghost use Rattle.std.specs.Prelude.{◌≡◌, IfOk, IfErr};
+ghost use Rattle.std.specs.Prelude.{IfOk};
+ghost use Rattle.left_right.specs.Handles.{published, pending};
+ghost use Rattle.ovs_folder.specs.InStep.{IsInStep};
+ghost use Rattle.ovs_folder.specs.Ledger.{steps_in};
 
 use crate::connector::Connector;
-use crate::desk_lock::DeskLock;
+use crate::desk_lock::{DeskLock, UpwardDesk};
 use crate::desks::{SharedDesk, SharedSide};
+use crate::folding::{Folding, NotFolded, fold_beside};
 use crate::line::Line;
-use crate::party::{Party, beside_with_views};
+use crate::party::Party;
 use crate::upstreams::{Follows, Upstream};
 use crate::workers::serve_readers;
 use left_right::ReadHandle;
-use ovs_feed::FeedName;
+use ovs_feed::{FeedName, FeedQueue};
+use ovs_folder::{Node, NodeLink};
 use ovs_hall::{Bell, Doors, Tally};
-use ovs_threads::{NotBegun, Work};
-use ovs_views::{Front, NodeName, Shown, View};
+use ovs_session::Limits;
+use ovs_threads::Work;
+use ovs_views::{Front, Handle, NodeName, Shown, View};
 use std::alloc::Global;
 use std::sync::Wait;
 use std::sync::atomic::{AtomicU64, Ordering};
 use std::thread::Threads;
 
-/// What each thread has: what follows an upstream, or a worker's doors, and the parts of its view.
-pub(crate) type Job<'a, K, Q, C, D, L, B> = (
-    Party<Upstream<K, Q, C, SharedSide<'a, L, B>>, D>,
-    ReadHandle<Shown<K>>,
-    Front<K>,
-);
+/// What each thread has: what it sends links with, or a worker's doors, and the parts of its view.
+pub type Job<K, E, D> = (Party<E, D>, ReadHandle<Shown<K>>, Front<K>);
 
-/// What comes back: what was sent with, or the doors, the parts of the view, and what the sessions counted.
-pub(crate) type Back<K, Q, C, D> = (
-    Party<Line<K, Q, C>, D>,
-    ReadHandle<Shown<K>>,
-    Front<K>,
-    Tally,
-);
+/// What comes back of each, with what its sessions counted.
+pub type Back<K, F, D> = (Party<F, D>, ReadHandle<Shown<K>>, Front<K>, Tally);
 
-/// What the threads of a node share.
-#[derive(Drop)]
-pub(crate) struct Serving<'a, K: NodeName, Q: FeedName, L: DeskLock, B: Bell, R: Wait> {
-    pub(crate) follows: Follows<'a, K, Q, R>,
-    pub(crate) desk: &'a L,
-    pub(crate) upward: &'a B,
-    pub(crate) numbers: &'a AtomicU64,
-    pub(crate) running: &'a AtomicU64,
+/// What those threads of a node do that send links to its feed. A fact about what is left of one is a fact of its type.
+pub trait Feeds<K: NodeName, E, F> {
+    /// Sends the links that come, until no more do. What its sessions counted is added to the tally.
+    fn feed(&self, from: E, view: &mut View<K>, tally: &mut Tally) -> F;
+
+    /// What is left where there is no thread for it.
+    fn refuse(&self, from: E) -> F;
 }
 
-impl<'a, K: NodeName, Q: FeedName, L: DeskLock, B: Bell, R: Wait> Serving<'a, K, Q, L, B, R> {
-    // One thread fewer runs, which the folder is to see.
+/// What the threads of a node share, but for the folder's.
+#[derive(Drop)]
+pub struct Serving<'a, K: NodeName, Q: FeedName, T: Drop, L: DeskLock, U: Bell, B: Bell, R: Wait> {
+    /// What those do that send links.
+    pub feeds: T,
+    /// What they wait with.
+    pub rt: &'a R,
+    /// Where memory comes from.
+    pub alloc: Global,
+    /// Where the links go.
+    pub queue: &'a FeedQueue<NodeLink<K>, Q>,
+    /// Where what only the source can answer is asked.
+    pub desk: &'a L,
+    /// What wakes the thread that does what comes of that.
+    pub upward: &'a U,
+    /// What wakes the workers.
+    pub bells: &'a [B],
+    /// The number of the next session of any worker.
+    pub numbers: &'a AtomicU64,
+    /// How many threads run.
+    pub running: &'a AtomicU64,
+    /// How much of a session may wait to be written, and how many messages it answers in a turn.
+    pub limits: Limits,
+}
+
+impl<'a, K: NodeName, Q: FeedName, T: Drop, L: DeskLock, U: Bell, B: Bell, R: Wait> Serving<
+    'a,
+    K,
+    Q,
+    T,
+    L,
+    U,
+    B,
+    R,
+> {
+    // One thread fewer runs, which the folder is to see, and who waits for what workers ask.
     fn leave(&self) {
         self.running.fetch_sub(1, Ordering::SeqCst);
-        self.follows.queue.ring();
+        self.queue.ring();
+        self.upward.ring();
     }
 
     // Serves readers at these doors.
     fn serve<D: Doors>(&self, doors: &mut D, view: View<K>) -> (View<K>, Tally) {
-        let desk = SharedDesk {
-            desk: self.desk,
-            upward: self.upward,
-        };
-        serve_readers::<K, SharedDesk<'a, L, B>, D, R>(
-            self.follows.rt,
-            self.follows.alloc,
+        let desk = SharedDesk::new(self.alloc, self.desk, self.upward, self.bells);
+        serve_readers::<K, SharedDesk<'a, L, U, B>, D, R>(
+            self.rt,
+            self.alloc,
             view,
             desk,
             self.numbers,
             doors,
-            self.follows.limits,
+            self.limits,
         )
     }
 }
@@ -73,19 +101,22 @@ impl<
     'a,
     K: NodeName,
     Q: FeedName,
+    T: Feeds<K, E, F> + Drop,
     L: DeskLock,
+    U: Bell,
     B: Bell,
     R: Wait,
-    C: Connector + Drop,
+    E: Drop,
+    F: Drop,
     D: Doors + Drop,
-> Work<Job<'a, K, Q, C, D, L, B>, Back<K, Q, C, D>> for Serving<'a, K, Q, L, B, R> {
-    fn work(&self, job: Job<'a, K, Q, C, D, L, B>) -> Back<K, Q, C, D> {
+> Work<Job<K, E, D>, Back<K, F, D>> for Serving<'a, K, Q, T, L, U, B, R> {
+    fn work(&self, job: Job<K, E, D>) -> Back<K, F, D> {
         let (party, handle, known) = job;
         let mut view = View::new(handle, known);
         let mut tally = Tally::new();
         let party = match party {
-            Party::Upstream(upstream) => {
-                Party::Upstream(self.follows.follow_all(upstream, &mut view, &mut tally))
+            Party::Upstream(from) => {
+                Party::Upstream(self.feeds.feed(from, &mut view, &mut tally))
             }
             Party::Worker(doors) => {
                 let mut doors = doors;
@@ -100,38 +131,49 @@ impl<
         (party, handle, known, tally)
     }
 
-    fn refuse(&self, job: Job<'a, K, Q, C, D, L, B>) -> Back<K, Q, C, D> {
+    fn refuse(&self, job: Job<K, E, D>) -> Back<K, F, D> {
         let (party, handle, known) = job;
         self.leave();
         let party = match party {
-            Party::Upstream(upstream) => Party::Upstream(upstream.line),
+            Party::Upstream(from) => Party::Upstream(self.feeds.refuse(from)),
             Party::Worker(doors) => Party::Worker(doors),
         };
         (party, handle, known, Tally::new())
     }
 }
 
-/// Does the jobs of a node's threads, each in one of its own, beside what is to be done here.
-pub(crate) fn beside_serving<
+/// What the thread of an upstream has.
+pub(crate) type UpstreamJob<'a, K, Q, C, D, L, B> = Job<
+    K,
+    Upstream<K, Q, C, SharedSide<'a, L, B>>,
+    D,
+>;
+
+/// Does the jobs of a node's threads, each in one of its own, and folds beside them in this one.
+///
+/// # Errors
+/// `NotFolded` where memory ran out before a thread was started.
+pub(crate) fn beside_upstreams<
     'a,
     K: NodeName + Send + Sync,
     Q: FeedName + Send + Sync,
     C: Connector<In: Send, Out: Send> + Drop + Send,
     D: Doors<In: Send, Out: Send> + Drop + Send,
-    L: DeskLock + Sync,
+    L: UpwardDesk + Sync,
     B: Bell + Sync,
+    H: Wait + Drop,
     R: Threads + Wait + Sync,
-    S: FnOnce() -> Z,
-    Z,
 >(
-    alloc: Global,
-    jobs: Vec<Job<'a, K, Q, C, D, L, B>>,
-    serving: &Serving<'a, K, Q, L, B, R>,
-    here: S,
-) -> Result<(Vec<Back<K, Q, C, D>>, Z), NotBegun<Job<'a, K, Q, C, D, L, B>, S>>
-    requires here { S.pre here }
-    ensures here { IfOk result (λ r. S.post here r.1) }
-    ensures handed_back { IfErr result (λ n. n.here ≡ here) }
+    folding: &Folding<K, Q, B, R>,
+    jobs: Vec<UpstreamJob<'a, K, Q, C, D, L, B>>,
+    serving: &Serving<'a, K, Q, Follows<'a, K, Q, R>, L, B, B, R>,
+    node: Node<K, Q, Handle<K, H>>,
+) -> Result<
+    (Vec<Back<K, Line<K, Q, C>, D>>, Node<K, Q, Handle<K, H>>),
+    NotFolded<UpstreamJob<'a, K, Q, C, D, L, B>, Node<K, Q, Handle<K, H>>>,
+>
+    requires in_step { IsInStep (published node.publisher.handle) (pending node.publisher.handle) node.publisher.front node.publisher.kept (steps_in node.intake.store) }
+    ensures in_step { IfOk result (λ r. IsInStep (published r.1.publisher.handle) (pending r.1.publisher.handle) r.1.publisher.front r.1.publisher.kept (steps_in r.1.intake.store)) }
 {
-    beside_with_views(serving.follows.rt, alloc, jobs, serving, here)
+    fold_beside(serving.alloc, folding, jobs, serving, node)
 }

@@ -6,6 +6,7 @@ ghost use Rattle.ovs_engine.specs.Lines.{AdmitsBytes};
 use crate::connector::Connector;
 use crate::feed_sink::FeedSink;
 use crate::line::Line;
+use crate::serving::Feeds;
 use ovs_feed::{FeedName, FeedQueue};
 use ovs_folder::NodeLink;
 use ovs_follow::{Followed, SourceSide, follow_upstream};
@@ -20,8 +21,9 @@ use std::thread;
 // How often the board is asked at most for what a session before sent.
 const TAUGHT_AT_MOST: u32 = 1_000_000;
 
-// How many turns a session with an upstream has.
-const TURNS: u32 = 1_000_000;
+// How many turns a session with an upstream has: as many as there can be. A session that ends loses the requests that are open,
+// and a busy one would come to the end of fewer.
+const TURNS: u32 = u32::MAX;
 
 /// What follows an upstream: what it sends with, where its connections come from, and the desk's side where it is the source.
 #[derive(Drop)]
@@ -121,9 +123,15 @@ impl<'a, K: NodeName, Q: FeedName, R: Wait> Follows<'a, K, Q, R> {
             None => back,
         }
     }
+}
 
-    /// All connections with an upstream, one after another.
-    pub(crate) fn follow_all<C: Connector + Drop, D: SourceSide + Drop>(
+impl<'a, K: NodeName, Q: FeedName, R: Wait, C: Connector + Drop, D: SourceSide + Drop> Feeds<
+    K,
+    Upstream<K, Q, C, D>,
+    Line<K, Q, C>,
+> for Follows<'a, K, Q, R> {
+    // All connections with an upstream, one after another.
+    fn feed(
         &self,
         upstream: Upstream<K, Q, C, D>,
         view: &mut View<K>,
@@ -146,5 +154,9 @@ impl<'a, K: NodeName, Q: FeedName, R: Wait> Follows<'a, K, Q, R> {
             back = self.follow_next(&mut connector, view, back, tally);
         }
         back.line
+    }
+
+    fn refuse(&self, upstream: Upstream<K, Q, C, D>) -> Line<K, Q, C> {
+        upstream.line
     }
 }

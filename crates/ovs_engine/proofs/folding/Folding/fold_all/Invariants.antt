@@ -1,7 +1,7 @@
 use Rattle.left_right.specs.Handles.{published, pending}
 use Rattle.ovs_folder.specs.InStep.{IsInStep}
 use Rattle.ovs_folder.specs.Ledger.{steps_in}
-use Rattle.ovs_engine.proofs.folding.fold_all.Given as goal
+use Rattle.ovs_engine.proofs.folding.Folding.fold_all.Given as goal
 
 abbrev pub invariant-loop : goal.invariant-loop
 invariant-loop g l =
