@@ -1,0 +1,2 @@
+pub mod SentLinks
+pub mod Keeping

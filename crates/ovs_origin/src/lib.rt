@@ -1,0 +1,19 @@
+//! The source in threads: its own desk, whose links go to its node's feed, workers that serve readers, and the folder in the
+//! caller's thread.
+#![tactic(auto)]
+
+mod locked_source;
+mod node_source;
+mod origin_desk;
+mod sending;
+mod source_crew;
+mod source_line;
+mod source_threads;
+
+pub use locked_source::LockedSource;
+pub use node_source::NodeSource;
+pub use origin_desk::OriginDesk;
+pub use sending::{SourceFollowed, follow_source};
+pub use source_crew::{SourceCrew, SourceParts};
+pub use source_line::{SourceLine, SourceSent};
+pub use source_threads::{NotRunSource, RanSource, SharedSource, run_source};

@@ -1,0 +1,72 @@
+//! A source's desk behind a lock.
+
+ghost use Rattle.std.specs.Prelude.{◌≡◌};
+ghost use Rattle.ovs_links.specs.Sets.{IsOfTables};
+
+use crate::node_source::NodeSource;
+use crate::origin_desk::OriginDesk;
+use ovs_authority::{Ask, Member};
+use ovs_engine::DeskLock;
+use ovs_hall::Bell;
+use ovs_json::NoMemory;
+use ovs_links::Link;
+use ovs_views::NodeName;
+use ovs_wire::Message;
+use std::alloc::Global;
+use std::sync::{Mutex, Wait};
+use std::thread::Parker;
+
+/// A source's desk behind a lock, which is taken for one call at a time.
+#[derive(Drop)]
+pub struct LockedSource<'a, K: NodeName, R: Wait> {
+    rt: &'a R,
+    desk: Mutex<NodeSource<K>>,
+    bell: Parker,
+}
+
+impl<'a, K: NodeName, R: Wait> LockedSource<'a, K, R> {
+    /// This desk.
+    pub fn new(rt: &'a R, desk: NodeSource<K>) -> LockedSource<'a, K, R> {
+        LockedSource {
+            rt,
+            desk: Mutex::new(desk),
+            bell: Parker::new(),
+        }
+    }
+}
+
+impl<'a, K: NodeName, R: Wait> DeskLock for LockedSource<'a, K, R> {
+    fn ask(&self, alloc: Global, who: u64, ask: Ask) -> Result<Option<Message>, NoMemory> {
+        self.desk.lock(self.rt).ask(alloc, who, ask)
+    }
+
+    fn collect(&self, alloc: Global, who: u64) -> Result<Option<Message>, NoMemory> {
+        self.desk.lock(self.rt).collect(alloc, who)
+    }
+
+    fn end_session(&self, who: u64) {
+        self.desk.lock(self.rt).end_session(who);
+    }
+
+    fn mark(&self, members: &mut [Member]) {
+        self.desk.lock(self.rt).mark(members);
+    }
+}
+
+impl<'a, K: NodeName, R: Wait> Bell for LockedSource<'a, K, R> {
+    fn ring(&self) {
+        self.bell.unpark();
+    }
+}
+
+impl<'a, K: NodeName, R: Wait> OriginDesk<K> for LockedSource<'a, K, R> {
+    ghost gives = { λ l. IsOfTables K.schema.description.tables l };
+
+    fn next_link(&self) -> Option<Link> {
+        self.desk.lock(self.rt).next_link()
+    }
+
+    fn wait(&self) {
+        self.bell.park(self.rt);
+    }
+}
