@@ -25,8 +25,8 @@ use Rattle.ovs_wire.specs.declared.message.Message.TheVariants.{Request, Reply, 
 use Rattle.ovs_reader.specs.Params.{Asking, is, in_database, text_in, id_and_requests, requests_since, has_id, new_monitor}
 use Rattle.ovs_reader.specs.Answers.{Asked, Transact, Lock, Steal, Unlock, Outcome, Replies, Asks, Starts, Cancels, get_schema, transact, transacted, monitor_or_refusal, starts, start, starts_at, start_since, monitor, cancel, locked, lock_answer, monitor_answer, answer}
 use Rattle.ovs_reader.specs.Session.{SessionValue, AreMonitorsOf, MayBeShown}
-use Rattle.ovs_reader.specs.Turns.{monitors_after, answered, monitors_by, after_turn}
-use Rattle.ovs_reader.specs.Telling.{moved_to, after_pump}
+use Rattle.ovs_reader.specs.Turns.{monitors_after, answered, monitors_by, after_turn, shown}
+use Rattle.ovs_reader.specs.Telling.{moved_to, moved_past, after_pump}
 use Rattle.ovs_reader.specs.declared.refusal.RequestRefusal.TheVariants.{UnknownMonitor, UnknownMethod}
 use Rattle.ovs_reader.specs.declared.subscription.Subscription.{Subscription}
 
@@ -111,7 +111,7 @@ answer_fits ms f method params =
 -- ---- all of a list
 
 module _ {X : Type 0} (P : X → Type 0) where
-  all_append : (xs ys : List X) → AllByRecursion P xs → AllByRecursion P ys → AllByRecursion P (xs ++ ys)
+  pub all_append : (xs ys : List X) → AllByRecursion P xs → AllByRecursion P ys → AllByRecursion P (xs ++ ys)
   all_append [] ys a b = b
   all_append (x ∷ xs) ys a b = (a.0, all_append xs ys a.1 b)
 
@@ -157,3 +157,10 @@ moved_fit tables k (m ∷ ms) all = (all.0, moved_fit tables k ms all.1)
 
 pub shown_on : (s : SessionValue) (f : FoldedValue) → MayBeShown s f → MayBeShown (after_pump s f) f
 shown_on s f shown = record { extends = (omega arith, whole f.steps); monitors = moved_fit (tables_in f) (length f.steps) s.monitors shown.monitors; steps = shown.steps }
+
+past_fit : (tables : List Table) (k : ℕ) (ms : List Subscription) → AreMonitorsOf tables ms → AreMonitorsOf tables (map (moved_past k) ms)
+past_fit tables k [] all = tt
+past_fit tables k (m ∷ ms) all = (all.0, past_fit tables k ms all.1)
+
+pub shown_past : (s : SessionValue) (f : FoldedValue) (k : ℕ) → MayBeShown s f → MayBeShown (shown s f (map (moved_past k) s.monitors)) f
+shown_past s f k may = record { extends = (omega arith, whole f.steps); monitors = past_fit (tables_in f) k s.monitors may.monitors; steps = may.steps }

@@ -1,31 +1,47 @@
 -- A client as its fields make it.
-use Rattle.std.proofs.Common.{◌≡◌, ℕ, List, ◌++◌, ap, ◌∙◌, subst}
+use Rattle.std.proofs.Common.{◌≡◌, ◌≤◌, ◌<◌, ℕ, List, ◌++◌, length, map, ap, sym, ◌∙◌, subst}
+use Rattle.std.specs.List.{AllByRecursion}
 use Rattle.ovs_types.specs.Schema.{SchemaValue}
 use Rattle.ovs_links.specs.Absorbing.{folded_by}
 use Rattle.ovs_links.specs.declared.step.Step.{Step}
 use Rattle.ovs_wire.specs.declared.message.Message.{Message}
+use Rattle.ovs_reader.specs.Session.{SessionValue}
 use Rattle.ovs_reader.specs.Turns.{TurnValue, turn, after_turn}
+use Rattle.ovs_reader.specs.Telling.{told_some, reached, moved_past, after_some}
+use Rattle.ovs_reader.specs.declared.subscription.Subscription.{Subscription}
+use Rattle.ovs_reader.proofs.Parts.{all_told, all_past}
 use Rattle.ovs_views.specs.Published.{GoesOn, ViewSessionValue}
 use Rattle.ovs_service.specs.declared.due.Due.{Due}
-use Rattle.ovs_service.specs.Calls.{shown_to}
+use Rattle.ovs_service.specs.Calls.{IsAllTold, most_told, shown_to}
 use Rattle.ovs_service.specs.Client.{ClientValue, IsDueOf, Hears}
 
 abbrev client : ViewSessionValue → ℕ → List Due → ClientValue
 client session who due = record { session = session; who = who; due = due }
 
-pub hears_at : (schema : SchemaValue) (message : Message) (old : ClientValue) (session now : ViewSessionValue) (last shown : List Step) (who : ℕ)
+pub hears_at : (schema : SchemaValue) (message : Message) (old : ClientValue) (session now : ViewSessionValue) (shown : List Step) (who : ℕ)
     (due room new : List Due) (t : TurnValue)
-    → record { session = session; who = who; due = due } ≡ old → last ≡ session.last → GoesOn schema last shown
+    → record { session = session; who = who; due = due } ≡ old → GoesOn schema session.last shown
     → t ≡ turn session.session (folded_by schema shown) message → now ≡ shown_to shown (after_turn session.session (folded_by schema shown) message)
     → room ≡ due → (added : List Due) × IsDueOf t added × (new ≡ room ++ added)
     → Hears schema message old (record { session = now; who = who; due = new })
-hears_at schema message old session now last shown who due room new t is front goes_on turned after same (added, due_of, e) =
+hears_at schema message old session now shown who due room new t is goes_on turned after same (added, due_of, e) =
     subst (λ (o : ClientValue). Hears schema message o (record { session = now; who = who; due = new })) is (record {
       shown = shown;
-      goes_on = subst (λ (l : List Step). GoesOn schema l shown) front goes_on;
+      goes_on = goes_on;
       added = added;
       due = subst (λ (made : TurnValue). IsDueOf made added) turned due_of;
       after = ap (λ (s : ViewSessionValue). client s who new) after
           ∙ ap (λ (d : List Due). client (shown_to shown (after_turn session.session (folded_by schema shown) message)) who d)
           (e ∙ ap (λ (l : List Due). l ++ added) same);
     })
+
+-- where one call told fewer than it may, all that is shown is told
+pub all_told_at : (schema : SchemaValue) (session : SessionValue) (shown : List Step) (now : ViewSessionValue)
+    → now ≡ shown_to shown (after_some most_told session (folded_by schema shown))
+    → length (told_some most_told session.monitors (folded_by schema shown).steps) < most_told → IsAllTold now
+all_told_at schema session shown now after few =
+    let steps = (folded_by schema shown).steps in
+    let k = reached most_told session.monitors steps in
+    subst IsAllTold (sym after)
+    (subst (λ (n : ℕ). AllByRecursion (λ (m : Subscription). n ≤ m.position) (map (moved_past k) session.monitors)) (all_told most_told session.monitors steps few)
+    (all_past session.monitors k))

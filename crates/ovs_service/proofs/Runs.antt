@@ -1,5 +1,5 @@
 -- A client is served, a piece after another.
-use Rattle.std.proofs.Common.{◌≡◌, ℕ, List, [], ◌∷◌, ◌++◌, Option, Some, None, map, option_map, inl, inr, ap, sym, ◌∙◌, append_assoc, subst, refl}
+use Rattle.std.proofs.Common.{◌≡◌, ℕ, Bool, true, false, List, [], ◌∷◌, ◌++◌, Option, Some, None, map, option_map, inl, inr, ap, sym, ◌∙◌, append_assoc, subst, refl}
 use Rattle.std.specs.Option.{option_to_list}
 use Rattle.std.specs.List.{AllByRecursion}
 use Rattle.ovs_types.specs.Schema.{SchemaValue}
@@ -8,14 +8,14 @@ use Rattle.ovs_authority.specs.declared.ask.Ask.{Ask}
 use Rattle.ovs_wire.specs.Message.{Says}
 use Rattle.ovs_wire.specs.declared.message.Message.{Message}
 use Rattle.ovs_reader.specs.Turns.{TurnValue, turn}
-use Rattle.ovs_reader.specs.Telling.{told}
+use Rattle.ovs_reader.specs.Telling.{told_some}
 use Rattle.ovs_session.specs.Serving.{Said, Answered, Told, messages, text, Runs}
 use Rattle.ovs_views.specs.Published.{ViewSessionValue}
 use Rattle.ovs_service.specs.declared.due.Due.{Due}
 use Rattle.ovs_service.specs.declared.due.Due.TheVariants.{Say, Put}
 use Rattle.ovs_service.specs.Replies.{IsOwed, seen_ask}
 use Rattle.ovs_service.specs.Dues.{Comes, Settles}
-use Rattle.ovs_service.specs.Calls.{Call, Answer, Pump, Collect, AskGives, TurnGives, CallGives, Give, heard}
+use Rattle.ovs_service.specs.Calls.{Call, Answer, Pump, Collect, AskGives, TurnGives, CallGives, Give, IsAllTold, heard, most_told}
 use Rattle.ovs_service.specs.Client.{ClientValue, IsDueOf, IsDueOfAll, Hears, IsTold, Serves, AnswersTo, TellsNew}
 use Rattle.ovs_service.proofs.Settled.{append_nil, comes_apart, settles_none, settles_more, settles_before}
 
@@ -131,20 +131,20 @@ module _ (schema : SchemaValue) (replies : ℕ → Ask → Option Message → Ty
         give_one schema (replies a.who) (owes a.who) (Pump p.shown) a.session b.session given
         (record {
           goes_on = p.goes_on;
-          gives = told_gives (replies a.who) (told a.session.session.monitors (folded_by schema p.shown).steps) p.added given p.due h;
+          gives = told_gives (replies a.who) (told_some most_told a.session.session.monitors (folded_by schema p.shown).steps) p.added given p.due h;
           after = ap (λ (c : ClientValue). c.session) p.after;
         });
     settles = still_due a b p.added (ap (λ (c : ClientValue). c.due) p.after);
   }
 
-  serves_collected : (a b : ClientValue) (ms : List Message) → AllByRecursion (IsOwed (owes a.who)) ms
+  serves_collected : (a b : ClientValue) (ms : List Message) → IsAllTold a.session → AllByRecursion (IsOwed (owes a.who)) ms
       → b ≡ record a { due = a.due ++ map Say ms } → Serves schema replies owes (Collect ms ∷ []) a [] b
-  serves_collected a b ms owed e = record {
+  serves_collected a b ms all owed e = record {
     who = ap (λ (c : ClientValue). c.who) e;
     added = map Say ms;
     gives = λ (given : List Message) (h : Comes (replies a.who) (map Say ms) given).
         give_one schema (replies a.who) (owes a.who) (Collect ms) a.session b.session given
-        (owed, collected_gives (replies a.who) ms given h, ap (λ (c : ClientValue). c.session) e);
+        (all, owed, collected_gives (replies a.who) ms given h, ap (λ (c : ClientValue). c.session) e);
     settles = still_due a b (map Say ms) (ap (λ (c : ClientValue). c.due) e);
   }
 
@@ -195,19 +195,30 @@ module _ (schema : SchemaValue) (replies : ℕ → Ask → Option Message → Ty
     f ∙ e,
   )
 
-  -- what is new is told: what monitors tell, what is collected, and what is due then
-  pub told_new : (a b c d : ClientValue) (o q : List ℕ) → IsTold schema a b
-      → (ms : List Message) × AllByRecursion (IsOwed (owes b.who)) ms × (c ≡ record b { due = b.due ++ map Say ms })
+  -- what is new is told: what monitors tell, what is collected where that is all, and what is due then
+  pub told_new : (is_all : Bool) (a b c d : ClientValue) (o q : List ℕ) → IsTold schema a b → (is_all ≡ true → IsAllTold b.session)
+      → (ms : List Message) × AllByRecursion (IsOwed (owes b.who)) ms × (c ≡ record b { due = b.due ++ map Say ms }) → (is_all ≡ false → c ≡ b)
       → (s : List ℕ) × Settles (replies c.who) c.due s d.due × (q ≡ o ++ s) → d ≡ record c { due = d.due }
       → (t : List ℕ) × TellsNew schema replies owes a t d × (q ≡ o ++ t)
-  told_new a b c d o q told (ms, owed, e) (s, settles, f) same = (
+  told_new true a b c d o q told all (ms, owed, e) none (s, settles, f) same = (
     s,
     (
       Pump told.shown ∷ Collect ms ∷ [],
       refl,
-      (λ (none : a.due ≡ []). tt),
+      (λ (nothing : a.due ≡ []). tt),
       serves_more (Pump told.shown ∷ []) (Collect ms ∷ []) a b d [] s (serves_told a b told)
-          (serves_more (Collect ms ∷ []) [] b c d [] s (serves_collected b c ms owed e) (serves_due c d s settles same)),
+          (serves_more (Collect ms ∷ []) [] b c d [] s (serves_collected b c ms (all refl) owed e) (serves_due c d s settles same)),
+    ),
+    f,
+  )
+  told_new false a b c d o q told all collected none (s, settles, f) same = (
+    s,
+    (
+      Pump told.shown ∷ [],
+      refl,
+      (λ (nothing : a.due ≡ []). tt),
+      serves_more (Pump told.shown ∷ []) [] a b d [] s (serves_told a b told)
+          (subst (λ (n : ClientValue). Serves schema replies owes [] n s d) (none refl) (serves_due c d s settles same)),
     ),
     f,
   )

@@ -1,5 +1,5 @@
 -- What a reader's session is given, a call after another.
-use Rattle.std.specs.Prelude.{◌≡◌, ℕ, List, [], ◌∷◌, ◌++◌, Option, Some, None}
+use Rattle.std.specs.Prelude.{◌≡◌, ◌≤◌, ℕ, List, [], ◌∷◌, ◌++◌, Option, Some, None, length}
 use Rattle.std.specs.List.{AllByRecursion}
 use Rattle.std.specs.Option.{option_to_list}
 use Rattle.serde_json.specs.Data.{Data}
@@ -12,14 +12,17 @@ use Rattle.ovs_wire.specs.declared.message.Message.{Message}
 use Rattle.ovs_reader.specs.Answers.{Asked}
 use Rattle.ovs_reader.specs.Session.{SessionValue}
 use Rattle.ovs_reader.specs.Turns.{TurnValue, turn, after_turn}
-use Rattle.ovs_reader.specs.Telling as telling
-use Rattle.ovs_reader.specs.Telling.{after_pump}
+use Rattle.ovs_reader.specs.Telling.{told_some, after_some}
 use Rattle.ovs_views.specs.Published.{GoesOn, ViewSessionValue}
 use Rattle.ovs_service.specs.Dues.{Replies}
 use Rattle.ovs_service.specs.Replies.{IsOwed, seen_ask}
 
--- a call for a session: a text is answered from these steps; what is new in these steps is told; or these messages of the
--- authority are collected
+-- no further step is told in a call once so many notifications are told
+abbrev pub most_told : ℕ
+most_told = 256
+
+-- a call for a session: a text is answered from these steps; of what is new in these steps as much is told as one call tells; or
+-- these messages of the authority are collected
 pub data Call : Type 0 where
   Answer : List ℕ → List Step → Call
   Pump : List Step → Call
@@ -43,6 +46,10 @@ TellsFirst (Collect messages ∷ calls) = ⊥
 abbrev pub shown_to : List Step → SessionValue → ViewSessionValue
 shown_to shown session = record { session = session; last = shown }
 
+-- each monitor was told all that was shown
+abbrev pub IsAllTold : ViewSessionValue → Type 0
+IsAllTold s = AllByRecursion (λ m. length s.last ≤ m.position) s.session.monitors
+
 module _ (replies : Ask → Option Message → Type 0) where
   -- this comes of an ask: the authority's reply, where there is one
   abbrev pub AskGives : Option (Data × Asked) → List Message → Type 0
@@ -63,17 +70,17 @@ module _ (schema : SchemaValue) (replies : Ask → Option Message → Type 0) (o
     pub gives : TurnGives replies (turn old.session (folded_by schema shown) message) given
     pub after : new ≡ shown_to shown (after_turn old.session (folded_by schema shown) message)
 
-  -- What monitors tell of steps that go on from those that were shown before.
+  -- What monitors tell in one call of steps that go on from those that were shown before.
   pub record Pumps (shown : List Step) (old : ViewSessionValue) (given : List Message) (new : ViewSessionValue) : Type 0 where
     pub goes_on : GoesOn schema old.last shown
-    pub gives : given ≡ telling.told old.session.monitors (folded_by schema shown).steps
-    pub after : new ≡ shown_to shown (after_pump old.session (folded_by schema shown))
+    pub gives : given ≡ told_some most_told old.session.monitors (folded_by schema shown).steps
+    pub after : new ≡ shown_to shown (after_some most_told old.session (folded_by schema shown))
 
-  -- one call gives these messages
+  -- one call gives these messages; those of the authority are collected only where all that was shown is told
   abbrev pub CallGives : Call → ViewSessionValue → List Message → ViewSessionValue → Type 0
   CallGives (Answer text shown) old given new = Answers text shown old given new
   CallGives (Pump shown) old given new = Pumps shown old given new
-  CallGives (Collect messages) old given new = AllByRecursion (IsOwed owes) messages × (given ≡ messages) × (new ≡ old)
+  CallGives (Collect messages) old given new = IsAllTold old × AllByRecursion (IsOwed owes) messages × (given ≡ messages) × (new ≡ old)
 
   -- calls give these messages, one call after another
   abbrev pub Give : List Call → ViewSessionValue → List Message → ViewSessionValue → Type 0

@@ -9,9 +9,9 @@ use Rattle.ovs_wire.specs.Message.{Says}
 use Rattle.ovs_wire.specs.declared.message.Message.{Message}
 use Rattle.ovs_reader.specs.Session.{new_session}
 use Rattle.ovs_reader.specs.Turns.{TurnValue, turn, after_turn}
-use Rattle.ovs_reader.specs.Telling.{told, after_pump}
+use Rattle.ovs_reader.specs.Telling.{told_some, after_some}
 use Rattle.ovs_views.specs.Published.{GoesOn, ViewSessionValue}
-use Rattle.ovs_service.specs.Calls.{Call, Answer, Give, heard, shown_to, TellsFirst}
+use Rattle.ovs_service.specs.Calls.{Call, Answer, Give, heard, most_told, shown_to, TellsFirst}
 use Rattle.ovs_service.specs.Dues.{Comes, Settles}
 use Rattle.ovs_service.specs.Replies.{seen_ask}
 use Rattle.ovs_service.specs.declared.due.Due.{Due}
@@ -53,14 +53,14 @@ pub record Hears (schema : SchemaValue) (message : Message) (old new : ClientVal
     due = old.due ++ added;
   }
 
--- what its monitors tell of steps that go on from those that were shown before is due behind what was
+-- what its monitors tell in one call of steps that go on from those that were shown before is due behind what was
 pub record IsTold (schema : SchemaValue) (old new : ClientValue) : Type 0 where
   pub shown : List Step
   pub goes_on : GoesOn schema old.session.last shown
   pub added : List Due
-  pub due : IsDueOfAll (told old.session.session.monitors (folded_by schema shown).steps) added
+  pub due : IsDueOfAll (told_some most_told old.session.session.monitors (folded_by schema shown).steps) added
   pub after : new ≡ record {
-    session = shown_to shown (after_pump old.session.session (folded_by schema shown));
+    session = shown_to shown (after_some most_told old.session.session (folded_by schema shown));
     who = old.who;
     due = old.due ++ added;
   }

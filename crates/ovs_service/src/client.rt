@@ -1,14 +1,14 @@
 //! What a node knows of one reader.
-ghost use Rattle.std.specs.Prelude.{◌≡◌, ◌++◌, ◌↔◌, ℕ, List, [], false, IsTrue, Err, IfOk, OnOk, OnErr, map};
+ghost use Rattle.std.specs.Prelude.{◌≡◌, ◌++◌, ◌↔◌, ℕ, List, [], true, false, IsTrue, Err, IfOk, OnOk, OnErr, map};
 ghost use Rattle.std.specs.List.{AllByRecursion};
 ghost use Rattle.ovs_links.specs.Absorbing.{folded_by};
 ghost use Rattle.ovs_wire.specs.declared.message.Message.{Message};
 ghost use Rattle.ovs_reader.specs.Turns.{seen_turn, turn, after_turn};
-ghost use Rattle.ovs_reader.specs.Telling.{told, after_pump};
+ghost use Rattle.ovs_reader.specs.Telling.{told_some, after_some};
 ghost use Rattle.ovs_views.specs.Published.{GoesOn};
 ghost use Rattle.ovs_service.specs.declared.due.Due.TheVariants.{Say};
 ghost use Rattle.ovs_service.specs.Replies.{IsOwed};
-ghost use Rattle.ovs_service.specs.Calls.{shown_to};
+ghost use Rattle.ovs_service.specs.Calls.{most_told, shown_to, IsAllTold};
 ghost use Rattle.ovs_service.specs.Client.{new_client, Hears, IsTold};
 ghost use Rattle.ovs_service.specs.Dues.{Settles};
 
@@ -26,20 +26,23 @@ use std::alloc::Global;
 use std::collections::VecDeque;
 use std::marker::Model;
 
+/// Once so many notifications are told in a call, which a turn makes once, no further step of the chain is. So a reader that was
+/// stalled while thousands of commits came is told of them piece by piece, the next once what is unsent is below its limit, and
+/// what this takes of memory doesn't grow with what was missed.
+const MOST_TOLD: usize = 256;
+
 /// What a node knows of one reader: its session, with the front of what it was shown last; the number under which the
 /// authority knows it; and what is to be done for it and isn't yet, since memory ran out.
 #[derive(Drop)]
 pub struct Client<K: NodeName> {
     session: ViewSession<K>,
-    // The front of what it was shown last, which its session has too.
-    last: Front<K>,
     who: u64,
     dues: VecDeque<Due>,
     expecting: Expecting,
 }
 
 impl<K: NodeName> Model for Client<K> {
-    ghost use Rattle.std.specs.Prelude.{◌≡◌, ℕ, List, refl};
+    ghost use Rattle.std.specs.Prelude.{ℕ, List, refl};
     ghost use Rattle.std.specs.Coded.{code_by, coded×, coded_ℕ, coded_list};
     ghost use Rattle.ovs_links.specs.contracts.step.Step as step_row;
     ghost use Rattle.ovs_links.specs.declared.step.Step.{Step};
@@ -57,8 +60,6 @@ impl<K: NodeName> Model for Client<K> {
         (λ p. record { session = record { session = p.0; last = p.1.0 }; who = p.1.1.0; due = p.1.1.1 }) (λ _. refl) };
 
     ghost view = { λ c. record { session = c.session; who = c.who; due = c.dues.items } };
-
-    ghost invariant = { λ c. c.last ≡ c.session.last };
 }
 
 // A view refuses so.
@@ -71,49 +72,39 @@ fn refusal_of(error: ViewError) -> Refusal
     }
 }
 
-// A session's answer to a message, from what a view shows, which is no less than what the session was shown last.
+// A session's answer to a message, from what a view shows.
 fn answer_at<K: NodeName>(
     alloc: Global,
     view: &mut View<K>,
     session: &mut ViewSession<K>,
-    last: &mut Front<K>,
     message: Message,
 ) -> Result<Turn, Refusal>
-    ensures later { OnOk result (GoesOn K.schema last.old last.new) }
-    ensures turn { IfOk result (λ t. seen_turn t ≡ turn session.old.session (folded_by K.schema last.new) message) }
-    ensures after { OnOk result (session.new ≡ shown_to last.new (after_turn session.old.session (folded_by K.schema last.new) message)) }
-    ensures unchanged { OnErr result ((session.new ≡ session.old) × (last.new ≡ last.old)) }
+    ensures later { OnOk result (GoesOn K.schema session.old.last view.new) }
+    ensures turn { IfOk result (λ t. seen_turn t ≡ turn session.old.session (folded_by K.schema view.new) message) }
+    ensures after { OnOk result (session.new ≡ shown_to view.new (after_turn session.old.session (folded_by K.schema view.new) message)) }
+    ensures unchanged { OnErr result (session.new ≡ session.old) }
     ensures never_bad { result ≡ Err Refusal.BadInput → ⊥ }
 {
-    view.learn(last);
     match view.message(alloc, session, message) {
-        Ok(turn) => {
-            *last = view.known().again();
-            Ok(turn)
-        }
+        Ok(turn) => Ok(turn),
         Err(error) => Err(refusal_of(error)),
     }
 }
 
-// What a session's monitors tell, from what a view shows, which is no less than this front, which the session was shown last.
+// What a session's monitors tell in one call, from what a view shows.
 fn pump_at<K: NodeName>(
     alloc: Global,
     view: &mut View<K>,
     session: &mut ViewSession<K>,
-    front: &mut Front<K>,
 ) -> Result<Vec<Message>, Refusal>
-    ensures later { OnOk result (GoesOn K.schema front.old front.new) }
-    ensures told { IfOk result (λ ms. ms.items ≡ told session.old.session.monitors (folded_by K.schema front.new).steps) }
-    ensures after { OnOk result (session.new ≡ shown_to front.new (after_pump session.old.session (folded_by K.schema front.new))) }
-    ensures unchanged { OnErr result ((session.new ≡ session.old) × (front.new ≡ front.old)) }
+    ensures later { OnOk result (GoesOn K.schema session.old.last view.new) }
+    ensures told { IfOk result (λ ms. ms.items ≡ told_some most_told session.old.session.monitors (folded_by K.schema view.new).steps) }
+    ensures after { OnOk result (session.new ≡ shown_to view.new (after_some most_told session.old.session (folded_by K.schema view.new))) }
+    ensures unchanged { OnErr result (session.new ≡ session.old) }
     ensures never_bad { result ≡ Err Refusal.BadInput → ⊥ }
 {
-    view.learn(front);
-    match view.pump(alloc, session) {
-        Ok(messages) => {
-            *front = view.known().again();
-            Ok(messages)
-        }
+    match view.pump(alloc, session, MOST_TOLD) {
+        Ok(messages) => Ok(messages),
         Err(error) => Err(refusal_of(error)),
     }
 }
@@ -125,7 +116,6 @@ impl<K: NodeName> Client<K> {
     {
         Client {
             session: ViewSession::new(alloc, last),
-            last: last.again(),
             who,
             dues: VecDeque::new(alloc),
             expecting: Expecting::nothing(),
@@ -161,32 +151,38 @@ impl<K: NodeName> Client<K> {
         ensures never_bad { result ≡ Err Refusal.BadInput → ⊥ }
     {
         make_room(&mut self.dues, 2)?;
-        let turn = answer_at(alloc, view, &mut self.session, &mut self.last, message)?;
+        let turn = answer_at(alloc, view, &mut self.session, message)?;
         add_turn(&mut self.dues, turn);
         Ok(())
     }
 
-    /// What its monitors tell is due then.
+    /// What its monitors tell in one call is due then. `true` only where nothing is left to be told.
     ///
     /// # Errors
     /// `Gone` and `NoMemory`; nothing is changed then.
-    pub(crate) fn pump(&mut self, alloc: Global, view: &mut View<K>) -> Result<(), Refusal>
+    pub(crate) fn pump(&mut self, alloc: Global, view: &mut View<K>) -> Result<bool, Refusal>
         ensures told { OnOk result (IsTold K.schema self.old self.new) }
+        ensures all { IfOk result (λ is_all. is_all ≡ true → IsAllTold self.new.session) }
         ensures unchanged { OnErr result (self.new ≡ self.old) }
         ensures never_bad { result ≡ Err Refusal.BadInput → ⊥ }
     {
         make_room(&mut self.dues, 1)?;
-        let messages = pump_at(alloc, view, &mut self.session, &mut self.last)?;
+        let messages = pump_at(alloc, view, &mut self.session)?;
+        let is_all_told = messages.len() < MOST_TOLD;
         add(&mut self.dues, several(messages));
-        Ok(())
+        Ok(is_all_told)
     }
 
-    /// What the authority owes it is due then, as far as memory allows.
-    pub(crate) fn collect<D: Desk>(&mut self, alloc: Global, desk: &mut D)
+    /// What the authority owes it is due then, as far as memory allows, where all that is new was told before: so a reply stands
+    /// behind what was published before it.
+    pub(crate) fn collect<D: Desk>(&mut self, alloc: Global, is_all_told: bool, desk: &mut D)
         ensures collected { (given : List Message) × AllByRecursion (IsOwed (D.owes self.old.who)) given
             × (self.new ≡ record self.old { due = self.old.due ++ map Say given }) }
+        ensures none { is_all_told ≡ false → self.new ≡ self.old }
     {
-        collect(alloc, self.who, &mut self.dues, &mut self.expecting, desk);
+        if is_all_told {
+            collect(alloc, self.who, &mut self.dues, &mut self.expecting, desk);
+        }
     }
 
     /// Does what is due, in its order, until memory runs out. Whether something was done.

@@ -80,14 +80,15 @@ impl<K: NodeName, D: Desk> NodeService<K, D> {
         self.desk.mark(members);
     }
 
-    // Tells what its monitors show and what the authority owes it. After a refusal nothing has changed.
+    // Tells what its monitors show, as much as one call tells, and where that is all what the authority owes it. After a refusal
+    // nothing has changed.
     fn tell_new(&mut self, client: &mut Client<K>, out: &mut Outbox) -> Result<(), Refusal>
         ensures told { OnOk result ((said : List ℕ) × TellsNew K.schema D.replies D.owes client.old said client.new × (out.new ≡ out.old ++ said)) }
         ensures unchanged { OnErr result ((client.new ≡ client.old) × (out.new ≡ out.old)) }
         ensures never_bad { result ≡ Err Refusal.BadInput → ⊥ }
     {
-        client.pump(self.alloc, &mut self.view)?;
-        client.collect(self.alloc, &mut self.desk);
+        let is_all_told = client.pump(self.alloc, &mut self.view)?;
+        client.collect(self.alloc, is_all_told, &mut self.desk);
         client.settle(self.alloc, &mut self.desk, out);
         Ok(())
     }

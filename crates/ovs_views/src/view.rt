@@ -1,6 +1,6 @@
 //! A reader's view of what is published.
 
-ghost use Rattle.std.specs.Prelude.{◌≡◌, ◌⊎◌, true, false, IfOk, OnOk, OnErr, drop, is_some};
+ghost use Rattle.std.specs.Prelude.{◌≡◌, ◌<◌, ◌⊎◌, true, false, IfOk, OnOk, OnErr, drop, is_some};
 ghost use Rattle.std.specs.List.{list_all};
 ghost use mathlib.Core.List.{IsPrefix};
 ghost use Rattle.serde_json.specs.View.{view, items_view, items_of};
@@ -10,7 +10,7 @@ ghost use Rattle.ovs_query.specs.RowWriting.{select_json};
 ghost use Rattle.ovs_links.specs.StepChains.{head_after_steps, position_in};
 ghost use Rattle.ovs_links.specs.Absorbing.{folded_by};
 ghost use Rattle.ovs_reader.specs.Turns.{seen_turn, turn, after_turn};
-ghost use Rattle.ovs_reader.specs.Telling.{told, after_pump};
+ghost use Rattle.ovs_reader.specs.Telling.{told_some, after_some};
 ghost use Rattle.ovs_views.specs.Published.{GoesOn};
 
 use crate::name::{Front, NodeName, Told};
@@ -190,6 +190,8 @@ impl<K: NodeName> View<K> {
         message: Message,
     ) -> Result<Turn, ViewError>
         ensures later { OnOk result (GoesOn K.schema self.old self.new) }
+        // It goes on from what the session was shown last, too.
+        ensures shown { OnOk result (GoesOn K.schema session.old.last self.new) }
         ensures turn { IfOk result (λ t. seen_turn t ≡ turn session.old.session (folded_by K.schema self.new) message) }
         ensures after { OnOk result (session.new ≡ record { session = after_turn session.old.session (folded_by K.schema self.new) message; last = self.new }) }
         ensures unchanged { OnErr result ((self.new ≡ self.old) × (session.new ≡ session.old)) }
@@ -205,7 +207,8 @@ impl<K: NodeName> View<K> {
         Ok(turn)
     }
 
-    /// The notifications that a session's monitors weren't given yet (RFC 7047 section 4.1.6).
+    /// The notifications that a session's monitors weren't given yet (RFC 7047 section 4.1.6); but no step is begun once so many
+    /// are told. Fewer mean that nothing is left to be told; what is left, the next call tells.
     ///
     /// # Errors
     /// `Gone`, also where what is shown is less than what the session was shown before, or `NoMemory`; then nothing is changed.
@@ -213,17 +216,21 @@ impl<K: NodeName> View<K> {
         &mut self,
         alloc: Global,
         session: &mut ViewSession<K>,
+        most: usize,
     ) -> Result<Vec<Message>, ViewError>
+        requires some { 0 < most }
         ensures later { OnOk result (GoesOn K.schema self.old self.new) }
-        ensures told { IfOk result (λ ms. ms.items ≡ told session.old.session.monitors (folded_by K.schema self.new).steps) }
-        ensures after { OnOk result (session.new ≡ record { session = after_pump session.old.session (folded_by K.schema self.new); last = self.new }) }
+        // It goes on from what the session was shown last, too.
+        ensures shown { OnOk result (GoesOn K.schema session.old.last self.new) }
+        ensures told { IfOk result (λ ms. ms.items ≡ told_some most session.old.session.monitors (folded_by K.schema self.new).steps) }
+        ensures after { OnOk result (session.new ≡ record { session = after_some most session.old.session (folded_by K.schema self.new); last = self.new }) }
         ensures unchanged { OnErr result ((self.new ≡ self.old) × (session.new ≡ session.old)) }
     {
         let (front, messages) = match self.handle.enter() {
             None => return Err(ViewError::Gone),
             Some(shown) => {
                 let front = shown.since(&self.known).ok_or(Gone)?;
-                (front, session.pump(alloc, &shown)?)
+                (front, session.pump(alloc, &shown, most)?)
             }
         };
         self.known = front;

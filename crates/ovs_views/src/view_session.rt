@@ -4,7 +4,8 @@ ghost use Rattle.std.specs.Prelude.{◌≡◌, ◌<◌, [], true, length, IfOk, 
 ghost use Rattle.ovs_links.specs.Absorbing.{folded_by};
 ghost use Rattle.ovs_reader.specs.Session.{new_session};
 ghost use Rattle.ovs_reader.specs.Turns.{seen_turn, turn, after_turn};
-ghost use Rattle.ovs_reader.specs.Telling.{told, after_pump};
+ghost use Rattle.ovs_reader.specs.Telling.{told_some, after_some};
+ghost use Rattle.ovs_views.specs.Published.{GoesOn};
 
 use crate::name::{Front, NodeName};
 use crate::shown::Shown;
@@ -64,6 +65,7 @@ impl<K: NodeName> ViewSession<K> {
         message: Message,
         shown: &Shown<K>,
     ) -> Result<Turn, ViewError>
+        ensures later { OnOk result (GoesOn K.schema self.old.last shown.now) }
         ensures turn { IfOk result (λ t. seen_turn t ≡ turn self.old.session (folded_by K.schema shown.now) message) }
         ensures after { OnOk result (self.new ≡ record { session = after_turn self.old.session (folded_by K.schema shown.now) message; last = shown.now }) }
         ensures gone { IfErr result (λ e. e ≡ ViewError.Gone → length shown.now < length self.old.last) }
@@ -75,18 +77,26 @@ impl<K: NodeName> ViewSession<K> {
         Ok(turn)
     }
 
-    /// The notifications that its monitors weren't given yet (RFC 7047 section 4.1.6), up to what is shown.
+    /// The notifications that its monitors weren't given yet (RFC 7047 section 4.1.6), up to what is shown; but no step is begun
+    /// once so many are told. Fewer mean that nothing is left to be told; what is left, the next call tells.
     ///
     /// # Errors
     /// `Gone` only where that is less than what the session was shown before; `NoMemory`. Then nothing is changed.
-    pub fn pump(&mut self, alloc: Global, shown: &Shown<K>) -> Result<Vec<Message>, ViewError>
-        ensures told { IfOk result (λ ms. ms.items ≡ told self.old.session.monitors (folded_by K.schema shown.now).steps) }
-        ensures after { OnOk result (self.new ≡ record { session = after_pump self.old.session (folded_by K.schema shown.now); last = shown.now }) }
+    pub fn pump(
+        &mut self,
+        alloc: Global,
+        shown: &Shown<K>,
+        most: usize,
+    ) -> Result<Vec<Message>, ViewError>
+        requires some { 0 < most }
+        ensures later { OnOk result (GoesOn K.schema self.old.last shown.now) }
+        ensures told { IfOk result (λ ms. ms.items ≡ told_some most self.old.session.monitors (folded_by K.schema shown.now).steps) }
+        ensures after { OnOk result (self.new ≡ record { session = after_some most self.old.session (folded_by K.schema shown.now); last = shown.now }) }
         ensures gone { IfErr result (λ e. e ≡ ViewError.Gone → length shown.now < length self.old.last) }
         ensures unchanged { OnErr result (self.new ≡ self.old) }
     {
         let last = shown.since(&self.last).ok_or(Gone)?;
-        let messages = self.session.pump(alloc, shown.folded())?;
+        let messages = self.session.pump_some(alloc, shown.folded(), most)?;
         self.last = last;
         Ok(messages)
     }
