@@ -5,13 +5,15 @@ ghost use Rattle.std.specs.Prelude.{◌≡◌, ◌+◌, ◌<◌, true, false, If
 use crate::bell::SocketBell;
 use crate::client::Half;
 use crate::ending::IsEnding;
+use log::{Log, info};
 use mio::net::{TcpListener, TcpStream};
 use mio::{Events, Interest, Poll, Token, Waker};
 use ovs_hall::{Doors, Woken};
+use ovs_session::Ended;
 use std::alloc::Global;
 use std::collections::VecDeque;
 use std::io::{self, ErrorKind};
-use std::net::{self, Net};
+use std::net::{self, Net, SocketAddr};
 use std::sync::Arc;
 use std::time::Duration;
 
@@ -29,7 +31,10 @@ const SHORTAGE: u64 = 200;
 
 /// Doors over sockets: several workers may have some at one address, each of which takes a part of what comes.
 #[derive(Drop)]
-pub struct SocketDoors {
+pub struct SocketDoors<R: Log + Drop> {
+    rt: R,
+    // The number of the worker, by which it is told of.
+    worker: usize,
     alloc: Global,
     poll: Poll,
     events: Events<Global>,
@@ -45,20 +50,23 @@ pub struct SocketDoors {
     is_ending: IsEnding,
 }
 
-impl SocketDoors {
-    pub(crate) fn new<N: Net>(
-        net: &N,
+impl<R: Net + Log + Drop> SocketDoors<R> {
+    pub(crate) fn new(
+        rt: R,
         alloc: Global,
+        worker: usize,
         listener: net::TcpListener,
         accepts: u32,
         is_ending: IsEnding,
-    ) -> io::Result<SocketDoors> {
-        let poll = Poll::new(net)?;
+    ) -> io::Result<SocketDoors<R>> {
+        let poll = Poll::new(&rt)?;
         let bell = Arc::new(alloc, Waker::new(poll.registry(), BELL)?)?;
         let mut listener = TcpListener::from_std(listener);
         poll.registry()
             .register(&mut listener, LISTENER, Interest::READABLE)?;
         Ok(SocketDoors {
+            rt,
+            worker,
             alloc,
             poll,
             events: Events::with_capacity(alloc, EVENTS)?,
@@ -71,7 +79,9 @@ impl SocketDoors {
             is_ending,
         })
     }
+}
 
+impl<R: Log + Drop> SocketDoors<R> {
     /// What wakes the worker that waits at them.
     ///
     /// # Errors
@@ -117,13 +127,13 @@ impl SocketDoors {
     }
 
     // The next connection that waits, without waiting for one.
-    fn next_stream(&mut self) -> Option<TcpStream>
+    fn next_stream(&mut self) -> Option<(TcpStream, SocketAddr)>
         ensures same { self.new.accepts_left ≡ self.old.accepts_left }
     {
         match self.listener.accept() {
-            Ok((stream, _)) => {
+            Ok(connection) => {
                 self.is_short = false;
-                Some(stream)
+                Some(connection)
             }
             Err(error) => {
                 self.note_refusal(error.kind());
@@ -158,7 +168,7 @@ impl SocketDoors {
     }
 }
 
-impl Doors for SocketDoors {
+impl<R: Log + Drop> Doors for SocketDoors<R> {
     type In = Half;
 
     type Out = Half;
@@ -191,8 +201,20 @@ impl Doors for SocketDoors {
         if self.is_closed() {
             return None;
         }
-        let stream = self.next_stream()?;
+        let (stream, peer) = self.next_stream()?;
         self.accepts_left -= 1;
-        self.seat(key, stream).ok()
+        let halves = self.seat(key, stream).ok()?;
+        let worker = self.worker;
+        info!(self.rt; "worker {worker} session {key} opened by {peer}");
+        Some(halves)
+    }
+
+    // A file handle is free again.
+    fn left(&mut self, key: usize, ended: Ended)
+        ensures same { self.new.accepts_left ≡ self.old.accepts_left }
+    {
+        self.may_accept |= self.is_short;
+        let worker = self.worker;
+        info!(self.rt; "worker {worker} session {key} ended: {ended}");
     }
 }

@@ -2,6 +2,7 @@
 
 use crate::doors::SocketDoors;
 use crate::ending::IsEnding;
+use log::Log;
 use std::alloc::Global;
 use std::io;
 use std::net::{Net, SocketAddr, TcpListener};
@@ -33,20 +34,22 @@ impl Listening {
         self.listener.local_addr()
     }
 
-    /// Doors for one worker, which takes so many of the connections at most.
+    /// Doors for the worker of this number, which takes so many of the connections at most.
     ///
     /// # Errors
     /// The system's; memory ran out.
-    pub fn doors<N: Net>(
+    pub fn doors<R: Net + Log + Drop>(
         &self,
-        net: &N,
+        rt: R,
         alloc: Global,
+        worker: usize,
         accepts: u32,
         is_ending: &IsEnding,
-    ) -> io::Result<SocketDoors> {
+    ) -> io::Result<SocketDoors<R>> {
         SocketDoors::new(
-            net,
+            rt,
             alloc,
+            worker,
             self.listener.try_clone()?,
             accepts,
             is_ending.again()?,

@@ -6,6 +6,8 @@ use crate::bell::SocketBell;
 use crate::channel::Channel;
 use crate::ending::IsEnding;
 use crate::pause::Pause;
+use log::{Log, info};
+use ovs_session::Ended;
 use std::alloc::Global;
 use std::io::{self, ErrorKind, Read, Write};
 use std::net::{Net, SocketAddr};
@@ -15,11 +17,13 @@ use std::sync::{Arc, Mutex};
 ///
 /// What it hands out is used by the thread that has it, so that nobody else holds the lock.
 #[derive(Drop)]
-pub struct Upward<N: Net + Drop> {
-    net: N,
+pub struct Upward<R: Net + Log + Drop> {
+    rt: R,
     address: SocketAddr,
     tries_left: u32,
     has_tried: bool,
+    // The try before this one failed, which was told.
+    has_failed: bool,
     pause: Pause,
     channel: Arc<Mutex<Channel>>,
 }
@@ -36,25 +40,26 @@ pub struct ToUpstream {
     channel: Arc<Mutex<Channel>>,
 }
 
-impl<N: Net + Drop> Upward<N> {
+impl<R: Net + Log + Drop> Upward<R> {
     /// So many connections at most, with the bell of the thread that has them.
     ///
     /// # Errors
     /// The system's; memory ran out.
     pub fn new(
-        net: N,
+        rt: R,
         alloc: Global,
         address: SocketAddr,
         tries: u32,
         is_ending: &IsEnding,
-    ) -> io::Result<(Upward<N>, SocketBell)> {
-        let channel = Channel::new(&net, alloc, is_ending.again()?)?;
+    ) -> io::Result<(Upward<R>, SocketBell)> {
+        let channel = Channel::new(&rt, alloc, is_ending.again()?)?;
         let bell = channel.bell()?;
         let upward = Upward {
-            net,
+            rt,
             address,
             tries_left: tries,
             has_tried: false,
+            has_failed: false,
             pause: Pause::new(),
             channel: Arc::new(alloc, Mutex::new(channel))?,
         };
@@ -85,10 +90,8 @@ impl<N: Net + Drop> Upward<N> {
 
     /// The connection. `None` where it can't be had now.
     pub fn open(&mut self) -> Option<(FromUpstream, ToUpstream)> {
-        self.channel
-            .try_lock()?
-            .connect(&self.net, self.address)
-            .ok()?;
+        let connected = self.channel.try_lock()?.connect(&self.rt, self.address);
+        self.tell(connected)?;
         let reader = FromUpstream {
             channel: self.channel.clone().ok()?,
         };
@@ -96,6 +99,31 @@ impl<N: Net + Drop> Upward<N> {
             channel: self.channel.clone().ok()?,
         };
         Some((reader, writer))
+    }
+
+    // Tells of the first failure of several, and that the upstream was found. `None` where it wasn't.
+    fn tell(&mut self, connected: io::Result<()>) -> Option<()> {
+        let address = self.address;
+        match connected {
+            Ok(()) => {
+                self.has_failed = false;
+                info!(self.rt; "upstream {address} found");
+                Some(())
+            }
+            Err(error) => {
+                if !self.has_failed {
+                    info!(self.rt; "upstream {address} not found: {error}");
+                }
+                self.has_failed = true;
+                None
+            }
+        }
+    }
+
+    /// Tells how a session over the connection ended.
+    pub fn lost(&mut self, ended: Ended) {
+        let address = self.address;
+        info!(self.rt; "upstream {address} lost: {ended}");
     }
 }
 
