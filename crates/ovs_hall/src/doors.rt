@@ -1,5 +1,6 @@
 //! What a worker waits for, and what wakes it.
 
+use ovs_session::Ended;
 use std::io::{Read, Write};
 
 /// What a wait found.
@@ -30,6 +31,9 @@ pub trait Doors {
 
     /// The next connection, whose session will have this number. `None` where none waits, or none can be taken now.
     fn accept(&mut self, key: usize) -> Option<(Self::In, Self::Out)>;
+
+    /// The session of this number has ended so, and its devices are let go.
+    fn left(&mut self, _key: usize, _ended: Ended) {}
 }
 
 /// Wakes a worker.

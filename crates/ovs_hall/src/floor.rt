@@ -6,7 +6,7 @@ use crate::hall::Hall;
 use crate::host::Receives;
 use crate::seat::Seat;
 use crate::tally::Tally;
-use ovs_session::{Limits, Pace};
+use ovs_session::{Ended, Limits, Pace};
 use std::alloc::Global;
 use std::sync::Wait;
 
@@ -37,23 +37,24 @@ impl<V: Receives, D: Doors> Floor<V, D> {
         }
     }
 
-    // Ends the session of this number.
-    fn end(&mut self, key: usize, host: &mut V) {
+    // Ends the session of this number, which ended so.
+    fn end(&mut self, key: usize, ended: Ended, host: &mut V, doors: &mut D) {
         if let Some(seat) = self.hall.seat(key) {
             self.tally.add(seat.session().counts());
         }
         self.hall.leave(key, host);
+        doors.left(key, ended);
     }
 
     // Some turns of the session of this number. Whether it has work left to do.
-    fn serve(&mut self, key: usize, host: &mut V) -> bool {
+    fn serve(&mut self, key: usize, host: &mut V, doors: &mut D) -> bool {
         for _turn in 0..TURNS_AT_ONCE {
             match self.hall.turn(key, host) {
                 Some(Ok(Pace::Busy)) => {}
                 Some(Ok(Pace::Idle)) | None => return false,
                 Some(Err(ended)) if !ended.is_final() => return true,
-                Some(Err(_ended)) => {
-                    self.end(key, host);
+                Some(Err(ended)) => {
+                    self.end(key, ended, host, doors);
                     return false;
                 }
             }
@@ -62,22 +63,22 @@ impl<V: Receives, D: Doors> Floor<V, D> {
     }
 
     // The session of this number is to have turns. Where there is no memory to keep this it has them now.
-    fn call<R: Wait>(&mut self, rt: &R, key: usize, host: &mut V) {
+    fn call<R: Wait>(&mut self, rt: &R, key: usize, host: &mut V, doors: &mut D) {
         if self.again.push(key) {
             return;
         }
         for _ in rt.forever() {
-            if !self.serve(key, host) {
+            if !self.serve(key, host, doors) {
                 break;
             }
         }
     }
 
     // All sessions are to have turns.
-    fn call_all<R: Wait>(&mut self, rt: &R, host: &mut V) {
+    fn call_all<R: Wait>(&mut self, rt: &R, host: &mut V, doors: &mut D) {
         for key in 0..self.hall.keys_end() {
             if self.hall.seat(key).is_some() {
-                self.call(rt, key, host);
+                self.call(rt, key, host, doors);
             }
         }
     }
@@ -88,18 +89,18 @@ impl<V: Receives, D: Doors> Floor<V, D> {
             let Some(key) = doors.next_ready() else {
                 break;
             };
-            self.call(rt, key, host);
+            self.call(rt, key, host, doors);
         }
     }
 
     // Some turns of each session that has work left to do.
-    fn serve_all<R: Wait>(&mut self, rt: &R, host: &mut V) {
+    fn serve_all<R: Wait>(&mut self, rt: &R, host: &mut V, doors: &mut D) {
         for _waiting in 0..self.again.len() {
             let Some(key) = self.again.pop() else {
                 break;
             };
-            if self.serve(key, host) {
-                self.call(rt, key, host);
+            if self.serve(key, host, doors) {
+                self.call(rt, key, host, doors);
             }
         }
     }
@@ -119,7 +120,7 @@ impl<V: Receives, D: Doors> Floor<V, D> {
         let seat = Seat::new(alloc, core, reader, writer, self.limits);
         match self.hall.enter(seat, host) {
             Some(key) => {
-                self.call(rt, key, host);
+                self.call(rt, key, host, doors);
                 true
             }
             None => false,
@@ -139,10 +140,10 @@ impl<V: Receives, D: Doors> Floor<V, D> {
     fn go_on<R: Wait>(&mut self, rt: &R, alloc: Global, host: &mut V, doors: &mut D, woken: Woken) {
         if woken.is_rung {
             host.rung();
-            self.call_all(rt, host);
+            self.call_all(rt, host, doors);
         }
         self.call_ready(rt, host, doors);
-        self.serve_all(rt, host);
+        self.serve_all(rt, host, doors);
         if woken.may_accept {
             self.accept(rt, alloc, host, doors);
         }

@@ -1,0 +1,190 @@
+//! What a thread with an upstream waits for, reads and writes.
+
+ghost use Rattle.std.specs.Io.{ReadsAtMost, WritesAtMost};
+
+use crate::ending::IsEnding;
+use mio::net::TcpStream;
+use mio::{Events, Interest, Poll, Token, Waker};
+use std::alloc::Global;
+use std::collections::VecDeque;
+use std::io::{self, ErrorKind, Read, Write};
+use std::net::{Net, SocketAddr};
+use std::sync::Arc;
+use std::time::Duration;
+
+// How many events are taken from the system at once.
+const EVENTS: usize = 16;
+
+const STREAM: Token = Token(0);
+
+const BELL: Token = Token(1);
+
+// So much is read at once while a write has to wait.
+const CHUNK: usize = 16_384;
+
+// So much is read at most before it is taken.
+const MOST_AHEAD: usize = 16_777_216;
+
+/// The connection with an upstream, if there is one, and what its thread waits with: for the connection, and for a bell.
+#[derive(Drop)]
+pub(crate) struct Channel {
+    alloc: Global,
+    poll: Poll,
+    events: Events<Global>,
+    stream: Option<TcpStream>,
+    // What came while a write had to wait. An upstream that writes may read nothing until that is taken.
+    ahead: VecDeque<u8>,
+    // Whether anything came by the connection.
+    has_heard: bool,
+    is_ending: IsEnding,
+}
+
+impl Channel {
+    pub(crate) fn new<N: Net>(net: &N, alloc: Global, is_ending: IsEnding) -> io::Result<Channel> {
+        Ok(Channel {
+            alloc,
+            poll: Poll::new(net)?,
+            events: Events::with_capacity(alloc, EVENTS)?,
+            stream: None,
+            ahead: VecDeque::new(alloc),
+            has_heard: false,
+            is_ending,
+        })
+    }
+
+    /// What wakes the thread.
+    pub(crate) fn bell(&self) -> io::Result<Arc<Waker>> {
+        Ok(Arc::new(self.alloc, Waker::new(self.poll.registry(), BELL)?)?)
+    }
+
+    /// Whether all is to end.
+    pub(crate) fn is_ending(&self) -> bool {
+        self.is_ending.is_asked()
+    }
+
+    /// Whether anything came by the connection.
+    pub(crate) fn has_heard(&self) -> bool {
+        self.has_heard
+    }
+
+    /// Waits for so long, or less where the bell is rung.
+    pub(crate) fn pause(&mut self, pause: Duration) {
+        let _ = self.poll.poll(&mut self.events, Some(pause));
+    }
+
+    /// Lets the connection go.
+    pub(crate) fn close(&mut self) {
+        self.stream = None;
+        self.ahead.clear();
+        self.has_heard = false;
+    }
+
+    /// Connects, and waits until that has succeeded or failed.
+    pub(crate) fn connect<N: Net>(&mut self, net: &N, address: SocketAddr) -> io::Result<()> {
+        self.close();
+        let mut stream = TcpStream::connect(net, address)?;
+        self.poll.registry().register(
+            &mut stream,
+            STREAM,
+            Interest::READABLE | Interest::WRITABLE,
+        )?;
+        self.wait_for_stream()?;
+        if let Some(error) = stream.take_error()? {
+            return Err(error);
+        }
+        stream.peer_addr()?;
+        stream.set_nodelay(true)?;
+        self.stream = Some(stream);
+        Ok(())
+    }
+
+    // Waits until something is told of the connection.
+    fn wait_for_stream(&mut self) -> io::Result<()> {
+        for _waited in 0..u64::MAX {
+            self.poll.poll(&mut self.events, None)?;
+            if self.is_ending() {
+                return Err(ErrorKind::Interrupted.into());
+            }
+            for event in &self.events {
+                if event.token() == STREAM {
+                    return Ok(());
+                }
+            }
+        }
+        Ok(())
+    }
+
+    // Waits until something is told of the connection, or the bell is rung.
+    fn wait(&mut self) -> io::Result<()> {
+        self.poll.poll(&mut self.events, None)
+    }
+
+    // Reads what the connection has.
+    fn read_now(&mut self, buf: &mut [u8]) -> io::Result<usize>
+        ensures bound { ReadsAtMost result buf.new }
+    {
+        let Some(stream) = &self.stream else {
+            return Ok(0);
+        };
+        let len = (&mut &*stream).read(buf)?;
+        self.has_heard |= len > 0;
+        Ok(len)
+    }
+
+    // Takes in some of what has come. Whether anything had.
+    fn read_ahead(&mut self) -> io::Result<bool> {
+        if self.ahead.len() >= MOST_AHEAD {
+            return Ok(false);
+        }
+        let mut chunk = [0; CHUNK];
+        match self.read_now(&mut chunk) {
+            Ok(0) => Ok(false),
+            Ok(len) => {
+                self.ahead.write_all(&chunk[..len])?;
+                Ok(true)
+            }
+            Err(error) if error.kind() == ErrorKind::WouldBlock => Ok(false),
+            Err(error) => Err(error),
+        }
+    }
+
+    /// Reads what came. Where nothing has, it waits until something comes, or the bell is rung.
+    pub(crate) fn read(&mut self, buf: &mut [u8]) -> io::Result<usize>
+        ensures bound { ReadsAtMost result buf.new }
+    {
+        if self.is_ending() {
+            return Ok(0);
+        }
+        if !self.ahead.is_empty() {
+            return self.ahead.read(buf);
+        }
+        match self.read_now(buf) {
+            Err(error) if error.kind() == ErrorKind::WouldBlock => {
+                self.wait()?;
+                Err(error)
+            }
+            other => other,
+        }
+    }
+
+    /// Writes what the connection takes. Where it takes nothing, it waits until it may, and takes in what comes meanwhile.
+    pub(crate) fn write(&mut self, buf: &[u8]) -> io::Result<usize>
+        ensures bound { WritesAtMost result buf.now }
+    {
+        let Some(stream) = &self.stream else {
+            return Err(ErrorKind::NotConnected.into());
+        };
+        if self.is_ending() {
+            return Err(ErrorKind::BrokenPipe.into());
+        }
+        match (&mut &*stream).write(buf) {
+            Err(error) if error.kind() == ErrorKind::WouldBlock => {
+                if !self.read_ahead()? {
+                    self.wait()?;
+                }
+                Err(error)
+            }
+            other => other,
+        }
+    }
+}

@@ -1,0 +1,41 @@
+//! A reader's connection.
+
+use crate::ending::IsEnding;
+use mio::net::TcpStream;
+use std::io::{self, ErrorKind, Read, Write};
+use std::sync::Arc;
+
+/// One direction of a reader's connection, which doesn't wait. Once all is to end nothing comes in and nothing goes out.
+#[derive(Drop)]
+pub struct Half {
+    stream: Arc<TcpStream>,
+    is_ending: IsEnding,
+}
+
+impl Half {
+    pub(crate) fn new(stream: Arc<TcpStream>, is_ending: IsEnding) -> Half {
+        Half { stream, is_ending }
+    }
+}
+
+impl Read for Half {
+    fn read(&mut self, buf: &mut [u8]) -> io::Result<usize> {
+        if self.is_ending.is_asked() {
+            return Ok(0);
+        }
+        (&*self.stream).read(buf)
+    }
+}
+
+impl Write for Half {
+    fn write(&mut self, buf: &[u8]) -> io::Result<usize> {
+        if self.is_ending.is_asked() {
+            return Err(ErrorKind::BrokenPipe.into());
+        }
+        (&*self.stream).write(buf)
+    }
+
+    fn flush(&mut self) -> io::Result<()> {
+        Ok(())
+    }
+}

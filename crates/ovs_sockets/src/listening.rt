@@ -1,0 +1,58 @@
+//! Where readers connect.
+
+use crate::doors::SocketDoors;
+use crate::ending::IsEnding;
+use log::Log;
+use std::alloc::Global;
+use std::io;
+use std::net::{Net, SocketAddr, TcpListener};
+
+/// An address at which connections are taken.
+#[derive(Drop)]
+pub struct Listening {
+    listener: TcpListener,
+}
+
+impl Listening {
+    /// Takes connections at this address.
+    ///
+    /// # Errors
+    /// The system's, as where the address is in use.
+    pub fn at<N: Net>(net: &N, address: SocketAddr) -> io::Result<Listening> {
+        // This one's queue of those that wait is as long as the system allows.
+        let listener = mio::net::TcpListener::bind(net, address)?;
+        Ok(Listening {
+            listener: TcpListener::from(listener),
+        })
+    }
+
+    /// Where that is, with the port that the system chose where it was to.
+    ///
+    /// # Errors
+    /// The system's.
+    pub fn address(&self) -> io::Result<SocketAddr> {
+        self.listener.local_addr()
+    }
+
+    /// Doors for the worker of this number, which takes so many of the connections at most.
+    ///
+    /// # Errors
+    /// The system's; memory ran out.
+    pub fn doors<R: Net + Log + Drop>(
+        &self,
+        rt: R,
+        alloc: Global,
+        worker: usize,
+        accepts: u32,
+        is_ending: &IsEnding,
+    ) -> io::Result<SocketDoors<R>> {
+        SocketDoors::new(
+            rt,
+            alloc,
+            worker,
+            self.listener.try_clone()?,
+            accepts,
+            is_ending.again()?,
+        )
+    }
+}
