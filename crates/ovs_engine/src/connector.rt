@@ -4,6 +4,7 @@ ghost use Rattle.std.specs.Prelude.{◌≡◌, IfSome};
 ghost use Rattle.ovs_links.specs.declared.link.Link.{Link};
 ghost use Rattle.ovs_engine.specs.Lines.{AdmitsBytes};
 
+use ovs_session::Ended;
 use ovs_types::TxnId;
 use std::io::{Read, Write};
 
@@ -25,4 +26,7 @@ pub trait Connector {
     /// alone that may come of it; where it doesn't tell them any link may.
     fn open(&mut self, asked: TxnId) -> Option<(Self::In, Self::Out)>
         ensures lawful { IfSome result (λ connection. AdmitsBytes admits asked (Self.In.remaining connection.0)) };
+
+    /// The session over the connection that was opened last has ended so.
+    fn lost(&mut self, _ended: Ended) {}
 }

@@ -6,6 +6,7 @@ ghost use Rattle.ovs_folder.specs.InStep.{IsInStep};
 ghost use Rattle.ovs_folder.specs.Ledger.{steps_in};
 
 use crate::party::beside_with_views;
+use crate::watcher::Watcher;
 use left_right::ReadHandle;
 use ovs_feed::{FeedName, FeedQueue};
 use ovs_folder::{Node, NodeLink};
@@ -20,7 +21,7 @@ use std::thread::Threads;
 
 /// What the folder's thread shares with the others.
 #[derive(Drop)]
-pub struct Folding<'a, K: NodeName, Q: FeedName, B: Bell, R: Wait> {
+pub struct Folding<'a, K: NodeName, Q: FeedName, B: Bell, O: Watcher, R: Wait> {
     /// What it waits with.
     pub rt: &'a R,
     /// Where links come from.
@@ -29,6 +30,8 @@ pub struct Folding<'a, K: NodeName, Q: FeedName, B: Bell, R: Wait> {
     pub board: &'a Mutex<Board<K>>,
     /// What wakes the workers.
     pub bells: &'a [B],
+    /// Who looks on.
+    pub watcher: &'a O,
     /// How many other threads run.
     pub running: &'a AtomicU64,
 }
@@ -49,22 +52,36 @@ pub(crate) fn ring_all<B: Bell>(bells: &[B]) {
     }
 }
 
-impl<'a, K: NodeName, Q: FeedName, B: Bell, R: Wait> Folding<'a, K, Q, B, R> {
+impl<'a, K: NodeName, Q: FeedName, B: Bell, O: Watcher, R: Wait> Folding<'a, K, Q, B, O, R> {
     /// Folds until no other thread runs any more and nothing is left to fold, and rings the bells once something was published.
     /// It sleeps while there is nothing to do; after want of memory it tries again.
     pub(crate) fn fold_all<H: Wait + Drop>(&self, node: &mut Node<K, Q, Handle<K, H>>)
         requires in_step { IsInStep (published node.old.publisher.handle) (pending node.old.publisher.handle) node.old.publisher.front node.old.publisher.kept (steps_in node.old.intake.store) }
         ensures in_step { IsInStep (published node.new.publisher.handle) (pending node.new.publisher.handle) node.new.publisher.front node.new.publisher.kept (steps_in node.new.intake.store) }
     {
+        let mut is_put_off = false;
         for _ in self.rt.forever() {
             let is_last = self.running.load(Ordering::SeqCst) == 0;
-            match node.fold_next(self.rt, self.queue, self.board) {
+            let folded = node.fold_next(self.rt, self.queue, self.board);
+            if let Some(link) = node.take_refused() {
+                self.watcher.refused(&link);
+            }
+            self.tell_put_off(&mut is_put_off, folded.is_err());
+            match folded {
                 Ok(true) => ring_all(self.bells),
                 Ok(false) if is_last => break,
                 Ok(false) => self.queue.wait(self.rt),
                 Err(_) => thread::yield_now(),
             }
         }
+    }
+
+    // Tells that there was no memory, once until there is some again.
+    fn tell_put_off(&self, is_put_off: &mut bool, is_now: bool) {
+        if is_now && !*is_put_off {
+            self.watcher.put_off();
+        }
+        *is_put_off = is_now;
     }
 }
 
@@ -81,11 +98,12 @@ pub fn fold_beside<
     Y: Send + Drop,
     W: Work<(E, ReadHandle<Shown<K>>, Front<K>), (F, ReadHandle<Shown<K>>, Front<K>, Y)> + Sync,
     B: Bell,
+    O: Watcher,
     H: Wait + Drop,
     R: Threads + Wait + Sync,
 >(
     alloc: Global,
-    folding: &Folding<K, Q, B, R>,
+    folding: &Folding<K, Q, B, O, R>,
     jobs: Vec<(E, ReadHandle<Shown<K>>, Front<K>)>,
     work: &W,
     node: Node<K, Q, Handle<K, H>>,

@@ -14,6 +14,7 @@ mod one_by_one;
 mod party;
 mod serving;
 mod upstreams;
+mod watcher;
 mod workers;
 
 pub use connector::Connector;
@@ -27,3 +28,4 @@ pub use node_threads::{Counters, NotRun, Ran, Shared, ThreadBack, run_node};
 pub use one_by_one::OneByOne;
 pub use party::Party;
 pub use serving::{Back, Feeds, Job, Serving};
+pub use watcher::{Unwatched, Watcher};

@@ -13,6 +13,7 @@ use crate::folding::Folding;
 use crate::line::Line;
 use crate::serving::{Serving, beside_upstreams};
 use crate::upstreams::Follows;
+use crate::watcher::Watcher;
 use ovs_feed::{FeedName, FeedQueue};
 use ovs_folder::{Node, NodeLink};
 use ovs_hall::{Bell, Doors};
@@ -26,7 +27,7 @@ use std::thread::Threads;
 
 /// What the threads of a node share.
 #[derive(Drop)]
-pub struct Shared<'a, K: NodeName, Q: FeedName, L: DeskLock, B: Bell, R: Wait> {
+pub struct Shared<'a, K: NodeName, Q: FeedName, L: DeskLock, B: Bell, O: Watcher, R: Wait> {
     /// What they wait with.
     pub rt: &'a R,
     /// The node's schema.
@@ -43,6 +44,8 @@ pub struct Shared<'a, K: NodeName, Q: FeedName, L: DeskLock, B: Bell, R: Wait> {
     pub upward: &'a B,
     /// What they count.
     pub counters: &'a Counters,
+    /// Who looks on while the node folds.
+    pub watcher: &'a O,
     /// How much of a session may wait to be written, and how many messages it answers in a turn.
     pub limits: Limits,
 }
@@ -113,11 +116,12 @@ pub fn run_node<
     D: Doors<In: Send, Out: Send> + Drop + Send,
     L: UpwardDesk + Sync,
     B: Bell + Sync,
+    O: Watcher,
     H: Wait + Drop,
     R: Threads + Wait + Sync,
 >(
     alloc: Global,
-    shared: &'a Shared<'a, K, Q, L, B, R>,
+    shared: &'a Shared<'a, K, Q, L, B, O, R>,
     node: Node<K, Q, Handle<K, H>>,
     crew: Crew<'a, K, Q, C, D, L, B>,
 ) -> Result<
@@ -133,6 +137,7 @@ pub fn run_node<
         queue: shared.queue,
         board: shared.board,
         bells: shared.bells,
+        watcher: shared.watcher,
         running: shared.counters.running(),
     };
     let serving = Serving {

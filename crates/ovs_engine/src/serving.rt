@@ -12,6 +12,7 @@ use crate::folding::{Folding, NotFolded, fold_beside};
 use crate::line::Line;
 use crate::party::Party;
 use crate::upstreams::{Follows, Upstream};
+use crate::watcher::Watcher;
 use crate::workers::serve_readers;
 use left_right::ReadHandle;
 use ovs_feed::{FeedName, FeedQueue};
@@ -161,10 +162,11 @@ pub(crate) fn beside_upstreams<
     D: Doors<In: Send, Out: Send> + Drop + Send,
     L: UpwardDesk + Sync,
     B: Bell + Sync,
+    O: Watcher,
     H: Wait + Drop,
     R: Threads + Wait + Sync,
 >(
-    folding: &Folding<K, Q, B, R>,
+    folding: &Folding<K, Q, B, O, R>,
     jobs: Vec<UpstreamJob<'a, K, Q, C, D, L, B>>,
     serving: &Serving<'a, K, Q, Follows<'a, K, Q, R>, L, B, B, R>,
     node: Node<K, Q, Handle<K, H>>,

@@ -11,7 +11,7 @@ use ovs_feed::{FeedName, FeedQueue};
 use ovs_folder::NodeLink;
 use ovs_follow::{Followed, SourceSide, follow_upstream};
 use ovs_hall::Tally;
-use ovs_session::Limits;
+use ovs_session::{Ended, Limits};
 use ovs_types::{Schema, TxnId};
 use ovs_views::{Board, NodeName, View, teach};
 use std::alloc::Global;
@@ -51,6 +51,8 @@ struct Back<K: NodeName, Q: FeedName, C: Connector, D: SourceSide + Drop> {
     line: Line<K, Q, C>,
     // The id of the link that was sent last, if one was.
     last: Option<TxnId>,
+    // How it ended, if there was one.
+    ended: Option<Ended>,
     source: D,
 }
 
@@ -94,13 +96,14 @@ impl<'a, K: NodeName, Q: FeedName, R: Wait> Follows<'a, K, Q, R> {
             sink,
             source,
             counts,
-            ended: _,
+            ended,
         } = followed;
         tally.add(counts);
         let (end, last) = sink.into_parts();
         Back {
             line: Line::again(end),
             last,
+            ended: Some(ended),
             source,
         }
     }
@@ -118,10 +121,14 @@ impl<'a, K: NodeName, Q: FeedName, R: Wait> Follows<'a, K, Q, R> {
         let Ok(asked) = view.head() else {
             return back;
         };
-        match connector.open(asked) {
-            Some(connection) => self.follow(asked, connection, back.line, back.source, tally),
-            None => back,
+        let Some(connection) = connector.open(asked) else {
+            return back;
+        };
+        let back = self.follow(asked, connection, back.line, back.source, tally);
+        if let Some(ended) = back.ended {
+            connector.lost(ended);
         }
+        back
     }
 }
 
@@ -145,6 +152,7 @@ impl<'a, K: NodeName, Q: FeedName, R: Wait, C: Connector + Drop, D: SourceSide +
         let mut back = Back {
             line,
             last: None,
+            ended: None,
             source,
         };
         for _ in self.rt.forever() {

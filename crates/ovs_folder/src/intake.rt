@@ -11,8 +11,9 @@ ghost use Rattle.ovs_views.specs.Published.{IsNodeChain};
 ghost use Rattle.ovs_folder.specs.Ledger.{IsAccountOf, WasSent, IsFresh, TakesOne, steps_in};
 
 use crate::node_link::NodeLink;
+use crate::refused::{RefusedLink, Why};
 use ovs_feed::{Feed, FeedEnd, FeedName, FeedQueue};
-use ovs_links::{Folded, LinkStore, Settled, TakeError};
+use ovs_links::{Folded, Link, LinkStore, Settled, TakeError};
 use ovs_types::NoMemory;
 use ovs_views::NodeName;
 use std::alloc::Global;
@@ -29,6 +30,8 @@ pub struct Intake<K: NodeName, Q: FeedName> {
     kept: Option<NodeLink<K>>,
     forks: u64,
     short: u64,
+    // The last link that was refused and not told yet.
+    refused: Option<RefusedLink>,
     // What each end that is back sent, with room for all of them.
     sent: Vec<Vec<NodeLink<K>>>,
 }
@@ -69,6 +72,7 @@ impl<K: NodeName, Q: FeedName> Intake<K, Q> {
             kept: None,
             forks: 0,
             short: 0,
+            refused: None,
             sent,
         })
     }
@@ -89,12 +93,21 @@ impl<K: NodeName, Q: FeedName> Intake<K, Q> {
         };
         match self.store.take(kept.into_link()) {
             Ok(_) => Ok(()),
-            Err(TakeError::Fork { .. }) => {
+            Err(
+                TakeError::Fork {
+                    link,
+                    held_prev,
+                    held_id,
+                    ..
+                },
+            ) => {
                 self.forks = self.forks.saturating_add(1);
+                self.refused = Some(refused(&link, Why::Fork { held_prev, held_id }));
                 Ok(())
             }
-            Err(TakeError::Full { .. }) => {
+            Err(TakeError::Full { link }) => {
                 self.short = self.short.saturating_add(1);
+                self.refused = Some(refused(&link, Why::Full));
                 Ok(())
             }
             Err(TakeError::NoMemory { link }) => {
@@ -102,6 +115,13 @@ impl<K: NodeName, Q: FeedName> Intake<K, Q> {
                 Err(NoMemory)
             }
         }
+    }
+
+    /// The last link that was refused, if one was since this was asked.
+    pub fn take_refused(&mut self) -> Option<RefusedLink>
+        ensures unchanged { self.new ≡ self.old }
+    {
+        self.refused.take()
     }
 
     /// Pops one link, and keeps it to be taken. False exactly where the feed was empty.
@@ -186,6 +206,7 @@ impl<K: NodeName, Q: FeedName> Intake<K, Q> {
             kept: _,
             forks,
             short,
+            refused: _,
             sent,
         } = self;
         Closed {
@@ -194,6 +215,15 @@ impl<K: NodeName, Q: FeedName> Intake<K, Q> {
             short,
             sent,
         }
+    }
+}
+
+// This link, which was refused.
+fn refused(link: &Link, why: Why) -> RefusedLink {
+    RefusedLink {
+        prev: link.prev(),
+        id: link.id(),
+        why,
     }
 }
 

@@ -5,10 +5,12 @@ mod intake;
 mod node;
 mod node_link;
 mod open_node;
+mod refused;
 mod report;
 
 pub use intake::{Closed, Intake};
 pub use node::Node;
 pub use node_link::NodeLink;
 pub use open_node::{MAX_UPSTREAMS, MAX_VIEWS, NodeError, OpenNode, Parts};
+pub use refused::{RefusedLink, Why};
 pub use report::Report;

@@ -12,6 +12,7 @@ ghost use Rattle.ovs_folder.specs.Ledger.{IsAccountOf, TakesOne, WasSent, steps_
 
 use crate::intake::{Closed, Intake};
 use crate::node_link::NodeLink;
+use crate::refused::RefusedLink;
 use crate::report::Report;
 use ovs_feed::{FeedEnd, FeedName, FeedQueue};
 use ovs_links::{Settled, Step};
@@ -172,6 +173,13 @@ impl<K: NodeName, Q: FeedName, H> Node<K, Q, H> {
         ensures other { IfErr result (λ back. (back ≡ end) × (self.new.intake ≡ self.old.intake)) }
     {
         self.intake.join(queue, end)
+    }
+
+    /// The last link that was refused, if one was since this was asked.
+    pub fn take_refused(&mut self) -> Option<RefusedLink>
+        ensures unchanged { self.new ≡ self.old }
+    {
+        self.intake.take_refused()
     }
 
     /// Whether all ends are back.

@@ -10,7 +10,8 @@ use crate::sending::{SourceFollowed, follow_source};
 use crate::source_crew::SourceCrew;
 use crate::source_line::{SourceLine, SourceSent};
 use ovs_engine::{
-    Back, Counters, FeedSink, Feeds, Finished, Folding, Job, NotFolded, Serving, fold_beside,
+    Back, Counters, FeedSink, Feeds, Finished, Folding, Job, NotFolded, Serving, Watcher,
+    fold_beside,
 };
 use ovs_feed::{FeedName, FeedQueue};
 use ovs_folder::{Node, NodeLink};
@@ -24,7 +25,15 @@ use std::thread::Threads;
 
 /// What the threads of a source share.
 #[derive(Drop)]
-pub struct SharedSource<'a, K: NodeName, Q: FeedName, L: OriginDesk<K>, B: Bell, R: Wait> {
+pub struct SharedSource<
+    'a,
+    K: NodeName,
+    Q: FeedName,
+    L: OriginDesk<K>,
+    B: Bell,
+    O: Watcher,
+    R: Wait,
+> {
     /// What they wait with.
     pub rt: &'a R,
     /// Where the desk's links go.
@@ -37,6 +46,8 @@ pub struct SharedSource<'a, K: NodeName, Q: FeedName, L: OriginDesk<K>, B: Bell,
     pub bells: &'a [B],
     /// What they count.
     pub counters: &'a Counters,
+    /// Who looks on while the node folds.
+    pub watcher: &'a O,
     /// How much of a session may wait to be written, and how many messages it answers in a turn.
     pub limits: Limits,
 }
@@ -115,10 +126,11 @@ fn beside_source<
     L: OriginDesk<K> + Send + Sync,
     D: Doors<In: Send, Out: Send> + Drop + Send,
     B: Bell + Sync,
+    O: Watcher,
     H: Wait + Drop,
     R: Threads + Wait + Sync,
 >(
-    folding: &Folding<K, Q, B, R>,
+    folding: &Folding<K, Q, B, O, R>,
     jobs: Vec<Job<K, SourceLine<K, Q, L>, D>>,
     serving: &SourceServing<'a, K, Q, L, B, R>,
     node: Node<K, Q, Handle<K, H>>,
@@ -150,11 +162,12 @@ pub fn run_source<
     L: OriginDesk<K> + Send + Sync,
     D: Doors<In: Send, Out: Send> + Drop + Send,
     B: Bell + Sync,
+    O: Watcher,
     H: Wait + Drop,
     R: Threads + Wait + Sync,
 >(
     alloc: Global,
-    shared: &'a SharedSource<'a, K, Q, L, B, R>,
+    shared: &'a SharedSource<'a, K, Q, L, B, O, R>,
     node: Node<K, Q, Handle<K, H>>,
     crew: SourceCrew<K, Q, L, D>,
 ) -> Result<
@@ -169,6 +182,7 @@ pub fn run_source<
         queue: shared.queue,
         board: shared.board,
         bells: shared.bells,
+        watcher: shared.watcher,
         running: shared.counters.running(),
     };
     let serving = Serving {

@@ -1,41 +1,29 @@
 //! What wakes a thread that waits for sockets.
 
-use crate::ending::Ending;
 use mio::Waker;
 use ovs_hall::Bell;
 use std::alloc::AllocError;
 use std::sync::Arc;
 
-/// What comes of ringing.
+/// Wakes one thread that waits for sockets.
 #[derive(Drop)]
-pub enum SocketBell {
-    /// A thread is woken.
-    Wakes(Arc<Waker>),
-    /// All threads come to their ends.
-    Ends(Ending),
+pub struct SocketBell {
+    waker: Arc<Waker>,
 }
 
 impl SocketBell {
-    /// Has this thread come to its end with the others.
-    ///
-    /// # Errors
-    /// Memory ran out.
-    pub fn end_with(&self, ending: &mut Ending) -> Result<(), AllocError> {
-        match self {
-            SocketBell::Wakes(waker) => ending.add(waker.clone()?),
-            SocketBell::Ends(_) => Ok(()),
-        }
+    pub(crate) fn new(waker: Arc<Waker>) -> SocketBell {
+        SocketBell { waker }
+    }
+
+    pub(crate) fn waker(&self) -> Result<Arc<Waker>, AllocError> {
+        self.waker.clone()
     }
 }
 
 impl Bell for SocketBell {
     fn ring(&self) {
-        match self {
-            // It fails only where a thread has let its sockets go, which then doesn't wait.
-            SocketBell::Wakes(waker) => {
-                let _ = waker.wake();
-            }
-            SocketBell::Ends(ending) => ending.begin(),
-        }
+        // It fails only where the thread has let its sockets go, which then doesn't wait.
+        let _ = self.waker.wake();
     }
 }

@@ -87,7 +87,7 @@ impl<R: Log + Drop> SocketDoors<R> {
     /// # Errors
     /// No more can be counted.
     pub fn bell(&self) -> io::Result<SocketBell> {
-        Ok(SocketBell::Wakes(self.bell.clone()?))
+        Ok(SocketBell::new(self.bell.clone()?))
     }
 
     // Whether no connection is taken any more.

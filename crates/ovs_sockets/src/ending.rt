@@ -1,6 +1,8 @@
 //! How all threads that wait for sockets are brought to their ends.
 
+use crate::bell::SocketBell;
 use mio::Waker;
+use ovs_hall::Bell;
 use std::alloc::{AllocError, Global};
 use std::sync::Arc;
 use std::sync::atomic::{AtomicBool, Ordering};
@@ -38,7 +40,7 @@ impl IsEnding {
     }
 }
 
-/// Brings all threads to their ends that look at one `IsEnding` and wait for these wakers.
+/// Brings all threads to their ends that look at one `IsEnding` and wait for these wakers. It may be rung by any thread.
 #[derive(Drop)]
 pub struct Ending {
     is_ending: IsEnding,
@@ -54,17 +56,20 @@ impl Ending {
         }
     }
 
-    /// Wakes this thread too.
+    /// Of the threads that these bells wake, too.
     ///
     /// # Errors
     /// Memory ran out.
-    pub(crate) fn add(&mut self, waker: Arc<Waker>) -> Result<(), AllocError> {
-        self.wakers.push(waker)?;
+    pub fn add(&mut self, bells: &[SocketBell]) -> Result<(), AllocError> {
+        for bell in bells {
+            self.wakers.push(bell.waker()?)?;
+        }
         Ok(())
     }
+}
 
-    /// Asks for it, and wakes all threads.
-    pub fn begin(&self) {
+impl Bell for Ending {
+    fn ring(&self) {
         self.is_ending.is_asked.store(true, Ordering::SeqCst);
         for waker in &self.wakers {
             // It fails only where a thread has let its sockets go, which then doesn't wait.

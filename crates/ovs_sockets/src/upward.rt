@@ -63,7 +63,7 @@ impl<R: Net + Log + Drop> Upward<R> {
             pause: Pause::new(),
             channel: Arc::new(alloc, Mutex::new(channel))?,
         };
-        Ok((upward, SocketBell::Wakes(bell)))
+        Ok((upward, SocketBell::new(bell)))
     }
 
     /// Whether there is to be another; the one before is let go, and then it waits a while.

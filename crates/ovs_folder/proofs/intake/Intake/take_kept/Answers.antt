@@ -29,7 +29,7 @@ invariant_of-self-in-Err-Fork g c =
     let was = subst (λ k. IsAccountOf i.store.links i.feed.taken k i.forks i.short) kept c.self.invariant.1 in
     let n = c.saturating_add-self-inside in (
       ap (λ x. x.schema) f.ensures.after ∙ c.self.invariant.0,
-      rw c.take.ensures.after (forked i.store c.take-2.new.self link f.field-0-0 f.field-0-1 f.field-0-2 f.field-0-3 i.feed.taken i.forks i.short n.result f.field-0 f.field-0-is f.ensures.answer f.ensures.after (omega (arith, n.ensures)) (omega (arith, n.ensures)) was),
+      rw c.take.ensures.after (forked i.store c.take-2.new.self link f.link f.field-0-1 f.held_prev f.held_id i.feed.taken i.forks i.short n.result f.field-0 f.field-0-is f.ensures.answer f.ensures.after (omega (arith, n.ensures)) (omega (arith, n.ensures)) was),
       i'.2,
       i'.3,
     )
@@ -44,7 +44,7 @@ invariant_of-self-in-Err-Full g c =
     let was = subst (λ k. IsAccountOf i.store.links i.feed.taken k i.forks i.short) kept c.self.invariant.1 in
     let n = c.saturating_add-self-inside-in-Err-Full in (
       ap (λ x. x.schema) f.ensures.after ∙ c.self.invariant.0,
-      rw c.take.ensures.after (crowded i.store c.take-2.new.self link f.field-0-0 i.feed.taken i.forks i.short n.result f.field-0 f.field-0-is f.ensures.answer f.ensures.after (omega (arith, n.ensures)) (omega (arith, n.ensures)) was),
+      rw c.take.ensures.after (crowded i.store c.take-2.new.self link f.link i.feed.taken i.forks i.short n.result f.field-0 f.field-0-is f.ensures.answer f.ensures.after (omega (arith, n.ensures)) (omega (arith, n.ensures)) was),
       i'.2,
       i'.3,
     )
