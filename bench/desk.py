@@ -33,6 +33,15 @@ def answered(count, times):
     return ["forwards", pending(count) + rounds]
 
 
+def oldest(count, times):
+    rounds = []
+    for n in range(times):
+        # the place of the one that is answered is that of the next one
+        rounds += [["reply", 4096 * n + n % count, []], ["collect", n % SESSIONS[count]]]
+        rounds += [["send", (count + n) % SESSIONS[count], n], ["up"]]
+    return ["forwards", pending(count) + rounds]
+
+
 def ended(count, times):
     rounds = []
     for n in range(times):
@@ -50,6 +59,7 @@ def main():
     given = parser.parse_args()
     questions = [
         ("request and answer", answered, given.times, given.times),
+        ("the oldest answered", oldest, given.times, given.times),
         ("request and end", ended, given.times, given.times),
         ("nothing to collect", nothing, given.times, given.times),
     ]
