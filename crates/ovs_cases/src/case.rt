@@ -104,6 +104,8 @@ fn alone(alloc: Global, what: &str, parts: &[Value]) -> Result<Option<String>, F
         "command line" => commands::command_line(alloc, parts)?,
         "run end" => commands::run_end(alloc, parts)?,
         "unopened" => commands::unopened(alloc, parts)?,
+        "unopened for" => commands::unopened_for(alloc, parts)?,
+        "unlistened" | "untaken" | "unreached" => commands::unreached(alloc, parts)?,
         "not UTF-8" => commands::not_utf8(alloc)?,
         "full store" => full_stores::full_store(alloc)?,
         _ => return Ok(None),

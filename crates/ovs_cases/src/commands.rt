@@ -2,10 +2,45 @@
 
 use crate::case::{part, text, word};
 use crate::fault::Fault;
-use ovs_command::{Complaint, Task, command, complaint_of};
+use ovs_command::{Complaint, RelayOptions, SourceOptions, Task, command, complaint_of};
 use ovs_script::RunEnd;
 use serde_json::Value;
 use std::alloc::Global;
+use std::io;
+use std::net::SocketAddr;
+
+// A word for a flag that is there.
+fn flag(is_there: bool, word: &'static str) -> &'static str {
+    if is_there { word } else { "" }
+}
+
+// What a source is given.
+fn source_told(alloc: Global, given: &SourceOptions) -> Result<String, Fault> {
+    let first_id = given.first_id.to_text(alloc)?;
+    let first_row = given.first_row.to_text(alloc)?;
+    let (schema, listen, accepts) = (&given.schema, given.listen, given.accepts);
+    let verbose = flag(given.verbose, ", tells");
+    let told = format!(in alloc;
+        "source {schema} at {listen}, ids {first_id}, rows {first_row}, accepts {accepts}{verbose}"
+    );
+    Ok(told?)
+}
+
+// What a relay is given.
+fn relay_told(alloc: Global, given: &RelayOptions) -> Result<String, Fault> {
+    let (schema, listen) = (&given.schema, given.listen);
+    let mut told = format!(in alloc; "relay {schema} at {listen}, follows")?;
+    for upstream in &given.upstreams {
+        let upstream = format!(in alloc; " {upstream}")?;
+        told.push_str(upstream.as_str())?;
+    }
+    let (accepts, tries) = (given.accepts, given.tries);
+    let verbose = flag(given.verbose, ", tells");
+    let ends = flag(given.end_on_refusal, ", ends on refusal");
+    let rest = format!(in alloc; ", accepts {accepts}, tries {tries}{verbose}{ends}")?;
+    told.push_str(rest.as_str())?;
+    Ok(told)
+}
 
 // What is asked for; of a text of help its line of usage.
 fn task_told(alloc: Global, task: &Task) -> Result<String, Fault> {
@@ -13,6 +48,9 @@ fn task_told(alloc: Global, task: &Task) -> Result<String, Fault> {
         Task::Fold { merge: None } => word(alloc, "fold"),
         Task::Fold { merge: Some(file) } => Ok(format!(in alloc; "fold and merge {file}")?),
         Task::World => word(alloc, "world"),
+        Task::Source(given) => source_told(alloc, given),
+        Task::Relay(given) => relay_told(alloc, given),
+        Task::Version(version) => word(alloc, version.as_str().trim()),
         Task::Help(help) => {
             let usage = help
                 .as_str()
@@ -69,6 +107,34 @@ pub(crate) fn run_end(alloc: Global, parts: &[Value]) -> Result<String, Fault> {
 /// What is said of a file that can't be opened.
 pub(crate) fn unopened(alloc: Global, parts: &[Value]) -> Result<String, Fault> {
     complaint_told(alloc, Some(Complaint::Unopened(text(parts, 1)?)))
+}
+
+// The system's error of this number.
+fn cause(parts: &[Value]) -> Result<io::Error, Fault> {
+    let number = part(parts, 2)?.as_i64().ok_or(Fault::Malformed)?;
+    let number = i32::try_from(number).map_err(|_| Fault::Malformed)?;
+    Ok(io::Error::from_raw_os_error(number))
+}
+
+/// What is said of a file that can't be opened for an error of this number.
+pub(crate) fn unopened_for(alloc: Global, parts: &[Value]) -> Result<String, Fault> {
+    let file = text(parts, 1)?;
+    let cause = cause(parts)?;
+    complaint_told(alloc, Some(Complaint::UnopenedFor { file, cause }))
+}
+
+/// What is said of an address where nothing can be done for an error of this number.
+pub(crate) fn unreached(alloc: Global, parts: &[Value]) -> Result<String, Fault> {
+    let address = text(parts, 1)?
+        .parse::<SocketAddr>()
+        .map_err(|_| Fault::Malformed)?;
+    let cause = cause(parts)?;
+    let complaint = match text(parts, 0)? {
+        "unlistened" => Complaint::Unlistened { address, cause },
+        "untaken" => Complaint::Untaken { address, cause },
+        _ => Complaint::Unreached { address, cause },
+    };
+    complaint_told(alloc, Some(complaint))
 }
 
 /// What is said of a command line with a word that is no UTF-8.

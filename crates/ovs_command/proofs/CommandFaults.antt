@@ -1,5 +1,5 @@
--- What clap finds in words in the place of a task: at most one kind, or the two of a stray word. So a call for help comes alone.
-use Rattle.std.proofs.Common.{◌≡◌, ◌&&◌, ◌==◌, ℕ, nat_lt, zero, suc, Bool, true, false, not, cond, sym, ap, refl, true≢false, List, [], ◌∷◌, Option, Some, None, codes, length, find, inl, inr, is_some}
+-- What clap finds in words in the place of a task: at most one kind, or the two of a stray word. So a call for help or the version comes alone.
+use Rattle.std.proofs.Common.{◌≡◌, ◌∙◌, ◌&&◌, ◌==◌, ℕ, nat_lt, zero, suc, Bool, true, false, not, cond, sym, ap, refl, true≢false, List, [], ◌∷◌, Option, Some, None, codes, length, find, inl, inr, is_some}
 use Rattle.std.specs.List.{list_all}
 use Rattle.std.specs.Option.{option_map_or}
 use Rattle.std.proofs.lemmas.Bool.{and_parts}
@@ -17,7 +17,7 @@ use Rattle.clap.specs.declared.builder.action.ArgAction.{ArgAction}
 use Rattle.clap.specs.declared.builder.action.ArgAction.TheVariants as action
 use Rattle.clap.specs.declared.builder.value_parser.ValueParser.{ValueParser}
 use Rattle.clap.specs.declared.error.kind.ErrorKind.{ErrorKind}
-use Rattle.clap.specs.declared.error.kind.ErrorKind.TheVariants.{DisplayHelp, InvalidSubcommand, UnknownArgument}
+use Rattle.clap.specs.declared.error.kind.ErrorKind.TheVariants.{DisplayHelp, DisplayVersion, InvalidSubcommand, UnknownArgument}
 use Rattle.clap.specs.declared.error.kind.ErrorKind.TheVariants as kind
 use Rattle.ovs_command.specs.CommandLine.{program}
 
@@ -203,21 +203,29 @@ built_few a off below_off h words =
 few_faults : (words : List Text) → Few (fault_of program words)
 few_faults words = built_few (built program) refl refl nothing_held (argument_words program words)
 
--- ---- help
+-- ---- help and the version
 
-abbrev is_help_kind : ErrorKind → Bool
-is_help_kind DisplayHelp = true
-is_help_kind k = false
+-- a stray word isn't a call for a text
+abbrev is_called : ErrorKind → Bool
+is_called DisplayHelp = true
+is_called DisplayVersion = true
+is_called k = false
 
-help_alone : (kinds : Kinds) → Few kinds → IsAmong DisplayHelp kinds → kinds ≡ DisplayHelp ∷ []
-help_alone [] none among = absurd among
-help_alone (k ∷ []) (one l) (inl is) = ap (λ x. x ∷ []) (sym is)
-help_alone (k ∷ []) (one l) (inr among) = absurd among
-help_alone (k ∷ l ∷ []) stray (inl is) = absurd (true≢false (ap is_help_kind is))
-help_alone (k ∷ l ∷ []) stray (inr (inl is)) = absurd (true≢false (ap is_help_kind is))
-help_alone (k ∷ l ∷ []) stray (inr (inr among)) = absurd among
-help_alone (k ∷ l ∷ m ∷ ks) many among = elim many [ ]
+called_alone : (k : ErrorKind) (kinds : Kinds) → is_called k ≡ true → Few kinds → IsAmong k kinds → kinds ≡ k ∷ []
+called_alone k [] called none among = absurd among
+called_alone k (l ∷ []) called (one _) (inl is) = ap (λ x. x ∷ []) (sym is)
+called_alone k (l ∷ []) called (one _) (inr among) = absurd among
+called_alone k (l ∷ m ∷ []) called stray (inl is) = absurd (true≢false (sym called ∙ ap is_called is))
+called_alone k (l ∷ m ∷ []) called stray (inr (inl is)) = absurd (true≢false (sym called ∙ ap is_called is))
+called_alone k (l ∷ m ∷ []) called stray (inr (inr among)) = absurd among
+called_alone k (l ∷ m ∷ n ∷ ks) called many among = elim many [ ]
 
--- where help is among what clap finds, it is all of it
+-- where a call for a text is among what clap finds, it is all of it
+pub call_is_all : (k : ErrorKind) (words : List Text) → is_called k ≡ true → IsAmong k (fault_of program words) → fault_of program words ≡ k ∷ []
+call_is_all k words called among = called_alone k (fault_of program words) called (few_faults words) among
+
 pub help_is_all : (words : List Text) → IsAmong DisplayHelp (fault_of program words) → fault_of program words ≡ DisplayHelp ∷ []
-help_is_all words among = help_alone (fault_of program words) (few_faults words) among
+help_is_all words among = call_is_all DisplayHelp words refl among
+
+pub version_is_all : (words : List Text) → IsAmong DisplayVersion (fault_of program words) → fault_of program words ≡ DisplayVersion ∷ []
+version_is_all words among = call_is_all DisplayVersion words refl among

@@ -1,6 +1,6 @@
--- Which command words name: one of the program's two, where `clap` finds nothing else in them.
-use Rattle.std.proofs.Common.{◌≡◌, ◌≢◌, ◌⊎◌, ◌∙◌, ◌&&◌, Bool, true, false, cond, not, sym, ap, subst, refl, true≢false, List, [], ◌∷◌, Option, Some, None, option_map, is_some, codes, inl, inr, ⊎_elim}
-use Rattle.std.specs.Prelude.{Box, option_and_then}
+-- Which command words name: one of the program's four, where `clap` finds nothing else in them.
+use Rattle.std.proofs.Common.{◌≡◌, ◌≢◌, ◌⊎◌, ◌&&◌, Bool, true, false, cond, not, sym, ap, ap₂, subst, refl, true≢false, List, [], ◌∷◌, Option, Some, None, option_map, is_some, codes, inl, inr}
+use Rattle.std.specs.Prelude.{Box}
 use Rattle.std.specs.Box.{box_value}
 use Rattle.std.specs.List.{list_any}
 use Rattle.clap.specs.Words.{Row, Text, fault_of, subcommand_of, subcommand_rows, subcommand_rows_of, subcommand_name_of}
@@ -14,7 +14,11 @@ use Rattle.clap.specs.declared.error.kind.ErrorKind.TheVariants as kind
 use Rattle.clap.specs.declared.parser.matches.ArgMatches.{ArgMatches}
 use Rattle.clap.specs.declared.parser.matches.ArgMatches.TheViews.{out-ArgMatches, out-SubCommand}
 use Rattle.clap.specs.declared.parser.matches.SubCommand.{SubCommand}
-use Rattle.ovs_command.specs.CommandLine.{command_named, merge_of, merge_word, program}
+use Rattle.ovs_command.specs.CommandLine.{Found, IsNamed, name_in, merge_of, merge_in, program}
+
+-- a name is that of one of four commands
+abbrev IsOneOf : Shape → Shape → Shape → Shape → Option Text → Type 0
+IsOneOf first second third fourth name = ((name ≡ Some first.name) ⊎ (name ≡ Some second.name)) ⊎ ((name ≡ Some third.name) ⊎ (name ≡ Some fourth.name))
 
 -- where nothing is found, nothing is found in the second place
 second_empty : (first second : Kinds) → or_else first second ≡ [] → second ≡ []
@@ -46,52 +50,55 @@ stop_at words = stop_after (built program).top.rules (names_of (built program)) 
 met : (words : List Text) → fault_of program words ≡ [] → is_some (entered (built program) (stop_at words)) ≡ true
 met words nothing = met_at (built program).top (names_of (built program)) nothing_held (argument_words program words) _ _ refl nothing
 
--- what is entered has the name of one of two commands
-entered_one : (first second : Bool) (s t : Shape) (words : List Text)
-    → is_some (option_map (λ (u : Shape). rows_at u words) (cond first (Some s) (cond second (Some t) None))) ≡ true
-    → (option_map (λ (p : Text × List Row). p.0) (option_map (λ (u : Shape). rows_at u words) (cond first (Some s) (cond second (Some t) None))) ≡ Some s.name)
-    ⊎ (option_map (λ (p : Text × List Row). p.0) (option_map (λ (u : Shape). rows_at u words) (cond first (Some s) (cond second (Some t) None))) ≡ Some t.name)
-entered_one true second s t words met = inl refl
-entered_one false true s t words met = inr refl
-entered_one false false s t words met = absurd (true≢false (sym met))
+-- what is entered has the name of one of four commands
+entered_one : (in_first in_second in_third in_fourth : Bool) (first second third fourth : Shape) (words : List Text)
+    → is_some (option_map (λ (u : Shape). rows_at u words)
+    (cond in_first (Some first) (cond in_second (Some second) (cond in_third (Some third) (cond in_fourth (Some fourth) None))))) ≡ true
+    → IsOneOf first second third fourth (name_in (option_map (λ (u : Shape). rows_at u words)
+    (cond in_first (Some first) (cond in_second (Some second) (cond in_third (Some third) (cond in_fourth (Some fourth) None))))))
+entered_one true b c d first second third fourth words met = inl (inl refl)
+entered_one false true c d first second third fourth words met = inl (inr refl)
+entered_one false false true d first second third fourth words met = inr (inl refl)
+entered_one false false false true first second third fourth words met = inr (inr refl)
+entered_one false false false false first second third fourth words met = absurd (true≢false (sym met))
 
-named_by : (stop : Option (Text × List Text)) → is_some (entered (built program) stop) ≡ true
-    → (option_map (λ (p : Text × List Row). p.0) (entered (built program) stop) ≡ Some (codes "fold"))
-    ⊎ (option_map (λ (p : Text × List Row). p.0) (entered (built program) stop) ≡ Some (codes "world"))
+named_by : (stop : Option (Text × List Text)) → is_some (entered (built program) stop) ≡ true → IsNamed (entered (built program) stop)
 named_by None met = absurd (true≢false (sym met))
-named_by (Some p) met = entered_one _ _ _ _ p.1 met
+named_by (Some p) met = entered_one _ _ _ _ _ _ _ _ p.1 met
 
--- words in which nothing is found and that don't name the one command name the other
-world_named : (words : List Text) → fault_of program words ≡ [] → command_named words ≢ Some (codes "fold") → command_named words ≡ Some (codes "world")
-world_named words nothing other = ⊎_elim (λ fold. absurd (other fold)) (λ world. world) (named_by (stop_at words) (met words nothing))
+-- words in which nothing is found name a command
+pub are_named : (words : List Text) → fault_of program words ≡ [] → IsNamed (subcommand_of program words)
+are_named words nothing = named_by (stop_at words) (met words nothing)
 
 -- ---- what a parse gives
 
-name_in : {Z : Type 0} (o : Option (Box SubCommand Z))
+name_of_box : {Z : Type 0} (o : Option (Box SubCommand Z))
     → option_map (λ b. (out-SubCommand (box_value b)).name.now) o ≡ option_map (λ (p : Text × List Row). p.0) (subcommand_rows o)
-name_in None = refl
-name_in (Some b) = refl
+name_of_box None = refl
+name_of_box (Some b) = refl
 
--- the name of the command that was entered is the one that the words name
-name_met : (m : ArgMatches) (words : List Text) → subcommand_rows_of m ≡ subcommand_of program words → subcommand_name_of m ≡ command_named words
-name_met m words found = name_in (out-ArgMatches m).subcommand ∙ ap (option_map (λ (p : Text × List Row). p.0)) found
+-- the name of the command that was entered is that of what was found of it
+pub name_met : (m : ArgMatches) → subcommand_name_of m ≡ name_in (subcommand_rows_of m)
+name_met m = name_of_box (out-ArgMatches m).subcommand
 
--- what is found of `--merge` in the rows of the command that was entered
-merge_in : (found : Option (Text × List Row)) (rows : List Row) → option_map (λ (p : Text × List Row). p.1) found ≡ Some rows
-    → merge_of rows ≡ option_and_then (λ (p : Text × List Row). merge_of p.1) found
-merge_in None rows is = absurd (let no : None ≡ Some rows = is in cc)
-merge_in (Some p) rows is = let same : rows ≡ p.1 = (let some : Some p.1 ≡ Some rows = is in cc) in ap merge_of same
+-- a command's name with what is found of it
+pub with_rows : (found : Found) (name : Text) (rows : List Row) → name_in found ≡ Some name → option_map (λ (p : Text × List Row). p.1) found ≡ Some rows
+    → found ≡ Some (name, rows)
+with_rows None name rows named is = absurd (let no : None ≡ Some rows = is in cc)
+with_rows (Some (n, r)) name rows named is =
+    let same_name : n ≡ name = (let some : Some n ≡ Some name = named in cc) in
+    let same_rows : r ≡ rows = (let some : Some r ≡ Some rows = is in cc) in
+    ap₂ (λ (x : Text) (y : List Row). Some (x, y)) same_name same_rows
 
-module _ (m : ArgMatches) (words : List Text) (found : subcommand_rows_of m ≡ subcommand_of program words) where
-  -- the words ask to fold where `fold` was entered, with the word that is found of `--merge`
-  pub asks_to_fold : (merge : Option Text) (rows : List Row) → subcommand_name_of m ≡ Some (codes "fold")
-      → option_map (λ (p : Text × List Row). p.1) (subcommand_rows_of m) ≡ Some rows → merge ≡ merge_of rows
-      → (command_named words ≡ Some (codes "fold")) × (merge ≡ merge_word words)
-  asks_to_fold merge rows name there word = (
-    sym (name_met m words found) ∙ name,
-    word ∙ merge_in (subcommand_of program words) rows (sym (ap (option_map (λ (p : Text × List Row). p.1)) found) ∙ there),
-  )
+-- what is found of `--merge`
+pub merge_met : (found : Found) (rows : List Row) → option_map (λ (p : Text × List Row). p.1) found ≡ Some rows → merge_of rows ≡ merge_in found
+merge_met None rows is = absurd (let no : None ≡ Some rows = is in cc)
+merge_met (Some p) rows is = let same : rows ≡ p.1 = (let some : Some p.1 ≡ Some rows = is in cc) in ap merge_of same
 
-  -- and for a world where `fold` wasn't entered
-  pub asks_for_world : fault_of program words ≡ [] → subcommand_name_of m ≢ Some (codes "fold") → command_named words ≡ Some (codes "world")
-  asks_for_world nothing other = world_named words nothing (λ fold. other (name_met m words found ∙ fold))
+-- what is named and is none of the others is `world`
+pub world_left : (found : Found) → IsNamed found → name_in found ≢ Some (codes "fold") → name_in found ≢ Some (codes "source")
+    → name_in found ≢ Some (codes "relay") → name_in found ≡ Some (codes "world")
+world_left found (inl (inl fold)) no_fold no_source no_relay = absurd (no_fold fold)
+world_left found (inl (inr world)) no_fold no_source no_relay = world
+world_left found (inr (inl source)) no_fold no_source no_relay = absurd (no_source source)
+world_left found (inr (inr relay)) no_fold no_source no_relay = absurd (no_relay relay)

@@ -3,12 +3,13 @@ use Rattle.std.specs.Prelude.{ℕ}
 use Rattle.ovs_script.specs.declared.run_end.RunEnd.{RunEnd}
 use Rattle.ovs_script.specs.declared.run_end.RunEnd.TheVariants as ends
 use Rattle.ovs_command.specs.declared.complaint.Complaint.{Complaint}
-use Rattle.ovs_command.specs.declared.complaint.Complaint.TheVariants.{NotUtf8, Unopened, UnreadFile, UnreadInput, Unwritten, TurnsSpent, NoMemory}
+use Rattle.ovs_command.specs.declared.complaint.Complaint.TheVariants.{NotUtf8, Unopened, UnopenedFor, UnreadFile, UnreadInput, Unwritten, TurnsSpent, NoMemory}
 
 -- the exit status beside it: 2 a fault of the command line, 3 memory, a device or the calls gave out
 abbrev pub complaint_status : Complaint → ℕ
 complaint_status NotUtf8 = 2
 complaint_status (Unopened path) = 2
+complaint_status (UnopenedFor file cause) = 2
 complaint_status _ = 3
 
 -- it says why a run ended so

@@ -1,2 +1,5 @@
 pub mod Complaint
+pub mod Values
+pub mod Options
 pub mod CommandLine
+pub mod Faults

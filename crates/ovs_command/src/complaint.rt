@@ -5,11 +5,13 @@ ghost use Rattle.ovs_script.specs.RunEnd.{is_whole, status_of};
 ghost use Rattle.ovs_command.specs.Complaint.{complaint_status, SaysWhy};
 
 use ovs_script::RunEnd;
+use std::io;
+use std::net::SocketAddr;
 use thiserror::Error;
 
 /// Why the program ends with status 2 or 3, other than by a fault that `command` tells. A path is shown in quotes and with
-/// its line breaks escaped, so that each is one line.
-#[derive(Clone, Copy, Debug, PartialEq, Eq, Error)]
+/// its line breaks escaped, so that each is one line. A cause is the system's.
+#[derive(Clone, Copy, Debug, Error)]
 pub enum Complaint<'a> {
     /// A word of the command line is no UTF-8.
     #[error("a word of the command line is no UTF-8")]
@@ -17,6 +19,12 @@ pub enum Complaint<'a> {
     /// The file of the second text can't be opened.
     #[error("{0:?} can't be opened")]
     Unopened(&'a str),
+    /// A file can't be opened, for this cause.
+    #[error("{file:?} can't be opened: {cause}")]
+    UnopenedFor {
+        file: &'a str,
+        cause: io::Error,
+    },
     /// A read of that file failed.
     #[error("{0:?} can't be read")]
     UnreadFile(&'a str),
@@ -26,6 +34,24 @@ pub enum Complaint<'a> {
     /// A write failed, or passed no byte.
     #[error("standard output can't be written")]
     Unwritten,
+    /// No connections can be taken at this address.
+    #[error("{address} can't be listened at: {cause}")]
+    Unlistened {
+        address: SocketAddr,
+        cause: io::Error,
+    },
+    /// A connection that came in at this address can't be taken.
+    #[error("a connection at {address} can't be taken: {cause}")]
+    Untaken {
+        address: SocketAddr,
+        cause: io::Error,
+    },
+    /// The node at this address can't be reached.
+    #[error("{address} can't be reached: {cause}")]
+    Unreached {
+        address: SocketAddr,
+        cause: io::Error,
+    },
     /// All read and write calls of the run are made.
     #[error("too many reads and writes")]
     TurnsSpent,
@@ -40,7 +66,7 @@ impl<'a> Complaint<'a> {
         ensures value { result ≡ complaint_status self.entry }
     {
         match self {
-            Complaint::NotUtf8 | Complaint::Unopened(_) => 2,
+            Complaint::NotUtf8 | Complaint::Unopened(_) | Complaint::UnopenedFor { .. } => 2,
             _ => 3,
         }
     }

@@ -1,5 +1,7 @@
+pub mod ByAskers
 pub mod Collected
 pub mod Firsts
+pub mod Indexes
 pub mod LedgerOrder
 pub mod LedgerRuns
 pub mod LedgerSteps

@@ -18,7 +18,7 @@ use Rattle.ovs_desk.proofs.Places.{same_placed, placed_first, placed_all, placed
 
 -- ---- how many there are
 
-length_first : (p : Pending → Bool) (f : Pending → Pending) (es : List Pending) → length (at_first p f es) ≡ length es
+pub length_first : (p : Pending → Bool) (f : Pending → Pending) (es : List Pending) → length (at_first p f es) ≡ length es
 length_first p f [] = refl
 length_first p f (e ∷ es) = by (p e) (length_first p f es)
   where
@@ -26,11 +26,11 @@ length_first p f (e ∷ es) = by (p e) (length_first p f es)
     by true rest = refl
     by false rest = ap suc rest
 
-length_all : (f : Pending → Pending) (es : List Pending) → length (map f es) ≡ length es
+pub length_all : (f : Pending → Pending) (es : List Pending) → length (map f es) ≡ length es
 length_all f [] = refl
 length_all f (e ∷ es) = ap suc (length_all f es)
 
-length_without : (p : Pending → Bool) (es : List Pending) (r : Pending) → find p es ≡ Some r → suc (length (without_first p es)) ≡ length es
+pub length_without : (p : Pending → Bool) (es : List Pending) (r : Pending) → find p es ≡ Some r → suc (length (without_first p es)) ≡ length es
 length_without p [] r is = absurd cc
 length_without p (e ∷ es) r is = by (p e) is (length_without p es r)
   where

@@ -1,5 +1,6 @@
 pub mod Asserts
 pub mod Book
+pub mod ByAsker
 pub mod Calls
 pub mod Ledger
 pub mod RelayDesk

@@ -1,13 +1,17 @@
 //! All requests on their way.
 
-ghost use Rattle.std.specs.Prelude.{◌≡◌, ◌==◌, ◌<◌, [], false, true, not, None, filter, map, position, vec_len, vec_capacity, is_some, IfOk, IfNone, OnOk, OnErr, length, ◌+◌, ◌^◌};
+ghost use Rattle.std.specs.Prelude.{◌≡◌, ◌==◌, ◌<◌, ◌≤◌, [], false, true, nat_lt, not, None, filter, map, position, vec_len, vec_capacity, is_some, IfOk, IfNone, OnOk, OnErr, length, ◌+◌, ◌^◌};
 ghost use Rattle.std.specs.List.{find, list_any};
+ghost use Rattle.std.specs.List.Sorted.{IsNonDecreasingBy, IsPartitionPoint};
 ghost use Rattle.slab.specs.Slab.{ContainsKey, HasRoomFor, SameValues, Updates, slab_len};
+ghost use Rattle.ovs_desk.specs.declared.pending.Pending.{Pending};
 ghost use Rattle.ovs_desk.specs.declared.pending.Sought.{Sought};
+ghost use Rattle.ovs_desk.specs.ByAsker.{InOrder, without};
 ghost use Rattle.ovs_desk.specs.Ledger.{place_of, passes, lost, with_pending, without_first, to_go, due_to, next_up, next_back, refusal, IsKept, SamePlaces};
 ghost use Rattle.ovs_desk.specs.Calls.{After, SendsTo};
 ghost use Rattle.ovs_desk.specs.Calls as calls;
 
+use crate::by_asker::{ByAsker, first_number, put, take_out};
 use crate::error::{ForwardError, Unknown, Unsent};
 use crate::pending::{Pending, Sought, State};
 use ovs_authority::{Answer, Request};
@@ -34,15 +38,20 @@ pub struct Forwards {
     // The places that their numbers have.
     places: Slab<()>,
     sent: u64,
+    // None before this number waits to go up.
+    waits_from: u64,
+    // All of them by their askers, and those whose answers are due.
+    by_asker: Vec<ByAsker>,
+    due: Vec<ByAsker>,
 }
 
 impl Model for Forwards {
-    ghost use Rattle.std.specs.Prelude.{ℕ, List, refl};
+    ghost use Rattle.std.specs.Prelude.{ℕ, List, refl, vec_capacity};
     ghost use Rattle.std.specs.Coded.{code_by, coded×, coded_ℕ, coded_list};
     ghost use Rattle.slab.specs.Slab.{slab_len};
     ghost use Rattle.ovs_desk.specs.contracts.pending.Pending as pending_row;
     ghost use Rattle.ovs_desk.specs.declared.pending.Pending.{Pending};
-    ghost use Rattle.ovs_desk.specs.Book.{IsBook};
+    ghost use Rattle.ovs_desk.specs.Book.{IsBook, IsIndex};
     ghost use Rattle.ovs_desk.specs.Ledger.{Forwarding};
 
     ghost Value = { Forwarding };
@@ -53,14 +62,23 @@ impl Model for Forwards {
 
     ghost view = { λ f. record { ledger = record { sent = f.sent; pending = f.pending.items }; used = slab_len f.places; offered = f.places.vacant_key } };
 
-    ghost invariant = { λ f. IsBook f.sent f.pending.items f.places };
+    ghost invariant = { λ f. IsBook f.sent f.pending.items f.places × IsIndex f.sent f.pending.items f.waits_from f.by_asker.items f.due.items (vec_capacity f.due) };
 }
 
-// The first that is looked for.
-fn first(pending: &[Pending], sought: Sought) -> Option<usize>
-    ensures value { result ≡ position (passes sought) pending.now }
+// Where the numbers reach this one.
+fn at_number(pending: &[Pending], number: u64) -> usize
+    requires ascend { IsNonDecreasingBy (λ (e : Pending). e.number) pending.now }
+    ensures bound { result ≤ length pending.now }
+    ensures value { IsPartitionPoint (λ (e : Pending). nat_lt e.number number ≡ true) (λ (e : Pending). nat_lt e.number number ≡ false) pending.now result }
 {
-    pending.iter().position(|one| one.passes(sought))
+    pending.partition_point(|one| one.number < number)
+}
+
+// The first that waits to go up.
+fn first_to_go(pending: &[Pending]) -> Option<usize>
+    ensures value { result ≡ position (passes Sought.ToGo) pending.now }
+{
+    pending.iter().position(|one| one.passes(Sought::ToGo))
 }
 
 // Room for one more.
@@ -74,6 +92,19 @@ fn make_room(pending: &mut Vec<Pending>, places: &mut Slab<()>) -> Result<(), No
 {
     pending.reserve(1)?;
     places.reserve(1)?;
+    Ok(())
+}
+
+// Room for one more in both lists, in the second also for all that stand in the first.
+fn make_list_room(all: &mut Vec<ByAsker>, due: &mut Vec<ByAsker>) -> Result<(), NoMemory>
+    ensures all { all.new.items ≡ all.old.items }
+    ensures due { due.new.items ≡ due.old.items }
+    ensures capacity { vec_capacity due.old ≤ vec_capacity due.new }
+    ensures room { OnOk result (vec_len all.new < vec_capacity all.new) }
+    ensures room_due { OnOk result (vec_len all.new < vec_capacity due.new) }
+{
+    due.reserve(all.len() + 1)?;
+    all.reserve(1)?;
     Ok(())
 }
 
@@ -94,6 +125,31 @@ fn lose(pending: &mut [Pending])
     }
 }
 
+// The second list becomes as the first.
+fn copy(all: &[ByAsker], due: &mut Vec<ByAsker>)
+    requires room { length all.now ≤ vec_capacity due.old }
+    ensures items { due.new.items ≡ all.now }
+    ensures capacity { vec_capacity due.new ≡ vec_capacity due.old }
+{
+    due.clear();
+    for one in all {
+        due.push_reserved(*one);
+    }
+}
+
+// Takes one out of both lists.
+fn strike(all: &mut Vec<ByAsker>, due: &mut Vec<ByAsker>, asker: u64, number: u64)
+    requires all { InOrder all.old.items }
+    requires due { InOrder due.old.items }
+    ensures all { all.new.items ≡ without (record { asker = asker; number = number }) all.old.items }
+    ensures due { due.new.items ≡ without (record { asker = asker; number = number }) due.old.items }
+    ensures capacity { vec_capacity due.new ≡ vec_capacity due.old }
+{
+    let one = ByAsker { asker, number };
+    take_out(all, &one);
+    take_out(due, &one);
+}
+
 impl Forwards {
     /// No request.
     pub fn new(alloc: Global) -> Forwards
@@ -103,6 +159,9 @@ impl Forwards {
             pending: Vec::new(alloc),
             places: Slab::new(alloc),
             sent: 0,
+            waits_from: 0,
+            by_asker: Vec::new(alloc),
+            due: Vec::new(alloc),
         }
     }
 
@@ -136,7 +195,9 @@ impl Forwards {
         if let Some(error) = self.refusal() {
             return Err(Unsent { error, id, request });
         }
-        if make_room(&mut self.pending, &mut self.places).is_err() {
+        if make_room(&mut self.pending, &mut self.places).is_err()
+            || make_list_room(&mut self.by_asker, &mut self.due).is_err()
+        {
             return Err(Unsent {
                 error: ForwardError::NoMemory,
                 id,
@@ -146,6 +207,7 @@ impl Forwards {
         let place = self.places.vacant_key();
         let number = PLACES * self.sent + place as u64;
         self.places.insert_reserved(());
+        put(&mut self.by_asker, ByAsker { asker, number });
         self.pending.push_reserved(Pending {
             asker,
             id,
@@ -164,15 +226,41 @@ impl Forwards {
         ensures places { SamePlaces self.old self.new }
         ensures none { IfNone result (self.new ≡ self.old) }
     {
-        let at = first(&self.pending, Sought::ToGo)?;
+        let at = self.to_go_at()?;
+        self.waits_from = self.pending[at].number;
         self.pending[at].take_up()
+    }
+
+    // The first request that waits to go up: none does before the one that went up last.
+    fn to_go_at(&self) -> Option<usize>
+        ensures value { result ≡ position (passes Sought.ToGo) self.now.ledger.pending }
+    {
+        let from = at_number(&self.pending, self.waits_from);
+        let more = first_to_go(&self.pending[from..])?;
+        Some(from + more)
+    }
+
+    // The first answer that is due to a session.
+    fn due_at(&self, who: u64) -> Option<usize>
+        ensures value { result ≡ position (passes (Sought.Due who)) self.now.ledger.pending }
+    {
+        let number = first_number(&self.due, who)?;
+        Some(at_number(&self.pending, number))
+    }
+
+    // The first request of a session.
+    fn first_of(&self, who: u64) -> Option<usize>
+        ensures value { result ≡ position (passes (Sought.Of who)) self.now.ledger.pending }
+    {
+        let number = first_number(&self.by_asker, who)?;
+        Some(at_number(&self.pending, number))
     }
 
     // The open request of this number: the numbers ascend, so that it is looked up and not looked for.
     fn open_at(&self, number: u64) -> Option<usize>
         ensures value { result ≡ position (passes (Sought.Open number)) self.now.ledger.pending }
     {
-        let at = self.pending.partition_point(|one| one.number < number);
+        let at = at_number(&self.pending, number);
         if self.pending.get(at)?.passes(Sought::Open(number)) {
             Some(at)
         } else {
@@ -193,7 +281,9 @@ impl Forwards {
         let Some(at) = self.open_at(number) else {
             return Err(Unknown);
         };
+        let asker = self.pending[at].asker;
         self.pending[at].answer(answer);
+        put(&mut self.due, ByAsker { asker, number });
         Ok(())
     }
 
@@ -208,12 +298,18 @@ impl Forwards {
         ensures kept { IsKept self.new }
         ensures none { IfOk result (λ m. IfNone m (self.new ≡ self.old)) }
     {
-        let Some(at) = first(&self.pending, Sought::Due(who)) else {
+        let Some(at) = self.due_at(who) else {
             return Ok(None);
         };
         self.pending[at].settle(alloc)?;
         let pending = self.pending.remove(at);
         free(&mut self.places, pending.number);
+        strike(
+            &mut self.by_asker,
+            &mut self.due,
+            pending.asker,
+            pending.number,
+        );
         Ok(pending.into_reply())
     }
 
@@ -221,7 +317,7 @@ impl Forwards {
     pub fn owes(&self, who: u64) -> bool
         ensures value { result ≡ list_any (passes (Sought.Due who)) self.now.ledger.pending }
     {
-        self.pending.iter().any(|one| one.passes(Sought::Due(who)))
+        first_number(&self.due, who).is_some()
     }
 
     /// Answers each request that waits for its answer that the source was lost. No memory is taken.
@@ -230,6 +326,8 @@ impl Forwards {
         ensures places { SamePlaces self.old self.new }
     {
         lose(&mut self.pending);
+        self.waits_from = PLACES * self.sent;
+        copy(&self.by_asker, &mut self.due);
     }
 
     /// Drops all requests of a session. No memory is taken.
@@ -240,15 +338,21 @@ impl Forwards {
         while self.drop_first(who) {}
     }
 
-    // Takes out the first that is looked for, and its place is free.
-    fn take_out(&mut self, sought: Sought) -> Option<Pending>
-        ensures found { result ≡ find (passes sought) self.old.ledger.pending }
-        ensures after { self.new.ledger ≡ with_pending self.old.ledger (without_first (passes sought) self.old.ledger.pending) }
+    // Takes out the first request of a session, and its place is free.
+    fn take_out(&mut self, who: u64) -> Option<Pending>
+        ensures found { result ≡ find (passes (Sought.Of who)) self.old.ledger.pending }
+        ensures after { self.new.ledger ≡ with_pending self.old.ledger (without_first (passes (Sought.Of who)) self.old.ledger.pending) }
         ensures kept { IsKept self.new }
     {
-        let at = first(&self.pending, sought)?;
+        let at = self.first_of(who)?;
         let pending = self.pending.remove(at);
         free(&mut self.places, pending.number);
+        strike(
+            &mut self.by_asker,
+            &mut self.due,
+            pending.asker,
+            pending.number,
+        );
         Some(pending)
     }
 
@@ -258,6 +362,6 @@ impl Forwards {
         ensures after { self.new.ledger ≡ with_pending self.old.ledger (without_first (passes (Sought.Of who)) self.old.ledger.pending) }
         ensures kept { IsKept self.new }
     {
-        self.take_out(Sought::Of(who)).is_some()
+        self.take_out(who).is_some()
     }
 }

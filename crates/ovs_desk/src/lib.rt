@@ -2,6 +2,7 @@
 #![tactic(auto)]
 
 mod asserts;
+mod by_asker;
 mod error;
 mod forwards;
 mod laws;

@@ -22,6 +22,10 @@ head_line head = codes "head " ++ (id_text head ++ codes "\n")
 abbrev pub counts_line : ℕ → ℕ → List ℕ
 counts_line links chain = codes "links " ++ (decimal links ++ (codes " chain " ++ (decimal chain ++ (codes " parked " ++ (decimal (links - chain) ++ codes "\n")))))
 
+-- of a settled store: its head; how many links are held, in the chain and parked
+abbrev pub chain_lines : Stored → List ℕ
+chain_lines s = head_line (head_of s) ++ counts_line (len s.links) (length s.folded)
+
 abbrev pub database_line : DatabaseValue → List ℕ
 database_line database = compact_text (database_json database) ++ codes "\n"
 
@@ -29,10 +33,10 @@ database_line database = compact_text (database_json database) ++ codes "\n"
 abbrev pub database_of : Stored → DatabaseValue
 database_of s = record { schema = s.schema; rows = rows_of s }
 
--- of a settled store: where it is stuck, if it is; its head; how many links are held, in the chain and parked; the database
+-- of a settled store: where it is stuck, if it is; its chain; the database
 abbrev pub last_lines : Settled → Stored → List ℕ
 last_lines settled s =
-    stuck_line settled ++ (head_line (head_of s) ++ (counts_line (len s.links) (length s.folded) ++ database_line (database_of s)))
+    stuck_line settled ++ (chain_lines s ++ database_line (database_of s))
 
 -- the same of a store once its longest chain is folded
 abbrev pub end_text : Stored → List ℕ

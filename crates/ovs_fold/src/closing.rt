@@ -2,7 +2,7 @@
 
 ghost use Rattle.std.specs.Prelude.{◌≡◌, ◌++◌, ◌-◌, IfOk, codes, not, ◌&&◌, string_bytes};
 ghost use Rattle.ovs_links.specs.Settling.{KeepsLinks, IsWholeChain, chain_of};
-ghost use Rattle.ovs_fold.specs.Closing.{stuck_line, head_line, counts_line, database_line, last_lines, end_text, is_whole_chain};
+ghost use Rattle.ovs_fold.specs.Closing.{stuck_line, head_line, counts_line, chain_lines, database_line, last_lines, end_text, is_whole_chain};
 
 use ovs_links::{LinkStore, Settled};
 use ovs_rows::Database;
@@ -62,14 +62,25 @@ fn with_database(alloc: Global, text: String, database: &Database) -> Result<Str
     Ok(text)
 }
 
+/// The lines that tell of a store's chain: its head, and how many links are held, are in the chain, and wait.
+///
+/// # Errors
+/// `NoMemory` alone.
+pub fn chain_lines(alloc: Global, store: &LinkStore) -> Result<String, NoMemory>
+    ensures text { IfOk result (λ lines. string_bytes lines ≡ chain_lines store.now) }
+{
+    let mut text = head_line(alloc, store.head())?;
+    let counts = counts_line(alloc, store.len(), store.chain_len(), store.parked())?;
+    text.push_str(counts.as_str())?;
+    Ok(text)
+}
+
 fn last_lines(alloc: Global, store: &LinkStore, settled: Settled) -> Result<String, NoMemory>
     ensures text { IfOk result (λ text. string_bytes text ≡ last_lines settled store.now) }
 {
     let mut text = stuck_line(alloc, settled)?;
-    let head = head_line(alloc, store.head())?;
-    text.push_str(head.as_str())?;
-    let counts = counts_line(alloc, store.len(), store.chain_len(), store.parked())?;
-    text.push_str(counts.as_str())?;
+    let chain = chain_lines(alloc, store)?;
+    text.push_str(chain.as_str())?;
     with_database(alloc, text, store.database())
 }
 

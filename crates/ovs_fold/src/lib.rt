@@ -9,5 +9,6 @@ mod reading;
 mod stores;
 mod words;
 
+pub use closing::chain_lines;
 pub use fold::fold_run;
 pub use laws::last_lines_depend_on_the_set_alone;

@@ -1,33 +1,20 @@
 //! A relay tier for OVSDB: the program and its commands.
 #![tactic(auto)]
 
-use ovs_command::{Complaint, Task, command, complaint_of};
+mod log_lines;
+mod nodes;
+mod saying;
+mod schema_file;
+
+use nodes::{run_relay, run_source};
+use ovs_command::{Complaint, Task, command};
 use ovs_fold::fold_run;
-use ovs_script::RunEnd;
 use ovs_story::world_run;
 use ovs_wire::Counted;
-use std::fmt::Display;
+use saying::{complains, ends, fails, says};
 use std::fs::File;
 use std::io::ErrorKind;
 use std::process::ExitCode;
-
-// One line on standard error, and the exit status that goes with it.
-fn fails<R: Eprint, L: Display>(rt: &R, line: &L, status: u8) -> ExitCode {
-    let _ = eprintln!(rt; "ovs_relay: {line}");
-    ExitCode::from(status)
-}
-
-fn complains<R: Eprint>(rt: &R, complaint: Complaint<'_>) -> ExitCode {
-    fails(rt, &complaint, complaint.status())
-}
-
-// Ends as a run ended that read standard input and perhaps a file.
-fn ends<R: Eprint>(rt: &R, end: RunEnd, file: Option<&str>, input_failures: u64) -> ExitCode {
-    match complaint_of(end, file, input_failures) {
-        None => ExitCode::from(end.status()),
-        Some(complaint) => complains(rt, complaint),
-    }
-}
 
 // Folds from standard input, with the links of a file where one is named. The file is opened before anything is read.
 fn run_fold(rt: &HostRuntime, merge: Option<&str>) -> ExitCode {
@@ -70,10 +57,9 @@ fn main(rt: HostRuntime) -> ExitCode {
             run_fold(&rt, merge)
         }
         Ok(Task::World) => run_world(&rt),
-        Ok(Task::Help(text)) => match print!(rt; "{text}") {
-            Ok(()) => ExitCode::SUCCESS,
-            Err(_) => complains(&rt, Complaint::Unwritten),
-        },
+        Ok(Task::Source(given)) => run_source(rt, alloc, &given),
+        Ok(Task::Relay(given)) => run_relay(rt, alloc, &given),
+        Ok(Task::Help(text) | Task::Version(text)) => says(&rt, text.as_str(), 0),
         Err(fault) => fails(&rt, &fault, fault.status()),
     }
 }

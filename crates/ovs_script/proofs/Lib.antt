@@ -6,3 +6,4 @@ pub mod Way
 pub mod Both
 pub mod Spent
 pub mod OneRun
+pub mod SchemaTexts

@@ -10,3 +10,4 @@ pub mod Said
 pub mod LineJson
 pub mod Refusal
 pub mod FirstLine
+pub mod SchemaText

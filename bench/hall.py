@@ -1,0 +1,48 @@
+#!/usr/bin/env python3
+"""Times a request in a hall of 1, 8, 64 and 1,000 sessions, which one thread serves over memory.
+
+    python3 bench/hall.py [--program PATH] [--requests N]
+
+The program is the table of engines. All sessions together ask the same number of requests, of which each is answered by a node that holds
+one row. What the same line takes where it has no session, which is to read it, is taken off. Of three runs the shortest counts. Printed
+are processor microseconds a request, with what it takes to make the request and to compare the reply, and the ratio to one session.
+"""
+import os
+
+from timing import arguments, seconds, uuid
+
+PROGRAM = os.path.join(os.path.dirname(os.path.abspath(__file__)), "..", "crates", "ovs_engine_cases", "out", "ovs_engine_cases")
+SCHEMA = {"name": "net", "version": "1.0.0", "tables": {"Port": {"columns": {"name": {"type": "string"}}}}}
+CHANGE = {"Port": {uuid(1): {"insert": {"name": "p1"}}}}
+SELECT = ["transact", ["net", {"op": "select", "table": "Port", "where": [], "columns": ["name"]}], [{"rows": [{"name": "p1"}]}]]
+ECHO = ["echo", ["session #"], ["session #"]]
+SESSIONS = (1, 8, 64, 1000)
+PIECE = 4096
+
+
+def line(sessions, request, count):
+    return ["hall", CHANGE, sessions, PIECE, [request] * count]
+
+
+def each(program, sessions, request, total):
+    """The processor seconds of one request."""
+    count = total // sessions
+    spent = seconds(program, SCHEMA, line(sessions, request, count)) - seconds(program, SCHEMA, line(0, request, count))
+    return spent / (count * sessions)
+
+
+def main():
+    parser = arguments(__doc__)
+    parser.set_defaults(program=PROGRAM)
+    parser.add_argument("--requests", type=int, default=64_000)
+    given = parser.parse_args()
+    for name, request in (("echo", ECHO), ("select", SELECT)):
+        one = None
+        for sessions in SESSIONS:
+            took = each(given.program, sessions, request, given.requests)
+            one = one or took
+            print(f"{name:8}{sessions:>6,} sessions{took * 1e6:10.1f}us{took / one:8.2f}", flush=True)
+
+
+if __name__ == "__main__":
+    main()

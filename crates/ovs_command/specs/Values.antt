@@ -1,0 +1,33 @@
+-- What the words behind options stand for.
+use Rattle.std.specs.Prelude.{◌≡◌, ℕ, ◌≤◌, ◌^◌, Option, Some, MatchOption}
+use Rattle.std.specs.Str.Parse.{IsNumeral, digits_value, without_leading_plus}
+use Rattle.std.specs.Net.Addr.{MatchIp, IsLoopbackV4, IsLoopbackV6}
+use Rattle.std.specs.Net.Grammar.{IsSocketText}
+use Rattle.std.specs.Net.Socket.{socket_ip}
+use Rattle.std.specs.declared.net.socket_addr.SocketAddr.{SocketAddr}
+use Rattle.clap.specs.Words.{Text}
+use Rattle.ovs_data.specs.Id.{read_id}
+
+-- a loopback address and a port
+abbrev pub SpellsAddress : Text → SocketAddr → Type 0
+SpellsAddress word address = IsSocketText word address × MatchIp (socket_ip address) IsLoopbackV4 IsLoopbackV6
+
+-- an id that a commit may have
+abbrev pub SpellsCommit : Text → ℕ → Type 0
+SpellsCommit word id = (read_id word ≡ Some id) × (2 ^ 64 ≤ id)
+
+-- a row's id
+abbrev pub SpellsRow : Text → ℕ → Type 0
+SpellsRow word id = read_id word ≡ Some id
+
+-- a number from 1 to 1,000,000, in digits that may have a plus before them
+abbrev pub SpellsCount : Text → ℕ → Type 0
+SpellsCount word n = IsNumeral 10 (without_leading_plus word) × (digits_value 10 (without_leading_plus word) ≡ n) × (1 ≤ n) × (n ≤ 1000000)
+
+-- the word is no value of this kind
+abbrev pub SpellsNone : {A : Type 0} → (Text → A → Type 0) → Text → Type 0
+SpellsNone {A} Spells word = (a : A) → ¬ (Spells word a)
+
+-- the value that a word spells, or none where it spells none
+abbrev pub Stands : {A : Type 0} → (Text → A → Type 0) → Text → Option A → Type 0
+Stands Spells word value = MatchOption value (SpellsNone Spells word) (Spells word)

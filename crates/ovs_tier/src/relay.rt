@@ -1,0 +1,404 @@
+//! A relay over sockets.
+
+ghost use Rattle.std.specs.Prelude.{◌≡◌, ◌≤◌, []};
+ghost use Rattle.std.specs.List.{AllByRecursion};
+ghost use Rattle.left_right.specs.Handles.{published, pending};
+ghost use Rattle.ovs_folder.specs.InStep.{IsInStep};
+ghost use Rattle.ovs_folder.specs.Ledger.{IsFresh, steps_in};
+
+use crate::closing::{Closing, closing_of_relay};
+use crate::crossing::relay_desk_sends;
+use crate::error::TierError;
+use crate::places::{LIMITS, Places, WORKERS};
+use crate::stop::Stop;
+use crate::upstreams::{UpstreamSockets, Upstreams};
+use crate::watching::Watching;
+use log::Log;
+use ovs_desk::RelayDesk;
+use ovs_engine::{
+    Counters, Crew, Line, LockedDesk, Shared, SourceDesk, UpstreamParts, WorkerParts, run_node,
+};
+use ovs_json::Text;
+use ovs_links::Step;
+use ovs_node::{
+    Board, FeedEnd, FeedName, FeedQueue, Handle, Node, NodeError, NodeLink, NodeName, OpenNode,
+    Opened, Parts, View,
+};
+use ovs_sockets::{Ending, IsEnding, SocketBell, SocketDoors};
+use ovs_types::Schema;
+use std::alloc::Global;
+use std::marker::Brand;
+use std::net::{Net, SocketAddr, TcpListener, TcpStream};
+use std::sync::{Arc, Mutex, Wait};
+use std::thread::Threads;
+
+/// Which relay to run.
+#[derive(Clone, Copy, Debug)]
+pub struct RelayPlan<'a> {
+    /// Where its readers come in.
+    pub listen: SocketAddr,
+    /// Its upstreams, the first of which is asked what only the source can answer.
+    pub upstreams: &'a [SocketAddr],
+    /// How many connections each worker takes at most.
+    pub accepts: u32,
+    /// How many connections with each upstream are tried at most.
+    pub tries: u32,
+    /// Whether it comes to its end once a link was refused.
+    pub ends_on_refusal: bool,
+}
+
+/// A relay that listens, and is served once it runs.
+#[derive(Drop)]
+pub struct Relay<R: Net + Log + Drop> {
+    rt: R,
+    alloc: Global,
+    places: Places<R>,
+    upstreams: Upstreams<R>,
+    ending: Arc<Ending>,
+    ends_on_refusal: bool,
+}
+
+impl<
+    R: Threads
+        + Wait
+        + Net<Listener = TcpListener, Stream = TcpStream>
+        + Log
+        + Copy
+        + Drop
+        + Send
+        + Sync,
+> Relay<R> {
+    /// Takes the relay's address.
+    ///
+    /// # Errors
+    /// `Listening` where the address can't be had; `System`; `NoMemory`.
+    pub fn open(rt: R, alloc: Global, plan: RelayPlan<'_>) -> Result<Relay<R>, TierError> {
+        let is_ending = IsEnding::new(alloc)?;
+        let places = Places::new(rt, alloc, plan.listen, plan.accepts, &is_ending)?;
+        let upstreams = Upstreams::new(rt, alloc, plan.upstreams, plan.tries, &is_ending)?;
+        let mut ending = Ending::new(alloc, is_ending);
+        ending.add(&places.bells)?;
+        ending.add(&upstreams.bells)?;
+        Ok(Relay {
+            rt,
+            alloc,
+            places,
+            upstreams,
+            ending: Arc::new(alloc, ending)?,
+            ends_on_refusal: plan.ends_on_refusal,
+        })
+    }
+
+    /// Where its readers come in.
+    pub fn address(&self) -> SocketAddr {
+        self.places.address
+    }
+
+    /// What brings it to its end.
+    ///
+    /// # Errors
+    /// `NoMemory` alone.
+    pub fn stop(&self) -> Result<Stop, TierError> {
+        Ok(Stop::new(self.ending.clone()?))
+    }
+
+    /// Runs it until all its threads have come to their ends.
+    ///
+    /// # Errors
+    /// `Node` where it hasn't 1 to 4 upstreams; `NoMemory`; `NotBack`.
+    pub fn run(self, schema: &Schema) -> Result<Closing, TierError> {
+        let opened = Opened::<Step>::new();
+        open::<Brand, R>(self, schema, opened)
+    }
+}
+
+// Runs the relay, where this history was opened.
+fn open<
+    K: NodeName + Send + Sync,
+    R: Threads
+        + Wait
+        + Net<Listener = TcpListener, Stream = TcpStream>
+        + Log
+        + Copy
+        + Drop
+        + Send
+        + Sync,
+>(relay: Relay<R>, schema: &Schema, opened: Opened<Step>) -> Result<Closing, TierError>
+    requires name { (opened.seen.book ≡ K.book) × (schema.now ≡ K.schema) }
+{
+    let (rt, alloc) = (relay.rt, relay.alloc);
+    let upstreams = relay.upstreams.connectors.len();
+    let views = upstreams.saturating_add(WORKERS);
+    let node = OpenNode::<K, Handle<K, &R>>::new(alloc, &rt, schema, opened, upstreams, views)?;
+    named::<K, Brand, R>(&rt, relay, schema, node)
+}
+
+// The same, where the node is opened.
+fn named<
+    K: NodeName + Send + Sync,
+    Q: FeedName + Send + Sync,
+    R: Threads
+        + Wait
+        + Net<Listener = TcpListener, Stream = TcpStream>
+        + Log
+        + Copy
+        + Drop
+        + Send
+        + Sync,
+>(
+    rt: &R,
+    relay: Relay<R>,
+    schema: &Schema,
+    node: OpenNode<K, Handle<K, &R>>,
+) -> Result<Closing, TierError>
+    requires schema { schema.now ≡ K.schema }
+    requires table { node.feed.items.table.shared.table_id ≡ Q.table }
+    requires upstreams { node.upstreams ≤ 4 }
+    requires store { IsFresh K.schema node.store }
+    requires publisher { IsInStep (published node.publisher.handle) (pending node.publisher.handle) node.publisher.front node.publisher.kept [] }
+{
+    let parts = node.named::<Q>()?;
+    run(rt, relay, schema, parts)
+}
+
+// What a relay's threads share beside its node's own.
+#[derive(Drop)]
+struct Stage<'x, R: Wait> {
+    desk: LockedDesk<'x, R>,
+    // Of the workers.
+    bells: Vec<SocketBell>,
+    // Of the source's thread.
+    upward: SocketBell,
+    counters: Counters,
+}
+
+impl<'x, R: Wait> Stage<'x, R> {
+    // With the bells of the workers, and of the upstreams, the first of which is the source.
+    fn new(
+        rt: &'x R,
+        alloc: Global,
+        schema: &Schema,
+        bells: Vec<SocketBell>,
+        upward: Vec<SocketBell>,
+    ) -> Result<Stage<'x, R>, TierError> {
+        let name = Text::new(alloc, schema.name())?;
+        let desk = LockedDesk::new(rt, RelayDesk::new(alloc, name));
+        let mut upward = upward.into_iter();
+        let upward = upward.next().ok_or(TierError::Node(NodeError::BadCount))?;
+        Ok(Stage {
+            desk,
+            bells,
+            upward,
+            counters: Counters::new(),
+        })
+    }
+}
+
+// What a relay's threads have for their own.
+#[derive(Drop)]
+struct Outfit<K: NodeName, Q: FeedName, R: Net + Log + Drop> {
+    doors: Vec<SocketDoors<R>>,
+    ends: Vec<FeedEnd<NodeLink<K>, Q>>,
+    connectors: Vec<UpstreamSockets<R>>,
+    views: Vec<View<K>>,
+}
+
+// A relay's threads.
+type RelayCrew<'a, 'x, K, Q, R> = Crew<
+    'a,
+    K,
+    Q,
+    UpstreamSockets<R>,
+    SocketDoors<R>,
+    LockedDesk<'x, R>,
+    SocketBell,
+>;
+
+// A worker at each of these doors, with the last of the views.
+fn add_workers<'a, 'x, K: NodeName, Q: FeedName, R: Wait + Net + Log + Drop>(
+    crew: RelayCrew<'a, 'x, K, Q, R>,
+    doors: Vec<SocketDoors<R>>,
+    views: &mut Vec<View<K>>,
+) -> Result<RelayCrew<'a, 'x, K, Q, R>, TierError> {
+    let mut crew = crew;
+    for doors in doors {
+        let view = views.pop().ok_or(TierError::Node(NodeError::BadCount))?;
+        if crew.add_worker(WorkerParts { view, doors }).is_err() {
+            return Err(TierError::NoMemory);
+        }
+    }
+    Ok(crew)
+}
+
+// An upstream for each of these lines. The first is the source, to which the desk's requests go.
+fn add_upstreams<'a, 'x, K: NodeName, Q: FeedName, R: Wait + Net + Log + Drop>(
+    crew: RelayCrew<'a, 'x, K, Q, R>,
+    stage: &'a Stage<'x, R>,
+    lines: Vec<Line<K, Q, UpstreamSockets<R>>>,
+    connectors: Vec<UpstreamSockets<R>>,
+    views: Vec<View<K>>,
+) -> Result<RelayCrew<'a, 'x, K, Q, R>, TierError> {
+    let mut crew = crew;
+    let mut source = Some(SourceDesk {
+        desk: &stage.desk,
+        bells: &stage.bells,
+    });
+    for ((line, connector), view) in lines.into_iter().zip(connectors).zip(views) {
+        let upstream = UpstreamParts {
+            line,
+            view,
+            connector,
+        };
+        if crew.add_upstream(upstream, source.take()).is_err() {
+            return Err(TierError::NoMemory);
+        }
+    }
+    Ok(crew)
+}
+
+// What the upstreams send with.
+fn lines_of<K: NodeName, Q: FeedName, R: Net + Log + Drop>(
+    alloc: Global,
+    ends: Vec<FeedEnd<NodeLink<K>, Q>>,
+) -> Result<Vec<Line<K, Q, UpstreamSockets<R>>>, TierError>
+    requires unsent { AllByRecursion (λ e. e.1 ≡ []) ends.items }
+{
+    let mut lines = Vec::with_capacity(alloc, ends.len())?;
+    for end in ends {
+        lines.push(Line::new(end))?;
+    }
+    Ok(lines)
+}
+
+// A thread for each upstream, and one for each worker.
+fn crew_of<'a, 'x, K: NodeName, Q: FeedName, R: Wait + Net + Log + Drop>(
+    alloc: Global,
+    stage: &'a Stage<'x, R>,
+    outfit: Outfit<K, Q, R>,
+) -> Result<RelayCrew<'a, 'x, K, Q, R>, TierError>
+    requires unsent { AllByRecursion (λ e. e.1 ≡ []) outfit.ends.items }
+{
+    let Outfit {
+        doors,
+        ends,
+        connectors,
+        mut views,
+    } = outfit;
+    let lines = lines_of(alloc, ends)?;
+    let crew = add_workers(Crew::new(alloc), doors, &mut views)?;
+    add_upstreams(crew, &*stage, lines, connectors, views)
+}
+
+// Runs the node, and tells what came of it.
+fn run<
+    'x,
+    K: NodeName + Send + Sync,
+    Q: FeedName + Send + Sync,
+    R: Threads
+        + Wait
+        + Net<Listener = TcpListener, Stream = TcpStream>
+        + Log
+        + Copy
+        + Drop
+        + Send
+        + Sync,
+>(
+    rt: &'x R,
+    relay: Relay<R>,
+    schema: &'x Schema,
+    parts: Parts<K, Q, Handle<K, &'x R>>,
+) -> Result<Closing, TierError>
+    requires schema { schema.now ≡ K.schema }
+    requires in_step { IsInStep (published parts.node.publisher.handle) (pending parts.node.publisher.handle) parts.node.publisher.front parts.node.publisher.kept (steps_in parts.node.intake.store) }
+    requires unsent { AllByRecursion (λ e. e.1 ≡ []) parts.ends.items }
+{
+    let Parts {
+        node,
+        queue,
+        ends,
+        views,
+        board,
+    } = parts;
+    let Relay {
+        alloc,
+        places,
+        upstreams,
+        ending,
+        ends_on_refusal,
+        ..
+    } = relay;
+    let Places { doors, bells, .. } = places;
+    let Upstreams {
+        connectors,
+        bells: upward,
+    } = upstreams;
+    let outfit = Outfit {
+        doors,
+        ends,
+        connectors,
+        views,
+    };
+    let stage = Stage::new(rt, alloc, schema, bells, upward)?;
+    let rung = if ends_on_refusal {
+        Some(&*ending)
+    } else {
+        None
+    };
+    let watching = Watching {
+        rt: &*rt,
+        ending: rung,
+    };
+    staged(
+        rt, alloc, schema, &queue, &board, &stage, &watching, node, outfit,
+    )
+}
+
+// The same, where all is there that the threads share.
+fn staged<
+    'a,
+    'x,
+    'e,
+    K: NodeName + Send + Sync,
+    Q: FeedName + Send + Sync,
+    R: Threads
+        + Wait
+        + Net<Listener = TcpListener, Stream = TcpStream>
+        + Log
+        + Copy
+        + Drop
+        + Send
+        + Sync,
+>(
+    rt: &'a R,
+    alloc: Global,
+    schema: &'a Schema,
+    queue: &'a FeedQueue<NodeLink<K>, Q>,
+    board: &'a Mutex<Board<K>>,
+    stage: &'a Stage<'x, R>,
+    watching: &'a Watching<'x, 'e, R>,
+    node: Node<K, Q, Handle<K, &'x R>>,
+    outfit: Outfit<K, Q, R>,
+) -> Result<Closing, TierError>
+    requires schema { schema.now ≡ K.schema }
+    requires unsent { AllByRecursion (λ e. e.1 ≡ []) outfit.ends.items }
+    requires in_step { IsInStep (published node.publisher.handle) (pending node.publisher.handle) node.publisher.front node.publisher.kept (steps_in node.intake.store) }
+{
+    let crew = crew_of(alloc, &*stage, outfit)?;
+    let shared = Shared {
+        rt: &*rt,
+        schema: &*schema,
+        queue: &*queue,
+        board: &*board,
+        desk: &stage.desk,
+        bells: &stage.bells,
+        upward: &stage.upward,
+        counters: &stage.counters,
+        watcher: &*watching,
+        limits: LIMITS,
+    };
+    relay_desk_sends();
+    match run_node(alloc, &shared, node, crew) {
+        Ok(ran) => closing_of_relay(&*rt, alloc, &*queue, &*board, ran),
+        Err(_unrun) => Err(TierError::NoMemory),
+    }
+}

@@ -1,0 +1,301 @@
+//! The source over sockets.
+
+ghost use Rattle.std.specs.Prelude.{◌≡◌, ◌≤◌, []};
+ghost use Rattle.std.specs.List.{AllByRecursion};
+ghost use Rattle.left_right.specs.Handles.{published, pending};
+ghost use Rattle.ovs_folder.specs.InStep.{IsInStep};
+ghost use Rattle.ovs_folder.specs.Ledger.{IsFresh, steps_in};
+
+use crate::closing::{Closing, closing_of_source};
+use crate::crossing::source_desk_sends;
+use crate::error::TierError;
+use crate::places::{LIMITS, Places, WORKERS};
+use crate::stop::Stop;
+use crate::watching::Watching;
+use log::Log;
+use ovs_engine::{Counters, WorkerParts};
+use ovs_links::Step;
+use ovs_node::{
+    Board, FeedEnd, FeedName, FeedQueue, Handle, Node, NodeError, NodeLink, NodeName, OpenNode,
+    Opened, Parts, View,
+};
+use ovs_origin::{
+    LockedSource, NodeSource, SharedSource, SourceCrew, SourceLine, SourceParts, run_source,
+};
+use ovs_sockets::{Ending, IsEnding, SocketBell, SocketDoors};
+use ovs_source::{FreshRows, Source, SourceDesk};
+use ovs_types::{RowId, Schema, TxnId};
+use std::alloc::Global;
+use std::marker::Brand;
+use std::net::{Net, SocketAddr, TcpListener, TcpStream};
+use std::sync::{Arc, Mutex, Wait};
+use std::thread::Threads;
+
+/// Which source to run.
+#[derive(Clone, Copy, Debug, PartialEq, Eq)]
+pub struct SourcePlan {
+    /// Where its readers come in.
+    pub listen: SocketAddr,
+    /// The id of the first commit; those after it count on.
+    pub first_commit: TxnId,
+    /// The id of the first row that is inserted; those after it count on.
+    pub first_row: RowId,
+    /// How many connections each worker takes at most.
+    pub accepts: u32,
+}
+
+/// A source that listens, and is served once it runs.
+#[derive(Drop)]
+pub struct SourceNode<R: Net + Log + Drop> {
+    rt: R,
+    alloc: Global,
+    places: Places<R>,
+    ending: Arc<Ending>,
+    first_commit: TxnId,
+    first_row: RowId,
+}
+
+impl<
+    R: Threads
+        + Wait
+        + Net<Listener = TcpListener, Stream = TcpStream>
+        + Log
+        + Copy
+        + Drop
+        + Send
+        + Sync,
+> SourceNode<R> {
+    /// Takes the source's address.
+    ///
+    /// # Errors
+    /// `Listening` where the address can't be had; `System`; `NoMemory`.
+    pub fn open(rt: R, alloc: Global, plan: SourcePlan) -> Result<SourceNode<R>, TierError> {
+        let is_ending = IsEnding::new(alloc)?;
+        let places = Places::new(rt, alloc, plan.listen, plan.accepts, &is_ending)?;
+        let mut ending = Ending::new(alloc, is_ending);
+        ending.add(&places.bells)?;
+        Ok(SourceNode {
+            rt,
+            alloc,
+            places,
+            ending: Arc::new(alloc, ending)?,
+            first_commit: plan.first_commit,
+            first_row: plan.first_row,
+        })
+    }
+
+    /// Where its readers come in.
+    pub fn address(&self) -> SocketAddr {
+        self.places.address
+    }
+
+    /// What brings it to its end.
+    ///
+    /// # Errors
+    /// `NoMemory` alone.
+    pub fn stop(&self) -> Result<Stop, TierError> {
+        Ok(Stop::new(self.ending.clone()?))
+    }
+
+    /// Runs it until all its threads have come to their ends.
+    ///
+    /// # Errors
+    /// `NoMemory`; `NotBack`.
+    pub fn run(self, schema: &Schema) -> Result<Closing, TierError> {
+        let opened = Opened::<Step>::new();
+        open::<Brand, R>(self, schema, opened)
+    }
+}
+
+// Runs the source, where this history was opened.
+fn open<
+    K: NodeName + Send + Sync,
+    R: Threads
+        + Wait
+        + Net<Listener = TcpListener, Stream = TcpStream>
+        + Log
+        + Copy
+        + Drop
+        + Send
+        + Sync,
+>(source: SourceNode<R>, schema: &Schema, opened: Opened<Step>) -> Result<Closing, TierError>
+    requires name { (opened.seen.book ≡ K.book) × (schema.now ≡ K.schema) }
+{
+    let (rt, alloc) = (source.rt, source.alloc);
+    let views = WORKERS.saturating_add(1);
+    let node = OpenNode::<K, Handle<K, &R>>::new(alloc, &rt, schema, opened, 1, views)?;
+    named::<K, Brand, R>(&rt, source, schema, node)
+}
+
+// The same, where the node is opened.
+fn named<
+    K: NodeName + Send + Sync,
+    Q: FeedName + Send + Sync,
+    R: Threads
+        + Wait
+        + Net<Listener = TcpListener, Stream = TcpStream>
+        + Log
+        + Copy
+        + Drop
+        + Send
+        + Sync,
+>(
+    rt: &R,
+    source: SourceNode<R>,
+    schema: &Schema,
+    node: OpenNode<K, Handle<K, &R>>,
+) -> Result<Closing, TierError>
+    requires schema { schema.now ≡ K.schema }
+    requires table { node.feed.items.table.shared.table_id ≡ Q.table }
+    requires upstreams { node.upstreams ≤ 4 }
+    requires store { IsFresh K.schema node.store }
+    requires publisher { IsInStep (published node.publisher.handle) (pending node.publisher.handle) node.publisher.front node.publisher.kept [] }
+{
+    let parts = node.named::<Q>()?;
+    run(rt, source, schema, parts)
+}
+
+// A desk of a source without a commit.
+fn desk_of<K: NodeName>(
+    alloc: Global,
+    schema: &Schema,
+    first_commit: TxnId,
+    first_row: RowId,
+) -> Result<NodeSource<K>, TierError>
+    requires schema { schema.now ≡ K.schema }
+{
+    let source = Source::new(alloc, schema)?;
+    let fresh = FreshRows::new(first_row);
+    Ok(NodeSource::new(SourceDesk::new(alloc, source, fresh, first_commit)))
+}
+
+// The desk's thread, and a worker at each of these doors.
+fn crew_of<'a, K: NodeName, Q: FeedName, R: Wait + Log + Drop>(
+    alloc: Global,
+    end: FeedEnd<NodeLink<K>, Q>,
+    views: Vec<View<K>>,
+    doors: Vec<SocketDoors<R>>,
+) -> Result<SourceCrew<K, Q, LockedSource<'a, K, R>, SocketDoors<R>>, TierError>
+    requires unsent { end.1 ≡ [] }
+{
+    let mut views = views;
+    let parts = SourceParts {
+        line: SourceLine::new(end),
+        view: views.pop().ok_or(TierError::Node(NodeError::BadCount))?,
+    };
+    let Ok(mut crew) = SourceCrew::new(alloc, parts) else {
+        return Err(TierError::NoMemory);
+    };
+    for (doors, view) in doors.into_iter().zip(views) {
+        if crew.add_worker(WorkerParts { view, doors }).is_err() {
+            return Err(TierError::NoMemory);
+        }
+    }
+    Ok(crew)
+}
+
+// What a source's threads share beside its node's own.
+#[derive(Drop)]
+struct Stage<'x, K: NodeName, R: Wait> {
+    desk: LockedSource<'x, K, R>,
+    // Of the workers.
+    bells: Vec<SocketBell>,
+    counters: Counters,
+}
+
+// Runs the node, and tells what came of it.
+fn run<
+    'x,
+    K: NodeName + Send + Sync,
+    Q: FeedName + Send + Sync,
+    R: Threads
+        + Wait
+        + Net<Listener = TcpListener, Stream = TcpStream>
+        + Log
+        + Copy
+        + Drop
+        + Send
+        + Sync,
+>(
+    rt: &'x R,
+    source: SourceNode<R>,
+    schema: &Schema,
+    parts: Parts<K, Q, Handle<K, &'x R>>,
+) -> Result<Closing, TierError>
+    requires schema { schema.now ≡ K.schema }
+    requires in_step { IsInStep (published parts.node.publisher.handle) (pending parts.node.publisher.handle) parts.node.publisher.front parts.node.publisher.kept (steps_in parts.node.intake.store) }
+    requires unsent { AllByRecursion (λ e. e.1 ≡ []) parts.ends.items }
+{
+    let Parts {
+        node,
+        queue,
+        mut ends,
+        views,
+        board,
+    } = parts;
+    let SourceNode {
+        alloc,
+        places,
+        first_commit,
+        first_row,
+        ..
+    } = source;
+    let Places { doors, bells, .. } = places;
+    let desk = LockedSource::new(rt, desk_of::<K>(alloc, schema, first_commit, first_row)?);
+    let stage = Stage {
+        desk,
+        bells,
+        counters: Counters::new(),
+    };
+    let end = ends.pop().ok_or(TierError::Node(NodeError::BadCount))?;
+    let crew = crew_of(alloc, end, views, doors)?;
+    let watching = Watching {
+        rt: &*rt,
+        ending: None,
+    };
+    staged(rt, alloc, &queue, &board, &stage, &watching, node, crew)
+}
+
+// The same, where all is there that the threads share.
+fn staged<
+    'a,
+    'x,
+    'e,
+    K: NodeName + Send + Sync,
+    Q: FeedName + Send + Sync,
+    R: Threads
+        + Wait
+        + Net<Listener = TcpListener, Stream = TcpStream>
+        + Log
+        + Copy
+        + Drop
+        + Send
+        + Sync,
+>(
+    rt: &'a R,
+    alloc: Global,
+    queue: &'a FeedQueue<NodeLink<K>, Q>,
+    board: &'a Mutex<Board<K>>,
+    stage: &'a Stage<'x, K, R>,
+    watching: &'a Watching<'x, 'e, R>,
+    node: Node<K, Q, Handle<K, &'x R>>,
+    crew: SourceCrew<K, Q, LockedSource<'x, K, R>, SocketDoors<R>>,
+) -> Result<Closing, TierError>
+    requires in_step { IsInStep (published node.publisher.handle) (pending node.publisher.handle) node.publisher.front node.publisher.kept (steps_in node.intake.store) }
+{
+    let shared = SharedSource {
+        rt: &*rt,
+        queue: &*queue,
+        board: &*board,
+        desk: &stage.desk,
+        bells: &stage.bells,
+        counters: &stage.counters,
+        watcher: &*watching,
+        limits: LIMITS,
+    };
+    source_desk_sends();
+    match run_source(alloc, &shared, node, crew) {
+        Ok(ran) => closing_of_source(&*rt, alloc, &*queue, &*board, ran),
+        Err(_unrun) => Err(TierError::NoMemory),
+    }
+}
