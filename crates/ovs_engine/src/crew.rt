@@ -1,6 +1,7 @@
 //! The threads that a node is to have.
 
-ghost use Rattle.std.specs.Prelude.{◌≡◌, ◌+◌, OnOk, OnErr, IfErr, vec_len};
+ghost use Rattle.std.specs.Prelude.{◌≡◌, ◌+◌, ◌++◌, ◌∷◌, [], Some, None, IfSome, OnOk, OnErr, IfErr, map, vec_len};
+ghost use Rattle.ovs_engine.specs.declared.party.Party.{Party};
 
 use crate::connector::Connector;
 use crate::desk_lock::UpwardDesk;
@@ -86,6 +87,9 @@ impl<
         desk: Option<SourceDesk<'a, L, B>>,
     ) -> Result<(), UpstreamParts<K, Q, C>>
         ensures added { OnOk result (vec_len self.new.jobs ≡ vec_len self.old.jobs + 1) }
+        ensures last { OnOk result ((side : _) × (map (λ (job : _). job.0) self.new.jobs.items ≡ map (λ (job : _). job.0) self.old.jobs.items
+            ++ Party.Upstream (record { line = upstream.line; connector = upstream.connector; source = side }) ∷ [])
+            × IfSome desk.entry (λ d. side.desk ≡ Some d.desk) × (desk.entry ≡ None → side.desk ≡ None)) }
         ensures handed_back { IfErr result (λ back. back ≡ upstream) }
         ensures unchanged { OnErr result (self.new.jobs.items ≡ self.old.jobs.items) }
     {
@@ -113,6 +117,8 @@ impl<
     /// For want of memory it is handed back; then there are those that were.
     pub fn add_worker(&mut self, worker: WorkerParts<K, D>) -> Result<(), WorkerParts<K, D>>
         ensures added { OnOk result (vec_len self.new.jobs ≡ vec_len self.old.jobs + 1) }
+        ensures last { OnOk result (map (λ (job : _). job.0) self.new.jobs.items ≡ map (λ (job : _). job.0) self.old.jobs.items
+            ++ Party.Worker worker.doors ∷ []) }
         ensures handed_back { IfErr result (λ back. back ≡ worker) }
         ensures unchanged { OnErr result (self.new.jobs.items ≡ self.old.jobs.items) }
     {

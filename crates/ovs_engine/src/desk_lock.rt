@@ -1,9 +1,9 @@
 //! A node's desk, which its threads share.
 
-ghost use Rattle.std.specs.Prelude.{◌≡◌, IfOk, IfSome, map};
-ghost use Rattle.ovs_service.specs.Replies.{RepliesTo, IsAnswer, number_of};
+ghost use Rattle.std.specs.Prelude.{IfOk, IfSome};
+ghost use Rattle.ovs_service.specs.Replies.{RepliesTo, IsAnswer};
 
-use ovs_authority::{Ask, Authority, Member};
+use ovs_authority::{Ask, Authority};
 use ovs_desk::{BadReply, RelayDesk, SourceMessage};
 use ovs_json::NoMemory;
 use ovs_wire::Message;
@@ -29,10 +29,6 @@ pub trait DeskLock {
 
     /// Ends a session.
     fn end_session(&self, who: u64);
-
-    /// Notes for each of these sessions whether `collect` has a message for it.
-    fn mark(&self, members: &mut [Member])
-        ensures same { map number_of members.new ≡ map number_of members.old };
 }
 
 /// A relay's desk, as the thread of the upstream shares it that is the source.
@@ -84,10 +80,6 @@ impl<'a, R: Wait> DeskLock for LockedDesk<'a, R> {
 
     fn end_session(&self, who: u64) {
         self.desk.lock(self.rt).end_session(who);
-    }
-
-    fn mark(&self, members: &mut [Member]) {
-        self.desk.lock(self.rt).mark(members);
     }
 }
 

@@ -1,11 +1,11 @@
 //! The sides of a node's desk.
 
-ghost use Rattle.std.specs.Prelude.{◌≡◌};
+ghost use Rattle.std.specs.Prelude.{◌≡◌, Some, None, IfSome};
 
 use crate::crew::SourceDesk;
 use crate::desk_lock::{DeskLock, UpwardDesk};
 use crate::folding::ring_all;
-use ovs_authority::{Ask, Member, Verb};
+use ovs_authority::{Ask, Verb};
 use ovs_desk::{BadReply, SourceMessage};
 use ovs_follow::SourceSide;
 use ovs_hall::Bell;
@@ -91,10 +91,6 @@ impl<'a, L: DeskLock, U: Bell, B: Bell> Desk for SharedDesk<'a, L, U, B> {
             ring_all(self.bells);
         }
     }
-
-    fn mark(&mut self, members: &mut [Member]) {
-        self.desk.mark(members);
-    }
 }
 
 /// The desk as the thread of the upstream sees it that is the source. That of another upstream's thread has no desk: nothing is
@@ -109,7 +105,10 @@ pub struct SharedSide<'a, L: UpwardDesk, B: Bell> {
 
 impl<'a, L: UpwardDesk, B: Bell> SharedSide<'a, L, B> {
     /// The side of this desk, or that of an upstream that isn't the source.
-    pub(crate) fn new(alloc: Global, source: Option<SourceDesk<'a, L, B>>) -> SharedSide<'a, L, B> {
+    pub(crate) fn new(alloc: Global, source: Option<SourceDesk<'a, L, B>>) -> SharedSide<'a, L, B>
+        ensures source { IfSome source.entry (λ s. (result.desk ≡ Some s.desk) × (result.bells ≡ s.bells)) }
+        ensures none { source.entry ≡ None → result.desk ≡ None }
+    {
         match source {
             Some(SourceDesk { desk, bells }) => SharedSide {
                 alloc,

@@ -41,6 +41,7 @@ impl<'a, K: NodeName, Q: FeedName, R: Wait> FeedSink<'a, K, Q, R> {
     /// The end, and the id of the link that was sent last, if one was.
     pub fn into_parts(self) -> (FeedEnd<NodeLink<K>, Q>, Option<TxnId>)
         ensures end { result.0 ≡ self.entry.end }
+        ensures last { result.1 ≡ self.entry.last }
     {
         let FeedSink { end, last, .. } = self;
         (end, last)

@@ -1,6 +1,7 @@
 //! What is left of a node once its threads have come to their ends.
 
-ghost use Rattle.std.specs.Prelude.{◌≡◌};
+ghost use Rattle.std.specs.Prelude.{◌≡◌, ◌+◌, ◌∷◌, length, option_to_list, IfSome, vec_len};
+ghost use Rattle.std.specs.Vec.Iter.{into_iter_items, into_iter_len};
 
 use crate::party::Party;
 use crate::serving::Back;
@@ -31,6 +32,8 @@ impl<K: NodeName, F: Drop, D: Drop, N> Finished<K, F, D, N> {
     /// The node, and what comes back of its threads, in the order in which they were added.
     pub fn new(node: N, backs: Vec<Back<K, F, D>>) -> Finished<K, F, D, N>
         ensures node { result.node ≡ node }
+        ensures all { into_iter_len result.backs ≡ vec_len backs }
+        ensures backs { into_iter_items result.backs ≡ backs.items }
     {
         Finished {
             node,
@@ -41,6 +44,9 @@ impl<K: NodeName, F: Drop, D: Drop, N> Finished<K, F, D, N> {
     /// What the next thread hands back, in the order in which they were added. Each is given once.
     pub fn next_back(&mut self) -> Option<Returned<K, F, D>>
         ensures node { self.new.node ≡ self.old.node }
+        ensures count { into_iter_len self.new.backs + length (option_to_list result) ≡ into_iter_len self.old.backs }
+        ensures next { IfSome result (λ r. (back : _) × (into_iter_items self.old.backs ≡ back ∷ into_iter_items self.new.backs)
+            × (r.party ≡ back.0) × (r.tally ≡ back.3)) }
     {
         let (party, handle, known, tally) = self.backs.next()?;
         Some(Returned {

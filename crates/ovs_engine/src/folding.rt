@@ -1,6 +1,6 @@
 //! What the folder's thread does, beside all others.
 
-ghost use Rattle.std.specs.Prelude.{◌≡◌, IfOk, IfErr};
+ghost use Rattle.std.specs.Prelude.{◌≡◌, IfOk, IfErr, vec_len};
 ghost use Rattle.left_right.specs.Handles.{published, pending};
 ghost use Rattle.ovs_folder.specs.InStep.{IsInStep};
 ghost use Rattle.ovs_folder.specs.Ledger.{steps_in};
@@ -36,7 +36,7 @@ pub struct Folding<'a, K: NodeName, Q: FeedName, B: Bell, O: Watcher, R: Wait> {
     pub running: &'a AtomicU64,
 }
 
-/// There was no memory to begin: nothing was done, and all is handed back.
+/// There was no memory to begin: no job was done, and all is handed back.
 #[derive(Drop)]
 pub struct NotFolded<J, N> {
     /// What the threads were to have.
@@ -116,7 +116,8 @@ pub fn fold_beside<
 >
     requires in_step { IsInStep (published node.publisher.handle) (pending node.publisher.handle) node.publisher.front node.publisher.kept (steps_in node.intake.store) }
     ensures in_step { IfOk result (λ r. IsInStep (published r.1.publisher.handle) (pending r.1.publisher.handle) r.1.publisher.front r.1.publisher.kept (steps_in r.1.intake.store)) }
-    ensures handed_back { IfErr result (λ n. n.jobs ≡ jobs) }
+    ensures all { IfOk result (λ r. vec_len r.0 ≡ vec_len jobs) }
+    ensures handed_back { IfErr result (λ n. (n.jobs ≡ jobs) × IsInStep (published n.node.publisher.handle) (pending n.node.publisher.handle) n.node.publisher.front n.node.publisher.kept (steps_in n.node.intake.store)) }
 {
     folding.running.store(jobs.len() as u64, Ordering::SeqCst);
     let folds = move || -> Node<K, Q, Handle<K, H>>

@@ -3,6 +3,7 @@
 
 mod connector;
 mod crew;
+mod crossing;
 mod desk_lock;
 mod desks;
 mod feed_sink;
@@ -19,6 +20,7 @@ mod workers;
 
 pub use connector::Connector;
 pub use crew::{Crew, SourceDesk, UpstreamParts, WorkerParts};
+pub use crossing::relay_desk_sends;
 pub use desk_lock::{DeskLock, LockedDesk, UpwardDesk};
 pub use feed_sink::FeedSink;
 pub use finished::{Finished, Returned};

@@ -1,6 +1,7 @@
 //! A node in threads, from its beginning to its end.
 
-ghost use Rattle.std.specs.Prelude.{◌≡◌, IfOk};
+ghost use Rattle.std.specs.Prelude.{◌≡◌, IfOk, IfErr, vec_len};
+ghost use Rattle.std.specs.Vec.Iter.{into_iter_len};
 ghost use Rattle.left_right.specs.Handles.{published, pending};
 ghost use Rattle.ovs_folder.specs.InStep.{IsInStep};
 ghost use Rattle.ovs_folder.specs.Ledger.{steps_in};
@@ -83,7 +84,7 @@ pub type ThreadBack<K, Q, C, D> = Returned<K, Line<K, Q, C>, D>;
 /// What is left of a node whose threads have come to their ends.
 pub type Ran<K, Q, C, D, N> = Finished<K, Line<K, Q, C>, D, N>;
 
-/// There was no memory to begin: nothing was done, and all is handed back.
+/// There was no memory to begin: no thread was started, and all is handed back.
 #[derive(Drop)]
 pub struct NotRun<
     'a,
@@ -131,6 +132,8 @@ pub fn run_node<
     requires schema { shared.now.schema.now ≡ K.schema }
     requires in_step { IsInStep (published node.publisher.handle) (pending node.publisher.handle) node.publisher.front node.publisher.kept (steps_in node.intake.store) }
     ensures in_step { IfOk result (λ r. IsInStep (published r.node.publisher.handle) (pending r.node.publisher.handle) r.node.publisher.front r.node.publisher.kept (steps_in r.node.intake.store)) }
+    ensures all { IfOk result (λ r. into_iter_len r.backs ≡ vec_len crew.entry.jobs) }
+    ensures handed_back { IfErr result (λ n. (n.crew.jobs ≡ crew.entry.jobs) × IsInStep (published n.node.publisher.handle) (pending n.node.publisher.handle) n.node.publisher.front n.node.publisher.kept (steps_in n.node.intake.store)) }
 {
     let folding = Folding {
         rt: shared.rt,

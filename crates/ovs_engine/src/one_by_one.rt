@@ -1,6 +1,6 @@
 //! Doors that let one session in after another.
 
-ghost use Rattle.std.specs.Prelude.{◌≡◌, ◌≢◌, true, None, IfSome};
+ghost use Rattle.std.specs.Prelude.{◌≡◌, ◌≢◌, ◌⊎◌, true, None, IfSome};
 ghost use Rattle.ovs_engine.specs.Lines.{AdmitsBytes};
 
 use crate::connector::Connector;
@@ -79,6 +79,9 @@ impl<C: Connector + Drop> Doors for OneByOne<C> {
     fn wait(&mut self, is_busy: bool) -> Woken
         ensures closed { result.is_closed ≡ true → self.new.course ≡ Course.Over }
         ensures no_more { self.old.course ≡ Course.Over → self.new.course ≡ Course.Over }
+        ensures due { self.old.course ≡ Course.Due → self.new.course ≡ Course.Due }
+        ensures inside { self.old.course ≡ Course.Inside → self.new.course ≡ Course.Inside }
+        ensures asked { self.old.course ≡ Course.Free → (self.new.course ≡ Course.Due) ⊎ (self.new.course ≡ Course.Over) }
     {
         match self.course {
             Course::Free if self.connector.next() => self.course = Course::Due,
@@ -97,7 +100,10 @@ impl<C: Connector + Drop> Doors for OneByOne<C> {
     }
 
     // Who is inside has the first number, since a hall was empty when it came in.
-    fn next_ready(&mut self) -> Option<usize> {
+    fn next_ready(&mut self) -> Option<usize>
+        ensures first { IfSome result (λ key. key ≡ 0) }
+        ensures same { self.new.course ≡ self.old.course }
+    {
         if !self.is_ready {
             return None;
         }

@@ -1,6 +1,6 @@
 //! The jobs of a node's threads. What crosses into a thread and back is told in tuples of what it is made of.
 
-ghost use Rattle.std.specs.Prelude.{◌≡◌, IfOk, IfErr};
+ghost use Rattle.std.specs.Prelude.{◌≡◌, IfOk, IfErr, vec_len};
 
 use left_right::ReadHandle;
 use ovs_threads::{NotBegun, Work, beside};
@@ -39,6 +39,7 @@ pub(crate) fn beside_with_views<
     NotBegun<(E, ReadHandle<Shown<K>>, Front<K>), S>,
 >
     requires here { S.pre here }
+    ensures all { IfOk result (λ r. vec_len r.0 ≡ vec_len jobs) }
     ensures here { IfOk result (λ r. S.post here r.1) }
     ensures handed_back { IfErr result (λ n. (n.jobs ≡ jobs) × (n.here ≡ here)) }
 {

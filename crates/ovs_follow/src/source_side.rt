@@ -1,6 +1,6 @@
 //! What stands between an upstream that is the source and the sessions that ask it.
 
-ghost use Rattle.std.specs.Prelude.{◌≡◌, None, Ok, OnOk};
+ghost use Rattle.std.specs.Prelude.{◌≡◌, None, Ok, OnOk, OnErr};
 ghost use Rattle.ovs_desk.specs.declared.source_message.SourceMessage.{SourceMessage};
 
 use ovs_desk::{BadReply, SourceMessage};
@@ -51,7 +51,9 @@ impl SourceSide for NoSource {
         Ok(None)
     }
 
-    fn heard(&mut self, _message: SourceMessage) -> Result<(), BadReply> {
+    fn heard(&mut self, _message: SourceMessage) -> Result<(), BadReply>
+        ensures never_refused { OnErr result ⊥ }
+    {
         Ok(())
     }
 

@@ -1,5 +1,5 @@
 //! Seats by number.
-ghost use Rattle.std.specs.Prelude.{◌≡◌, ◌≢◌, ◌≤◌, ℕ, Some, None, Err, All, IfSome, option_copied};
+ghost use Rattle.std.specs.Prelude.{◌≡◌, ◌≢◌, ◌≤◌, ◌↔◌, ℕ, Some, None, Err, All, IfSome, option_copied};
 ghost use Rattle.slab.specs.Slab.{get, slab_len, entries, Updates};
 ghost use Rattle.ovs_hall.specs.Seats.{Became};
 ghost use Rattle.ovs_session.specs.Moving.{Moved, IsAnswer, ended_by};
@@ -57,7 +57,9 @@ impl<V: Host, R: Read + Drop, W: Write + Drop> Hall<V, R, W> {
 
     /// Seats a session and gives its number, or ends it where there is no memory.
     pub fn enter(&mut self, seat: Seat<V, R, W>, host: &mut V) -> Option<usize>
+        ensures number { IfSome result (λ key. key ≡ self.old.seats.vacant_key) }
         ensures seated { IfSome result (λ key. (get self.old.seats key ≡ None) × Updates self.old.seats self.new.seats key (Some seat)) }
+        ensures same { result ≡ None → (key : ℕ) → get self.new.seats key ≡ get self.old.seats key }
         ensures silent { result ≡ None → V.is_silent host.new seat.session.core }
         ensures stays { (other : V.Session) → V.is_silent host.old other → V.is_silent host.new other }
     {
@@ -75,7 +77,7 @@ impl<V: Host, R: Read + Drop, W: Write + Drop> Hall<V, R, W> {
         ensures others { (other : ℕ) → other ≢ key → get self.new.seats other ≡ get self.old.seats other }
         ensures this { Became (λ a b. (b.began ≡ a.began) × Moved V.answers V.tells a.limits.most_unsent (R.remaining a.reader) (R.remaining b.reader)
             (W.contents a.writer) (W.contents b.writer) a.session b.session) (get self.old.seats key) (get self.new.seats key) }
-        ensures none { result ≡ None → get self.old.seats key ≡ None }
+        ensures none { (result ≡ None) ↔ (get self.old.seats key ≡ None) }
         ensures over { (e : _) → IfSome (get self.old.seats key) (λ a. a.session.ended ≡ Some e → result ≡ Some (Err e)) }
         ensures ends { IfSome result (λ r. Became (λ a b. a.session.ended ≡ None → b.session.ended ≡ ended_by r) (get self.old.seats key) (get self.new.seats key)) }
         ensures answer { IfSome result (λ r. Became (λ a b. a.session.ended ≡ None → IsAnswer V.refuses r b.session) (get self.old.seats key) (get self.new.seats key)) }

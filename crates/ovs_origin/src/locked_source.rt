@@ -5,7 +5,7 @@ ghost use Rattle.ovs_links.specs.Sets.{IsOfTables};
 
 use crate::node_source::NodeSource;
 use crate::origin_desk::OriginDesk;
-use ovs_authority::{Ask, Member};
+use ovs_authority::Ask;
 use ovs_engine::DeskLock;
 use ovs_hall::Bell;
 use ovs_json::NoMemory;
@@ -46,10 +46,6 @@ impl<'a, K: NodeName, R: Wait> DeskLock for LockedSource<'a, K, R> {
 
     fn end_session(&self, who: u64) {
         self.desk.lock(self.rt).end_session(who);
-    }
-
-    fn mark(&self, members: &mut [Member]) {
-        self.desk.lock(self.rt).mark(members);
     }
 }
 

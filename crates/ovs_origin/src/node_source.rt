@@ -1,10 +1,10 @@
 //! The source's desk of a node.
 
-ghost use Rattle.std.specs.Prelude.{◌≡◌, [], IfOk, IfSome, map};
+ghost use Rattle.std.specs.Prelude.{◌≡◌, [], IfOk, IfSome};
 ghost use Rattle.ovs_links.specs.Sets.{IsOfTables};
-ghost use Rattle.ovs_service.specs.Replies.{RepliesTo, IsAnswer, number_of};
+ghost use Rattle.ovs_service.specs.Replies.{RepliesTo, IsAnswer};
 
-use ovs_authority::{Ask, Authority, Member};
+use ovs_authority::{Ask, Authority};
 use ovs_json::NoMemory;
 use ovs_links::Link;
 use ovs_source::SourceDesk;
@@ -79,13 +79,6 @@ impl<K: NodeName> NodeSource<K> {
     /// `end_session` of the desk.
     pub(crate) fn end_session(&mut self, who: u64) {
         self.desk.end_session(who);
-    }
-
-    /// `mark` of the desk.
-    pub(crate) fn mark(&self, members: &mut [Member])
-        ensures same { map number_of members.new ≡ map number_of members.old }
-    {
-        self.desk.mark(members);
     }
 
     /// `next_link` of the desk.

@@ -1,6 +1,7 @@
 //! What the thread of a source's desk sends with.
 
-ghost use Rattle.std.specs.Prelude.{◌≡◌, []};
+ghost use Rattle.std.specs.Prelude.{◌≡◌, [], None};
+ghost use Rattle.ovs_session.specs.declared.ended.Ended.{Ended};
 ghost use Rattle.ovs_links.specs.Sets.{AllOf};
 
 use crate::origin_desk::OriginDesk;
@@ -19,7 +20,7 @@ pub struct SourceLine<K: NodeName, Q: FeedName, L: OriginDesk<K>> {
     ghost admitted: { ∥ AllOf L.gives end.1 ∥₁ },
 }
 
-/// What is left of it once nothing more is sent.
+/// What is left of it once nothing more is sent: where that ended `Closed`, all that the desk gave was sent.
 #[derive(Drop)]
 pub struct SourceSent<K: NodeName, Q: FeedName, L: OriginDesk<K>> {
     /// What the links were sent with.
@@ -28,6 +29,7 @@ pub struct SourceSent<K: NodeName, Q: FeedName, L: OriginDesk<K>> {
     pub unsent: Option<Link>,
     /// Why nothing more is sent.
     pub ended: Ended,
+    pub ghost whole: { ended ≡ Ended.Closed → unsent ≡ None },
 }
 
 impl<K: NodeName, Q: FeedName, L: OriginDesk<K>> SourceLine<K, Q, L> {

@@ -1,6 +1,7 @@
 //! A source in threads, from its beginning to its end.
 
-ghost use Rattle.std.specs.Prelude.{IfOk};
+ghost use Rattle.std.specs.Prelude.{◌≡◌, IfOk, IfErr, vec_len};
+ghost use Rattle.std.specs.Vec.Iter.{into_iter_len};
 ghost use Rattle.left_right.specs.Handles.{published, pending};
 ghost use Rattle.ovs_folder.specs.InStep.{IsInStep};
 ghost use Rattle.ovs_folder.specs.Ledger.{steps_in};
@@ -106,7 +107,7 @@ impl<'a, K: NodeName, Q: FeedName, L: OriginDesk<K>, R: Wait> Feeds<
 /// What is left of a source whose threads have come to their ends.
 pub type RanSource<K, Q, L, D, N> = Finished<K, SourceSent<K, Q, L>, D, N>;
 
-/// There was no memory to begin: nothing was done, and all is handed back.
+/// There was no memory to begin: no thread was started, and all is handed back.
 #[derive(Drop)]
 pub struct NotRunSource<K: NodeName, Q: FeedName, L: OriginDesk<K>, D: Doors + Drop, N> {
     /// The node.
@@ -143,6 +144,8 @@ fn beside_source<
 >
     requires in_step { IsInStep (published node.publisher.handle) (pending node.publisher.handle) node.publisher.front node.publisher.kept (steps_in node.intake.store) }
     ensures in_step { IfOk result (λ r. IsInStep (published r.1.publisher.handle) (pending r.1.publisher.handle) r.1.publisher.front r.1.publisher.kept (steps_in r.1.intake.store)) }
+    ensures all { IfOk result (λ r. vec_len r.0 ≡ vec_len jobs) }
+    ensures handed_back { IfErr result (λ n. (n.jobs ≡ jobs) × IsInStep (published n.node.publisher.handle) (pending n.node.publisher.handle) n.node.publisher.front n.node.publisher.kept (steps_in n.node.intake.store)) }
 {
     fold_beside(serving.alloc, folding, jobs, serving, node)
 }
@@ -176,6 +179,8 @@ pub fn run_source<
 >
     requires in_step { IsInStep (published node.publisher.handle) (pending node.publisher.handle) node.publisher.front node.publisher.kept (steps_in node.intake.store) }
     ensures in_step { IfOk result (λ r. IsInStep (published r.node.publisher.handle) (pending r.node.publisher.handle) r.node.publisher.front r.node.publisher.kept (steps_in r.node.intake.store)) }
+    ensures all { IfOk result (λ r. into_iter_len r.backs ≡ vec_len crew.jobs) }
+    ensures handed_back { IfErr result (λ n. (n.crew.jobs ≡ crew.jobs) × IsInStep (published n.node.publisher.handle) (pending n.node.publisher.handle) n.node.publisher.front n.node.publisher.kept (steps_in n.node.intake.store)) }
 {
     let folding = Folding {
         rt: shared.rt,

@@ -2,4 +2,3 @@ pub mod Settled
 pub mod Runs
 pub mod Promise
 pub mod Heard
-pub mod Marked

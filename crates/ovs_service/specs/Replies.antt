@@ -1,7 +1,6 @@
 -- What an authority is asked and sends.
-use Rattle.std.specs.Prelude.{◌≡◌, ℕ, Option, Some, None}
+use Rattle.std.specs.Prelude.{◌≡◌, Option, Some, None}
 use Rattle.serde_json.specs.Data.{Data}
-use Rattle.ovs_authority.specs.declared.authority.Member.{Member}
 use Rattle.ovs_authority.specs.declared.ask.Ask.{Ask}
 use Rattle.ovs_reader.specs.Answers.{Asked, seen_verb}
 use Rattle.ovs_wire.specs.declared.message.Message.{Message}
@@ -31,7 +30,3 @@ IsAnswer (Request method params id) = ⊥
 -- what is owed, and a reply or a notification
 abbrev pub IsOwed : (Message → Type 0) → Message → Type 0
 IsOwed owes m = owes m × IsAnswer m
-
--- which session it is
-abbrev pub number_of : Member → ℕ
-number_of m = m.who

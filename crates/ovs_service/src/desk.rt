@@ -1,10 +1,10 @@
 //! The authority as a service reaches it.
-ghost use Rattle.std.specs.Prelude.{◌≡◌, ℕ, Option, IfOk, IfSome, map};
+ghost use Rattle.std.specs.Prelude.{ℕ, Option, IfOk, IfSome};
 ghost use Rattle.ovs_authority.specs.declared.ask.Ask.{Ask};
 ghost use Rattle.ovs_wire.specs.declared.message.Message.{Message};
-ghost use Rattle.ovs_service.specs.Replies.{RepliesTo, IsAnswer, number_of};
+ghost use Rattle.ovs_service.specs.Replies.{RepliesTo, IsAnswer};
 
-use ovs_authority::{Ask, Member};
+use ovs_authority::Ask;
 use ovs_json::NoMemory;
 use ovs_wire::Message;
 use std::alloc::Global;
@@ -39,8 +39,4 @@ pub trait Desk {
     fn end_session(&mut self, who: u64)
         ensures silent { is_silent self.new who }
         ensures stays { (other : ℕ) → is_silent self.old other → is_silent self.new other };
-
-    /// Notes for each of these sessions whether `collect` has a message for it. No memory is taken.
-    fn mark(&mut self, members: &mut [Member])
-        ensures same { map number_of members.new ≡ map number_of members.old };
 }

@@ -1,13 +1,11 @@
 //! A node serves its readers.
-ghost use Rattle.std.specs.Prelude.{◌≡◌, ◌++◌, ℕ, List, IfOk, OnOk, OnErr, Err, map};
+ghost use Rattle.std.specs.Prelude.{◌≡◌, ◌++◌, ℕ, List, IfOk, OnOk, OnErr, Err};
 ghost use mathlib.Core.List.{IsPrefix};
 ghost use Rattle.ovs_wire.specs.Message.{Says};
-ghost use Rattle.ovs_service.specs.Replies.{number_of};
 ghost use Rattle.ovs_service.specs.Client.{new_client, SaysNothing, AnswersTo, TellsNew};
 
 use crate::client::Client;
 use crate::desk::Desk;
-use ovs_authority::Member;
 use ovs_hall::Host;
 use ovs_session::{Outbox, Refusal, Service};
 use ovs_views::{NodeName, Told, View};
@@ -70,14 +68,6 @@ impl<K: NodeName, D: Desk> NodeService<K, D> {
         ensures desk { self.new.desk ≡ self.old.desk }
     {
         self.view.learn(told);
-    }
-
-    /// Notes for each of these sessions whether the authority owes it something: one call for all of a worker's sessions.
-    pub fn mark(&mut self, members: &mut [Member])
-        ensures same { map number_of members.new ≡ map number_of members.old }
-        ensures view { self.new.view ≡ self.old.view }
-    {
-        self.desk.mark(members);
     }
 
     // Tells what its monitors show, as much as one call tells, and where that is all what the authority owes it. After a refusal

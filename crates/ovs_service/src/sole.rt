@@ -1,11 +1,11 @@
 //! An authority that is reached without a lock.
-ghost use Rattle.std.specs.Prelude.{◌≡◌, IfOk, IfSome, map};
-ghost use Rattle.ovs_authority.specs.Owing.{AsksTo, CollectsTo, marked, silent};
+ghost use Rattle.std.specs.Prelude.{◌≡◌, IfOk, IfSome, OnErr};
+ghost use Rattle.ovs_authority.specs.Owing.{AsksTo, CollectsTo, IsSame, silent};
 ghost use Rattle.ovs_reader.specs.Answers.{seen_verb};
-ghost use Rattle.ovs_service.specs.Replies.{RepliesTo, IsAnswer, number_of, seen_ask};
+ghost use Rattle.ovs_service.specs.Replies.{RepliesTo, IsAnswer, seen_ask};
 
 use crate::desk::Desk;
-use ovs_authority::{Ask, Authority, Member, Verb};
+use ovs_authority::{Ask, Authority, Verb};
 use ovs_json::NoMemory;
 use ovs_wire::Message;
 use std::alloc::Global;
@@ -67,6 +67,7 @@ impl<A: Authority> Desk for Sole<A> {
     fn ask(&mut self, alloc: Global, who: u64, ask: &Ask) -> Result<Option<Message>, NoMemory>
         ensures replied { IfOk result (λ r. RepliesTo ask.now.id r × RepliesTo ask.now.id r) }
         ensures asked { IfOk result (λ r. AsksTo (A.owing self.old.authority who) ask.now.id r (A.owing self.new.authority who)) }
+        ensures unchanged { OnErr result (IsSame (A.owing self.old.authority) (A.owing self.new.authority)) }
     {
         let ask = copy_ask(ask)?;
         self.authority.ask(alloc, who, ask)
@@ -75,19 +76,12 @@ impl<A: Authority> Desk for Sole<A> {
     fn collect(&mut self, alloc: Global, who: u64) -> Result<Option<Message>, NoMemory>
         ensures given { IfOk result (λ r. IfSome r (λ m. IsAnswer m × IsAnswer m)) }
         ensures collected { IfOk result (λ r. CollectsTo (A.owing self.old.authority who) r (A.owing self.new.authority who)) }
+        ensures unchanged { OnErr result (IsSame (A.owing self.old.authority) (A.owing self.new.authority)) }
     {
         self.authority.collect(alloc, who)
     }
 
     fn end_session(&mut self, who: u64) {
         self.authority.end_session(who);
-    }
-
-    fn mark(&mut self, members: &mut [Member])
-        ensures same { map number_of members.new ≡ map number_of members.old }
-        ensures marked { members.new ≡ map (marked (A.owing self.old.authority)) members.old }
-        ensures unchanged { self.new ≡ self.old }
-    {
-        self.authority.mark(members);
     }
 }

@@ -9,6 +9,9 @@ use std::alloc::Global;
 use std::io::Write;
 use std::marker::Model;
 
+// The room, in bytes, that the buffer keeps however little it holds.
+const SPARE_ROOM: usize = 4096;
+
 /// The bytes that are to be written, in order. A contract sees them as a list.
 #[derive(Debug, Drop)]
 pub struct Outbox {
@@ -54,13 +57,18 @@ impl Outbox {
         Ok(())
     }
 
-    // Forgets what is written, once it is at least half.
+    // Forgets what is written, once it is at least half. A buffer less than a quarter full keeps room for twice what it holds
+    // alone: else each session kept the room of the longest text that it was ever told.
     fn compact(&mut self)
         ensures value { self.new ≡ self.old }
     {
-        if self.sent >= self.bytes.len() - self.sent {
-            self.bytes.drain(..self.sent);
-            self.sent = 0;
+        if self.sent < self.bytes.len() - self.sent {
+            return;
+        }
+        self.bytes.drain(..self.sent);
+        self.sent = 0;
+        if self.bytes.len() < self.bytes.capacity() / 4 {
+            self.bytes.shrink_to(SPARE_ROOM.max(2 * self.bytes.len()));
         }
     }
 

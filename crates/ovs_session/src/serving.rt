@@ -1,5 +1,5 @@
 //! A session from one end to the other.
-ghost use Rattle.std.specs.Prelude.{◌≡◌, ◌≤◌, ◌+◌, Some, None, false};
+ghost use Rattle.std.specs.Prelude.{◌≡◌, ◌<◌, ◌≤◌, ◌+◌, Some, None, false};
 ghost use Rattle.std.specs.Io.KnownBytes.{IsAtEnd};
 ghost use Rattle.ovs_session.specs.Moving.{Moved, IsBad, kept};
 ghost use Rattle.ovs_session.specs.Serving.{IsDone};
@@ -27,6 +27,7 @@ pub fn serve<S: Service, R: Read, W: Write>(
         (W.contents writer.old) (W.contents writer.new) session.old session.new }
     ensures over { (e : _) → session.old.ended ≡ Some e
         → (session.new ≡ session.old) × (reader.new ≡ reader.old) × (writer.new ≡ writer.old) }
+    ensures again { (e : _) → session.old.ended ≡ Some e → 0 < most_turns → result ≡ e }
     ensures ends { session.old.ended ≡ None → session.new.ended ≡ kept result }
     ensures closed { session.old.ended ≡ None → session.old.is_at_end ≡ false → result ≡ Ended.Closed
         → IsDone session.new × IsAtEnd (R.remaining reader.new) }

@@ -1,6 +1,6 @@
 //! Where a worker's readers come in.
 
-ghost use Rattle.std.specs.Prelude.{◌≡◌, ◌+◌, ◌<◌, true, false, IfSome};
+ghost use Rattle.std.specs.Prelude.{◌≡◌, ◌+◌, ◌<◌, ◌≤◌, true, false, None, IfSome, IfOk};
 
 use crate::bell::SocketBell;
 use crate::client::Half;
@@ -58,7 +58,9 @@ impl<R: Net + Log + Drop> SocketDoors<R> {
         listener: net::TcpListener,
         accepts: u32,
         is_ending: IsEnding,
-    ) -> io::Result<SocketDoors<R>> {
+    ) -> io::Result<SocketDoors<R>>
+        ensures count { IfOk result (λ doors. doors.accepts_left ≡ accepts) }
+    {
         let poll = Poll::new(&rt)?;
         let bell = Arc::new(alloc, Waker::new(poll.registry(), BELL)?)?;
         let mut listener = TcpListener::from_std(listener);
@@ -190,13 +192,17 @@ impl<R: Log + Drop> Doors for SocketDoors<R> {
         }
     }
 
-    fn next_ready(&mut self) -> Option<usize> {
+    fn next_ready(&mut self) -> Option<usize>
+        ensures same { self.new.accepts_left ≡ self.old.accepts_left }
+    {
         self.ready.pop_front()
     }
 
     // Each connection that is taken is one of those that may be.
     fn accept(&mut self, key: usize) -> Option<(Half, Half)>
         ensures few { IfSome result (λ _. self.old.accepts_left ≡ self.new.accepts_left + 1) }
+        ensures no_more { self.new.accepts_left ≤ self.old.accepts_left }
+        ensures over { self.old.accepts_left ≡ 0 → result ≡ None }
     {
         if self.is_closed() {
             return None;

@@ -1,5 +1,7 @@
 //! Where readers connect.
 
+ghost use Rattle.std.specs.Prelude.{◌≡◌, IfOk};
+
 use crate::doors::SocketDoors;
 use crate::ending::IsEnding;
 use log::Log;
@@ -45,7 +47,9 @@ impl Listening {
         worker: usize,
         accepts: u32,
         is_ending: &IsEnding,
-    ) -> io::Result<SocketDoors<R>> {
+    ) -> io::Result<SocketDoors<R>>
+        ensures count { IfOk result (λ doors. doors.accepts_left ≡ accepts) }
+    {
         SocketDoors::new(
             rt,
             alloc,

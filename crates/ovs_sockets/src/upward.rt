@@ -1,6 +1,6 @@
 //! Connections with an upstream.
 
-ghost use Rattle.std.specs.Prelude.{◌≡◌, ◌+◌, true};
+ghost use Rattle.std.specs.Prelude.{◌≡◌, ◌+◌, ◌≤◌, true, IfOk};
 
 use crate::bell::SocketBell;
 use crate::channel::Channel;
@@ -51,7 +51,9 @@ impl<R: Net + Log + Drop> Upward<R> {
         address: SocketAddr,
         tries: u32,
         is_ending: &IsEnding,
-    ) -> io::Result<(Upward<R>, SocketBell)> {
+    ) -> io::Result<(Upward<R>, SocketBell)>
+        ensures count { IfOk result (λ made. made.0.tries_left ≡ tries) }
+    {
         let channel = Channel::new(&rt, alloc, is_ending.again()?)?;
         let bell = channel.bell()?;
         let upward = Upward {
@@ -69,6 +71,7 @@ impl<R: Net + Log + Drop> Upward<R> {
     /// Whether there is to be another; the one before is let go, and then it waits a while.
     pub fn next(&mut self) -> bool
         ensures tried { result ≡ true → self.old.tries_left ≡ self.new.tries_left + 1 }
+        ensures no_more { self.new.tries_left ≤ self.old.tries_left }
     {
         let Some(mut channel) = self.channel.try_lock() else {
             return false;
@@ -89,7 +92,9 @@ impl<R: Net + Log + Drop> Upward<R> {
     }
 
     /// The connection. `None` where it can't be had now.
-    pub fn open(&mut self) -> Option<(FromUpstream, ToUpstream)> {
+    pub fn open(&mut self) -> Option<(FromUpstream, ToUpstream)>
+        ensures same { self.new.tries_left ≡ self.old.tries_left }
+    {
         let connected = self.channel.try_lock()?.connect(&self.rt, self.address);
         self.tell(connected)?;
         let reader = FromUpstream {
@@ -102,7 +107,9 @@ impl<R: Net + Log + Drop> Upward<R> {
     }
 
     // Tells of the first failure of several, and that the upstream was found. `None` where it wasn't.
-    fn tell(&mut self, connected: io::Result<()>) -> Option<()> {
+    fn tell(&mut self, connected: io::Result<()>) -> Option<()>
+        ensures same { self.new.tries_left ≡ self.old.tries_left }
+    {
         let address = self.address;
         match connected {
             Ok(()) => {
@@ -121,7 +128,9 @@ impl<R: Net + Log + Drop> Upward<R> {
     }
 
     /// Tells how a session over the connection ended.
-    pub fn lost(&mut self, ended: Ended) {
+    pub fn lost(&mut self, ended: Ended)
+        ensures same { self.new.tries_left ≡ self.old.tries_left }
+    {
         let address = self.address;
         info!(self.rt; "upstream {address} lost: {ended}");
     }

@@ -1,11 +1,9 @@
--- That desks and what they are shared by may go to other threads, by their parts.
+-- That a source's desk and what it is shared by may go to other threads, by their parts.
 use denote.RattleType.{RattleType}
 use denote.Ref.{NamedLft}
 use denote.Param.Send.{IsSend, IsSync, sendable, view_send}
 use denote.Param.SendFields.{as_row_send, as_row_sync, declared_send, declared_sync, variants_send}
 use Rattle.std.proofs.Crossing as heap
-use Rattle.ovs_desk.specs.contracts.relay_desk.RelayDesk as relay_desk
-use Rattle.ovs_engine.specs.contracts.desk_lock.LockedDesk as locked_desk
 use Rattle.ovs_links.specs.contracts.link.Link as link
 use Rattle.ovs_locks.specs.contracts.lock_table.LockTable as lock_table
 use Rattle.ovs_origin.specs.contracts.locked_source.LockedSource as locked_source
@@ -26,9 +24,6 @@ node_source_sends K k desk name = view_send _ _ _ _ _ (inside_sends desk name)
   where
     inside_sends : IsSend source_desk.the_row → IsSend K → IsSend (node_source_inside.the_row K k)
     inside_sends desk name = search (desk, name, sendable, heap.crosses, as_row_send, declared_send) depth 30 fits 10000
-
-pub relay_lock_shares : (ℓ : NamedLft) (R : RattleType) → IsSend relay_desk.the_row → IsSync R → IsSync (locked_desk.the_row ℓ R)
-relay_lock_shares ℓ R desk waits = search (desk, waits, sendable, heap.crosses, declared_sync) depth 30 fits 10000
 
 pub source_lock_shares : (ℓ : NamedLft) (K R : RattleType) (k : Ghosts K.Denot) → IsSend source_desk.the_row → IsSend K → IsSync R → IsSync (locked_source.the_row ℓ K R k)
 source_lock_shares ℓ K R k desk name waits =

@@ -1,10 +1,11 @@
 //! What a node says at its end.
 
-ghost use Rattle.std.specs.Prelude.{◌≡◌, IfOk, if◌then◌else◌, string_bytes};
+ghost use Rattle.std.specs.Prelude.{◌≡◌, None, IfOk, OnOk, if◌then◌else◌, string_bytes};
 ghost use Rattle.left_right.specs.Handles.{published, pending};
 ghost use Rattle.ovs_fold.specs.Closing.{chain_lines};
 ghost use Rattle.ovs_folder.specs.InStep.{IsInStep};
 ghost use Rattle.ovs_folder.specs.Ledger.{steps_in};
+ghost use Rattle.ovs_session.specs.declared.ended.Ended.{Ended};
 
 use crate::error::TierError;
 use ovs_engine::{Connector, Finished, Line, Party, Returned};
@@ -14,6 +15,7 @@ use ovs_node::{
     Board, FeedEnd, FeedName, FeedQueue, Handle, MAX_UPSTREAMS, MAX_VIEWS, Node, NodeLink, NodeName,
 };
 use ovs_origin::{OriginDesk, SourceSent};
+use ovs_session::Ended;
 use std::alloc::Global;
 use std::sync::{Mutex, Wait};
 
@@ -104,7 +106,20 @@ fn ends_of_relay<K: NodeName, Q: FeedName, C: Connector, D: Drop, N>(
     Ok(ends)
 }
 
-// What the thread of a source's desk sent with.
+// What the thread of a source's desk sent with, where it sent all that the desk gave.
+fn end_of<K: NodeName, Q: FeedName, L: OriginDesk<K>>(
+    sent: SourceSent<K, Q, L>,
+) -> Result<FeedEnd<NodeLink<K>, Q>, TierError>
+    ensures all_sent { OnOk result (sent.unsent ≡ None) }
+    ensures whole { OnOk result (sent.ended ≡ Ended.Closed) }
+{
+    match sent.ended {
+        Ended::Closed => Ok(sent.line.into_end()),
+        _ => Err(TierError::NoMemory),
+    }
+}
+
+// What the threads sent with that send a source's links.
 fn ends_of_source<K: NodeName, Q: FeedName, L: OriginDesk<K>, D: Drop, N>(
     alloc: Global,
     ran: &mut Finished<K, SourceSent<K, Q, L>, D, N>,
@@ -118,7 +133,7 @@ fn ends_of_source<K: NodeName, Q: FeedName, L: OriginDesk<K>, D: Drop, N>(
         };
         let Returned { party, .. } = back;
         if let Party::Upstream(sent) = party {
-            ends.push(sent.line.into_end())?;
+            ends.push(end_of(sent)?)?;
         }
     }
     Ok(ends)

@@ -1,7 +1,7 @@
-//! That desks may go to other threads. Each follows from its parts, since the search that finds this of small types gives up at large ones.
+//! That a source's desk may go to other threads. It follows from its parts, since the search that finds this of small types gives up at
+//! large ones.
 
 ghost use denote.Param.Send.{IsSend};
-ghost use Rattle.ovs_desk.specs.contracts.relay_desk.RelayDesk as relay_desk;
 ghost use Rattle.ovs_links.specs.contracts.link.Link as link;
 ghost use Rattle.ovs_links.specs.contracts.store.LinkStore as link_store;
 ghost use Rattle.ovs_locks.specs.contracts.lock_table.LockTable as lock_table;
@@ -9,9 +9,7 @@ ghost use Rattle.ovs_source.specs.contracts.fresh_rows.FreshRows as fresh_rows;
 ghost use Rattle.ovs_source.specs.contracts.source.Source as source;
 ghost use Rattle.ovs_source.specs.contracts.source_desk.SourceDesk as source_desk;
 
-use ovs_desk::{Forwards, RelayDesk};
 use ovs_links::{Folded, Link, LinkStore, Step};
-use ovs_lock_desk::LockDesk;
 use ovs_locks::LockTable;
 use ovs_rows::Database;
 use ovs_source::{FreshRows, Source};
@@ -21,15 +19,6 @@ use ovs_types::Schema;
 fn sends<T: Send>()
     ensures { IsSend T.row }
 {}
-
-/// A relay's desk may.
-pub(crate) fn relay_desk_sends()
-    ensures { IsSend relay_desk.the_row }
-{
-    sends::<Forwards>();
-    sends::<LockDesk>();
-    sends::<RelayDesk>();
-}
 
 fn link_store_sends()
     ensures { IsSend link_store.the_row }

@@ -6,7 +6,7 @@ use std::alloc::{AllocError, AllocFailed};
 use std::io;
 use thiserror::Error;
 
-/// Why a node over sockets isn't run. Then nobody was served.
+/// Why a node over sockets isn't run, or didn't come to its end as it should.
 #[derive(Debug, Drop, Error)]
 pub enum TierError {
     /// Connections can't be taken at the address.
@@ -21,7 +21,7 @@ pub enum TierError {
     /// Not all that the node's threads had came back.
     #[error("a thread was lost")]
     NotBack,
-    /// Memory ran out.
+    /// Memory ran out: before anybody was served, or so often that a source's links couldn't be sent.
     #[error("out of memory")]
     NoMemory,
 }

@@ -7,7 +7,6 @@ ghost use Rattle.ovs_folder.specs.InStep.{IsInStep};
 ghost use Rattle.ovs_folder.specs.Ledger.{IsFresh, steps_in};
 
 use crate::closing::{Closing, closing_of_relay};
-use crate::crossing::relay_desk_sends;
 use crate::error::TierError;
 use crate::places::{LIMITS, Places, WORKERS};
 use crate::stop::Stop;
@@ -16,7 +15,8 @@ use crate::watching::Watching;
 use log::Log;
 use ovs_desk::RelayDesk;
 use ovs_engine::{
-    Counters, Crew, Line, LockedDesk, Shared, SourceDesk, UpstreamParts, WorkerParts, run_node,
+    Counters, Crew, Line, LockedDesk, Shared, SourceDesk, UpstreamParts, WorkerParts,
+    relay_desk_sends, run_node,
 };
 use ovs_json::Text;
 use ovs_links::Step;

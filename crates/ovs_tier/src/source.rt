@@ -100,7 +100,7 @@ impl<
     /// Runs it until all its threads have come to their ends.
     ///
     /// # Errors
-    /// `NoMemory`; `NotBack`.
+    /// `NoMemory`, also where not all of its links could be sent; `NotBack`.
     pub fn run(self, schema: &Schema) -> Result<Closing, TierError> {
         let opened = Opened::<Step>::new();
         open::<Brand, R>(self, schema, opened)

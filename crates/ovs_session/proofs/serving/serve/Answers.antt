@@ -8,6 +8,7 @@ pub loop-turned-init : goal.loop-turned-init
 loop-turned-init g c = record {
   moved = moved_still g.S.Service.answers g.S.Service.tells _ _ _ _;
   over = λ e is. (refl, refl, refl);
+  first = λ e is. refl;
   goes_on = λ is. is;
   spent = omega arith;
 }
@@ -21,6 +22,7 @@ loop-turned-preserved g c =
     record {
       moved = moved_more g.S.Service.answers g.S.Service.tells _ _ _ _ _ _ _ _ _ _ inv.moved turn.moved;
       over = λ e is. absurd (no_error _ e (sym c.in_default.is ∙ (turn.over e (ap (λ z. z.ended) (inv.over e is).0 ∙ is)).0));
+      first = λ e is. absurd (no_error _ e (sym c.in_default.is ∙ (turn.over e (ap (λ z. z.ended) (inv.over e is).0 ∙ is)).0));
       goes_on = λ is. turn.ends (inv.goes_on is) ∙ ap ended_by c.in_default.is;
       spent = omega arith;
     }

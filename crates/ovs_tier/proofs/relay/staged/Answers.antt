@@ -1,6 +1,6 @@
 use denote.Exit.{yes}
 use denote.Param.Send.{arg_sync, param_sync}
-use Rattle.ovs_tier.proofs.DeskParts.{relay_lock_shares}
+use Rattle.ovs_engine.proofs.DeskParts.{relay_lock_shares}
 use Rattle.ovs_tier.proofs.relay.staged.Goals as goal
 
 pub run_node-requires-sync-L : goal.run_node-requires-sync-L
