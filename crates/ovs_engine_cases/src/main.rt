@@ -4,22 +4,29 @@
 //! A line is `["WHAT", ARGUMENT, ..] => ANSWER`. Empty lines and lines that begin with `#` are passed over.
 #![tactic(auto)]
 
+mod crews;
 mod doors;
+mod engine;
 mod fault;
 mod hall;
 mod hosts;
 mod ids;
+mod outcome;
+mod readers;
 mod sessions;
+mod upstreams;
 
 use fault::Fault;
 use ovs_links::Step;
 use ovs_node::Opened;
+use ovs_query::Select;
 use ovs_types::Schema;
 use serde_json::Value;
 use std::alloc::Global;
 use std::io::{self, BufRead, BufReader};
 use std::marker::Brand;
 use std::sync::Wait;
+use std::thread::Threads;
 
 fn read_schema(alloc: Global, json: &Value) -> Result<Box<Schema>, Fault> {
     match Schema::read(alloc, json) {
@@ -29,7 +36,7 @@ fn read_schema(alloc: Global, json: &Value) -> Result<Box<Schema>, Fault> {
 }
 
 // What a line answers, where the schema in use is this.
-fn answer_of<R: Wait>(
+fn answer_of<R: Threads + Wait + Sync>(
     rt: &R,
     alloc: Global,
     schema: &mut Option<Box<Schema>>,
@@ -47,7 +54,7 @@ fn answer_of<R: Wait>(
 }
 
 // The lines that are asked of the schema in use.
-fn of_schema<R: Wait>(
+fn of_schema<R: Threads + Wait + Sync>(
     rt: &R,
     alloc: Global,
     schema: &Schema,
@@ -64,6 +71,11 @@ fn of_schema<R: Wait>(
             };
             of_hall(rt, alloc, schema, scene)
         }
+        ("engine", [upstreams, until, select]) => {
+            let scene = engine::Scene::read(alloc, schema, upstreams, until, select)?;
+            let select = engine::read_select(alloc, schema, select)?;
+            of_engine(rt, alloc, schema, scene, &select)
+        }
         _ => Err(Fault::Malformed),
     }
 }
@@ -73,7 +85,7 @@ fn count(json: &Value) -> Result<u64, Fault> {
 }
 
 // What comes of a hall, for which a history is opened here.
-fn of_hall<R: Wait>(
+fn of_hall<R: Threads + Wait + Sync>(
     rt: &R,
     alloc: Global,
     schema: &Schema,
@@ -83,8 +95,20 @@ fn of_hall<R: Wait>(
     hall::opened::<Brand, R>(rt, alloc, schema, opened, scene)
 }
 
+// What comes of a node, for which a history is opened here.
+fn of_engine<R: Threads + Wait + Sync>(
+    rt: &R,
+    alloc: Global,
+    schema: &Schema,
+    scene: engine::Scene,
+    select: &Select,
+) -> Result<String, Fault> {
+    let opened = Opened::<Step>::new();
+    engine::opened::<Brand, R>(rt, alloc, schema, opened, scene, select)
+}
+
 // The same as `answer_of`, with a fault as text.
-fn told<R: Wait>(
+fn told<R: Threads + Wait + Sync>(
     rt: &R,
     alloc: Global,
     schema: &mut Option<Box<Schema>>,

@@ -1,0 +1,102 @@
+//! The threads of a node.
+
+ghost use Rattle.std.specs.Prelude.{◌≡◌, []};
+ghost use Rattle.std.specs.List.{AllByRecursion};
+
+use crate::engine::Scene;
+use crate::fault::Fault;
+use crate::readers::{Chat, MemoryBell, ReaderDoors};
+use crate::upstreams::Upstream;
+use ovs_desk::RelayDesk;
+use ovs_engine::{Counters, Crew, Line, LockedDesk, UpstreamParts, WorkerParts};
+use ovs_json::Text;
+use ovs_node::{FeedEnd, FeedName, NodeLink, NodeName, View};
+use std::alloc::Global;
+use std::sync::Wait;
+
+/// What the threads share beside the node's own.
+#[derive(Drop)]
+pub(crate) struct Stage<'a, R: Wait> {
+    pub(crate) chat: Chat,
+    pub(crate) desk: LockedDesk<'a, R>,
+    pub(crate) bells: [MemoryBell; 1],
+    pub(crate) upward: MemoryBell,
+    pub(crate) counters: Counters,
+}
+
+impl<'a, R: Wait> Stage<'a, R> {
+    /// Nothing was said yet.
+    pub(crate) fn new(rt: &'a R, alloc: Global) -> Result<Stage<'a, R>, Fault> {
+        let name = Text::new(alloc, "net")?;
+        Ok(Stage {
+            chat: Chat::new(alloc)?,
+            desk: LockedDesk::new(rt, RelayDesk::new(alloc, name)),
+            bells: [MemoryBell::new(alloc)?],
+            upward: MemoryBell::new(alloc)?,
+            counters: Counters::new(),
+        })
+    }
+}
+
+/// What the upstreams send with.
+pub(crate) fn lines_of<K: NodeName, Q: FeedName>(
+    alloc: Global,
+    ends: Vec<FeedEnd<NodeLink<K>, Q>>,
+) -> Result<Vec<Line<K, Q, Upstream>>, Fault>
+    requires unsent { AllByRecursion (λ e. e.1 ≡ []) ends.items }
+{
+    let mut lines = Vec::new(alloc);
+    for end in ends {
+        lines.push(Line::new(end))?;
+    }
+    Ok(lines)
+}
+
+/// Threads whose devices are over memory.
+pub(crate) type MemoryCrew<'a, K, Q, R> = Crew<
+    'a,
+    K,
+    Q,
+    Upstream,
+    ReaderDoors,
+    LockedDesk<'a, R>,
+    MemoryBell,
+>;
+
+/// The upstreams of a scene, and its reader.
+pub(crate) fn crew_of<'a, K: NodeName, Q: FeedName, R: Wait>(
+    alloc: Global,
+    scene: Scene,
+    stage: &'a Stage<'a, R>,
+    lines: Vec<Line<K, Q, Upstream>>,
+    views: Vec<View<K>>,
+) -> Result<MemoryCrew<'a, K, Q, R>, Fault> {
+    let mut views = views;
+    let mut crew = Crew::new(alloc);
+    for (line, sessions) in lines.into_iter().zip(scene.upstreams) {
+        let upstream = UpstreamParts {
+            line,
+            view: views.pop().ok_or(Fault::BadCount)?,
+            connector: Upstream::new(sessions, stage.chat.seen.clone()?),
+        };
+        if crew.add_upstream(upstream, None).is_err() {
+            return Err(Fault::NoMemory);
+        }
+    }
+    if scene.has_reader {
+        let [bell] = &stage.bells;
+        let worker = WorkerParts {
+            view: views.pop().ok_or(Fault::BadCount)?,
+            doors: ReaderDoors::new(
+                stage.chat.again()?,
+                bell.again()?,
+                scene.request,
+                scene.until,
+            ),
+        };
+        if crew.add_worker(worker).is_err() {
+            return Err(Fault::NoMemory);
+        }
+    }
+    Ok(crew)
+}

@@ -1,0 +1,158 @@
+//! A node in threads with its upstreams and a reader, all over memory.
+
+ghost use Rattle.std.specs.Prelude.{◌≡◌, ◌≤◌, []};
+ghost use Rattle.std.specs.List.{AllByRecursion};
+ghost use Rattle.left_right.specs.Handles.{published, pending};
+ghost use Rattle.ovs_folder.specs.InStep.{IsInStep};
+ghost use Rattle.ovs_folder.specs.Ledger.{IsFresh, steps_in};
+
+use crate::crews::{Stage, crew_of, lines_of};
+use crate::fault::Fault;
+use crate::outcome::{finished, told};
+use crate::readers::request_text;
+use crate::upstreams::{UpSession, number_in, read_sessions};
+use ovs_engine::{Shared, Unwatched, relay_desk_sends, run_node};
+use ovs_links::Step;
+use ovs_node::{FeedName, Handle, NodeName, OpenNode, Opened, Parts};
+use ovs_query::Select;
+use ovs_session::Limits;
+use ovs_types::Schema;
+use serde_json::Value;
+use std::alloc::Global;
+use std::marker::Brand;
+use std::sync::Wait;
+use std::thread::Threads;
+
+const LIMITS: Limits = Limits {
+    most_unsent: 65_536,
+    messages: 64,
+};
+
+/// `[UPSTREAMS, UNTIL, SELECT]`: the sessions of each upstream, the commit that the reader is to see, and what it asks for.
+/// There is no reader where UNTIL is null.
+#[derive(Drop)]
+pub(crate) struct Scene {
+    pub(crate) upstreams: Vec<Vec<UpSession>>,
+    pub(crate) has_reader: bool,
+    pub(crate) until: u64,
+    pub(crate) request: String,
+}
+
+impl Scene {
+    /// What stands in a line.
+    pub(crate) fn read(
+        alloc: Global,
+        schema: &Schema,
+        upstreams: &Value,
+        until: &Value,
+        select: &Value,
+    ) -> Result<Scene, Fault> {
+        let mut read = Vec::new(alloc);
+        for sessions in upstreams.as_array().ok_or(Fault::Malformed)?.as_slice() {
+            read.push(read_sessions(alloc, schema, sessions)?)?;
+        }
+        let request = request_text(alloc, select)?;
+        Ok(Scene {
+            upstreams: read,
+            has_reader: !until.is_null(),
+            until: number_in(until)?,
+            request,
+        })
+    }
+
+    // A view for each thread, and one that is kept back.
+    fn views(&self) -> usize {
+        let readers = usize::from(self.has_reader);
+        self.upstreams
+            .len()
+            .saturating_add(readers)
+            .saturating_add(1)
+    }
+}
+
+/// What a select asks for.
+pub(crate) fn read_select(alloc: Global, schema: &Schema, json: &Value) -> Result<Select, Fault> {
+    match Select::read(alloc, json, schema) {
+        Ok(select) => Ok(select),
+        Err(_) => Err(Fault::Malformed),
+    }
+}
+
+/// What comes of a scene, where this history was opened.
+pub(crate) fn opened<K: NodeName + Send + Sync, R: Threads + Wait + Sync>(
+    rt: &R,
+    alloc: Global,
+    schema: &Schema,
+    opened: Opened<Step>,
+    scene: Scene,
+    select: &Select,
+) -> Result<String, Fault>
+    requires name { (opened.seen.book ≡ K.book) × (schema.now ≡ K.schema) }
+{
+    let (upstreams, views) = (scene.upstreams.len(), scene.views());
+    let node = OpenNode::<K, Handle<K, &R>>::new(alloc, rt, schema, opened, upstreams, views)?;
+    named::<K, Brand, R>(rt, alloc, schema, node, scene, select)
+}
+
+// The same, where the node is opened.
+fn named<K: NodeName + Send + Sync, Q: FeedName + Send + Sync, R: Threads + Wait + Sync>(
+    rt: &R,
+    alloc: Global,
+    schema: &Schema,
+    node: OpenNode<K, Handle<K, &R>>,
+    scene: Scene,
+    select: &Select,
+) -> Result<String, Fault>
+    requires schema { schema.now ≡ K.schema }
+    requires table { node.feed.items.table.shared.table_id ≡ Q.table }
+    requires upstreams { node.upstreams ≤ 4 }
+    requires store { IsFresh K.schema node.store }
+    requires publisher { IsInStep (published node.publisher.handle) (pending node.publisher.handle) node.publisher.front node.publisher.kept [] }
+{
+    let parts = node.named::<Q>()?;
+    run(rt, alloc, schema, parts, scene, select)
+}
+
+// Runs the node, and tells what came of it.
+fn run<K: NodeName + Send + Sync, Q: FeedName + Send + Sync, R: Threads + Wait + Sync>(
+    rt: &R,
+    alloc: Global,
+    schema: &Schema,
+    parts: Parts<K, Q, Handle<K, &R>>,
+    scene: Scene,
+    select: &Select,
+) -> Result<String, Fault>
+    requires schema { schema.now ≡ K.schema }
+    requires in_step { IsInStep (published parts.node.publisher.handle) (pending parts.node.publisher.handle) parts.node.publisher.front parts.node.publisher.kept (steps_in parts.node.intake.store) }
+    requires unsent { AllByRecursion (λ e. e.1 ≡ []) parts.ends.items }
+{
+    let Parts {
+        node,
+        queue,
+        ends,
+        mut views,
+        board,
+    } = parts;
+    let kept_back = views.pop().ok_or(Fault::BadCount)?;
+    let stage = Stage::new(rt, alloc)?;
+    let lines = lines_of(alloc, ends)?;
+    let crew = crew_of(alloc, scene, &stage, lines, views)?;
+    let shared = Shared {
+        rt,
+        schema,
+        queue: &queue,
+        board: &board,
+        desk: &stage.desk,
+        bells: &stage.bells,
+        upward: &stage.upward,
+        counters: &stage.counters,
+        watcher: &Unwatched,
+        limits: LIMITS,
+    };
+    relay_desk_sends();
+    let Ok(ran) = run_node(alloc, &shared, node, crew) else {
+        return Err(Fault::NoMemory);
+    };
+    let report = finished(rt, alloc, &queue, &board, ran)?;
+    told(rt, alloc, &board, &report, kept_back, select)
+}
