@@ -21,7 +21,7 @@
 #include <time.h>
 #include <unistd.h>
 
-enum { PIECE = 1 << 20, EVENTS = 256, OVERLAP = 32, WAIT_MILLISECONDS = 100 };
+enum { PIECE = 1 << 20, EVENTS = 256, OVERLAP = 32, WAIT_MILLISECONDS = 100, CONNECT_PAUSE = 2000 };
 static const char UPDATE[] = "\"method\":\"update";
 static const char PROBE[] = "\"method\":\"echo\"";
 static const char PROBE_ANSWER[] = "{\"id\":\"echo\",\"result\":[],\"error\":null}";
@@ -140,6 +140,8 @@ static struct session *open_sessions(int port, int count, int poll) {
         if (sessions[number].socket < 0 || connect(sessions[number].socket, (struct sockaddr *)&address, sizeof address) < 0)
             fail("connect");
         send_at_once(sessions[number].socket);
+        /* A server with a short queue of connections has time to take each; else one waits for seconds, and those before it are probed. */
+        usleep(CONNECT_PAUSE);
         struct epoll_event event = {.events = EPOLLIN, .data.ptr = &sessions[number]};
         epoll_ctl(poll, EPOLL_CTL_ADD, sessions[number].socket, &event);
     }
