@@ -5,9 +5,12 @@
 
 The program is the table of engines. All sessions together ask the same number of requests, of which each is answered by a node that holds
 one row. What the same line takes where it has no session, which is to read it, is taken off. Of three runs the shortest counts. Printed
-are processor microseconds a request, with what it takes to make the request and to compare the reply, and the ratio to one session.
+are processor microseconds a request, with what it takes to make the request and to compare the reply, and the ratio to one session; and
+beside them what a plain loop takes that parses the same requests with `json.loads` and writes their replies with `json.dumps`.
 """
+import json
 import os
+import time
 
 from timing import arguments, seconds, uuid
 
@@ -31,6 +34,16 @@ def each(program, sessions, request, total):
     return spent / (count * sessions)
 
 
+def plain(request, total):
+    """The processor seconds of one request in a plain loop."""
+    method, params, result = request
+    texts = [json.dumps({"id": number, "method": method, "params": params}) for number in range(total)]
+    begun = time.process_time()
+    for text in texts:
+        json.dumps({"error": None, "id": json.loads(text)["id"], "result": result})
+    return (time.process_time() - begun) / total
+
+
 def main():
     parser = arguments(__doc__)
     parser.set_defaults(program=PROGRAM)
@@ -42,6 +55,8 @@ def main():
             took = each(given.program, sessions, request, given.requests)
             one = one or took
             print(f"{name:8}{sessions:>6,} sessions{took * 1e6:10.1f}us{took / one:8.2f}", flush=True)
+        took = plain(request, given.requests)
+        print(f"{name:8}{'plain loop':>15}{took * 1e6:10.1f}us{took / one:8.2f}", flush=True)
 
 
 if __name__ == "__main__":
