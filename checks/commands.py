@@ -100,14 +100,14 @@ def addresses_ids_and_numbers(lab):
 
 @check(LIMIT)
 def files_that_cannot_be_read(lab):
-    """One line that names the file for a merged file and a schema file that isn't there, with the cause, and for a folder."""
+    """One line that names the file for a merged file, and with the cause for a schema file that isn't there or is a folder."""
     missing, folder = lab.path("missing"), lab.path("folder")
     os.mkdir(folder)
     fails(lab, ["fold", "--merge", missing], UNOPENED["fold"], missing)
     for words in (source_words(lab, schema=missing), relay_words(lab, schema=missing)):
         fails(lab, words, UNOPENED[words[0]], missing, "no such file")
     for words in (source_words(lab, schema=folder), relay_words(lab, schema=folder)):
-        fails(lab, words, 3, folder)
+        fails(lab, words, 3, folder, "directory")
 
 
 @check(LIMIT)

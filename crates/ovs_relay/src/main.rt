@@ -3,6 +3,7 @@
 
 mod log_lines;
 mod nodes;
+mod noting;
 mod saying;
 mod schema_file;
 

@@ -2,7 +2,8 @@
 
 use ovs_command::{Complaint, complaint_of};
 use ovs_script::RunEnd;
-use std::fmt::Display;
+use std::fmt::{self, Display, Formatter};
+use std::io;
 use std::process::ExitCode;
 
 /// One line on standard error, and an exit status.
@@ -34,5 +35,34 @@ pub(crate) fn ends<R: Eprint>(
     match complaint_of(end, file, input_failures) {
         None => ExitCode::from(end.status()),
         Some(complaint) => complains(rt, complaint),
+    }
+}
+
+// A complaint, and what the system says of it.
+#[derive(Clone, Copy, Debug)]
+struct Because<'a> {
+    complaint: Complaint<'a>,
+    cause: io::Error,
+}
+
+impl<'a> Display for Because<'a> {
+    fn fmt<W: fmt::Write>(&self, f: &mut Formatter<W>) -> fmt::Result {
+        write!(f, "{}: {}", self.complaint, self.cause)
+    }
+}
+
+/// Ends as a run ended that read a file, of which the last read that failed had this cause.
+pub(crate) fn ends_of_file<R: Eprint>(
+    rt: &R,
+    end: RunEnd,
+    file: &str,
+    cause: Option<io::Error>,
+) -> ExitCode {
+    match (complaint_of(end, Some(file), 0), cause) {
+        (Some(complaint @ Complaint::UnreadFile(_)), Some(cause)) => {
+            fails(rt, &Because { complaint, cause }, complaint.status())
+        }
+        (Some(complaint), _) => complains(rt, complaint),
+        (None, _) => ExitCode::from(end.status()),
     }
 }

@@ -1,6 +1,7 @@
 //! The schema of a node.
 
-use crate::saying::{complains, ends};
+use crate::noting::Noting;
+use crate::saying::{complains, ends_of_file};
 use ovs_command::Complaint;
 use ovs_script::read_schema;
 use ovs_types::Schema;
@@ -25,10 +26,10 @@ pub(crate) fn schema_of_file<R: Print + Eprint + Files>(
             return Err(complains(rt, Complaint::UnopenedFor { file: path, cause }));
         }
     };
-    let mut reader = Counted::new(file);
+    let mut reader = Counted::new(Noting::new(file));
     let mut writer = Counted::new(io::writer(rt));
     match read_schema(alloc, &mut reader, &mut writer) {
         Ok(schema) => Ok(schema),
-        Err(end) => Err(ends(rt, end, Some(path), 0)),
+        Err(end) => Err(ends_of_file(rt, end, path, reader.device().cause())),
     }
 }
