@@ -24,6 +24,12 @@ def behind_a_cluster(lab, schema=NET, *more):
     return server, lab.relay([server], *more, schema=schema).with_source()
 
 
+def chain_behind_a_cluster(lab, schema):
+    """A clustered server, and the last of two relays in a chain behind it."""
+    server, first = behind_a_cluster(lab, schema)
+    return server, lab.relay([first], schema=schema).with_source()
+
+
 def at(node):
     return f"tcp:{node.address}"
 
@@ -147,9 +153,9 @@ def python_idl_reconnects(lab):
 
 @check(LIMIT)
 def ovs_vsctl(lab):
-    """ovs-vsctl writes through a relay of a clustered server with the schema of Open vSwitch, and reads from it."""
+    """ovs-vsctl writes through the last of two relays of a clustered server with the schema of Open vSwitch, and reads from it."""
     schema = schema_file("vswitch")
-    server, relay = behind_a_cluster(lab, schema)
+    server, relay = chain_behind_a_cluster(lab, schema)
     base = ["ovs-vsctl", f"--db={at(relay)}", "--no-wait", "--timeout=15"]
     run(lab, *base, "init")
     run(lab, *base, "add-br", "br0", "--", "add-port", "br0", "p0", "tag=7", "--", "set", "interface", "p0", "type=internal")
@@ -261,9 +267,9 @@ def a_server_that_is_in_no_cluster(lab):
 
 @check(LIMIT)
 def ovn_controller(lab):
-    """ovn-controller, without a datapath, registers its chassis in a southbound database through a relay."""
+    """ovn-controller, without a datapath, registers its chassis in a southbound database through the last of two relays."""
     tool("ovn-controller")
-    server, relay = behind_a_cluster(lab, schema_file("ovn-sb"))
+    server, relay = chain_behind_a_cluster(lab, schema_file("ovn-sb"))
     with server.session() as writer:
         writer.transact("OVN_Southbound", {"op": "insert", "table": "SB_Global", "row": {}})
     local = alone(lab, schema_file("vswitch"))
