@@ -73,6 +73,9 @@ def a_client_that_never_reads(lab):
     writer = relay.session()
     row = writer.transact("net", insert(name="p"))[0]["uuid"]
     reader = Mirror(relay.session(), NET, "Port", "monitor_cond", "m", {"columns": ["name"]})
+    # The answer to the insert may come before its commit.
+    if not reader.rows:
+        reader.take(20)
     change(writer, row, 0)
     reader.take(20)
     for _ in range(4):
