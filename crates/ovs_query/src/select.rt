@@ -1,6 +1,6 @@
 //! Selects (RFC 7047 section 5.2.2).
 
-ghost use Rattle.std.specs.Prelude.{◌≡◌, IfOk};
+ghost use Rattle.std.specs.Prelude.{◌≡◌, ◌∷◌, ◌++◌, [], map, IfOk, OnOk};
 ghost use Rattle.serde_json.specs.View.{view, items_view, items_of};
 ghost use Rattle.std.specs.Option.{option_copied};
 ghost use Rattle.ovs_rows.specs.Writing.{rows_in};
@@ -55,17 +55,42 @@ impl Select {
         }
     }
 
-    // The rows that match, each as an object.
-    fn rows_json(&self, alloc: Global, draft: &Draft) -> Result<Vec<Value>, NoMemory>
+    // Adds the row as an object, if it matches.
+    fn add_matching(
+        &self,
+        alloc: Global,
+        found: &mut Vec<Value>,
+        id: RowId,
+        row: &Row,
+    ) -> Result<(), NoMemory>
+        ensures added { OnOk result (map view found.new.items ≡ map view found.old.items ++ rows_json self.now ((record { table = self.now.table; id = id }, row.now) ∷ [])) }
+    {
+        if self.conditions.matches(id, row) {
+            found.push(shown_json(alloc, self.shown.as_slice(), id, row)?)?;
+        }
+        Ok(())
+    }
+
+    // The rows of a draft that match, each as an object.
+    fn rows_of_draft(&self, alloc: Global, draft: &Draft) -> Result<Vec<Value>, NoMemory>
         ensures value { IfOk result (λ v. items_view v.items ≡ items_of (rows_json self.now (rows_in self.now.table draft.now.rows))) }
     {
         let mut found = Vec::new(alloc);
         let mut last = None;
         while let Some((id, row)) = draft.next_row(self.table, last) {
-            if self.conditions.matches(id, row) {
-                found.push(shown_json(alloc, self.shown.as_slice(), id, row)?)?;
-            }
+            self.add_matching(alloc, &mut found, id, row)?;
             last = Some(id);
+        }
+        Ok(found)
+    }
+
+    // The rows of a database that match, each as an object.
+    fn rows_of(&self, alloc: Global, database: &Database) -> Result<Vec<Value>, NoMemory>
+        ensures value { IfOk result (λ v. items_view v.items ≡ items_of (rows_json self.now (rows_in self.now.table database.now.rows))) }
+    {
+        let mut found = Vec::new(alloc);
+        for (place, row) in database.rows_of(self.table) {
+            self.add_matching(alloc, &mut found, place.id, row.row())?;
         }
         Ok(found)
     }
@@ -79,7 +104,7 @@ impl Select {
     {
         let rows = match self.conditions.row_id() {
             Some(id) => self.row_json(alloc, draft, id)?,
-            None => self.rows_json(alloc, draft)?,
+            None => self.rows_of_draft(alloc, draft)?,
         };
         under_name(alloc, "rows", Value::Array(rows))
     }
@@ -91,6 +116,10 @@ impl Select {
     pub fn run(&self, alloc: Global, database: &Database) -> Result<Value, NoMemory>
         ensures value { IfOk result (λ v. view v ≡ select_json self.now database.now.rows) }
     {
-        self.run_draft(alloc, &Draft::new(alloc, database))
+        let rows = match self.conditions.row_id() {
+            Some(id) => self.row_json(alloc, &Draft::new(alloc, database), id)?,
+            None => self.rows_of(alloc, database)?,
+        };
+        under_name(alloc, "rows", Value::Array(rows))
     }
 }

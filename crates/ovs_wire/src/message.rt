@@ -8,16 +8,18 @@ mod laws;
 mod method;
 mod params;
 mod reading;
+mod writing;
 
 use crate::error::MessageError;
 use crate::message::reading::message_of;
+use crate::message::writing::{text_of, value_of};
 pub use id::Id;
 pub use laws::{text_laws, writing_laws};
 pub use method::Method;
 use ovs_json::{Json, NoMemory};
 pub use params::Params;
-use serde_json::{Value, json};
-use std::alloc::{AllocError, Global};
+use serde_json::Value;
+use std::alloc::Global;
 
 /// A message of JSON-RPC 1.0 (RFC 7047 section 4).
 #[derive(Debug, Drop)]
@@ -71,10 +73,29 @@ impl Message {
         ensures text { IfOk result (λ b. has_float (json self.now) ≡ false
             → b.items ≡ compact_text (json self.now)) }
     {
-        let message = self.copy()?;
-        let value = value_of(alloc, message)?;
-        let bytes = value.to_vec(alloc)?;
-        Ok(bytes)
+        match value_of(alloc, self.copy()?) {
+            Ok(value) => text_of(alloc, &value),
+            Err(_) => Err(NoMemory),
+        }
+    }
+
+    /// The message, and what `write` gives for it. Of a message that is owned no copy is made, so that a long one takes
+    /// no more memory than its text.
+    pub fn write_owned(self, alloc: Global) -> (Message, Result<Vec<u8>, NoMemory>)
+        ensures same { result.0 ≡ self }
+        ensures written { IfOk result.1 (λ b. IsWritten self b.items) }
+        ensures text { IfOk result.1 (λ b. has_float (json self) ≡ false
+            → b.items ≡ compact_text (json self)) }
+    {
+        let value = match value_of(alloc, self) {
+            Ok(value) => value,
+            Err(message) => return (message, Err(NoMemory)),
+        };
+        let text = text_of(alloc, &value);
+        match message_of(value) {
+            Some(message) => (message, text),
+            None => unreachable!(),
+        }
     }
 
     /// An equal message, or `NoMemory` where memory ran out.
@@ -96,29 +117,6 @@ impl Message {
                 method: method.copy()?,
                 params: params.copy()?,
             }),
-        }
-    }
-}
-
-ghost use Rattle.ovs_wire.specs.Message.{Spells, json};
-
-// The JSON that spells the message.
-fn value_of(alloc: Global, message: Message) -> Result<Value, AllocError>
-    ensures value { IfOk result (λ v. view v ≡ json message) }
-    ensures spelled { IfOk result (λ v. Spells (json message) message) }
-{
-    match message {
-        Message::Request { method, params, id } => {
-            let (method, params) = (method.into_string(), params.into_values());
-            json!(in alloc; {"id": id.into_value(), "method": method, "params": params})
-        }
-        Message::Reply { result, error, id } => {
-            let (result, error) = (result.into_value(), error.into_value());
-            json!(in alloc; {"error": error, "id": id.into_value(), "result": result})
-        }
-        Message::Notice { method, params } => {
-            let (method, params) = (method.into_string(), params.into_values());
-            json!(in alloc; {"id": null, "method": method, "params": params})
         }
     }
 }

@@ -74,11 +74,9 @@ fn first_rows(
     if !watched.kinds.initial {
         return Ok(members);
     }
-    let mut last = None;
-    while let Some((id, row)) = database.next_row(number, last) {
-        let first = first_row(alloc, notation, watched, id, row)?;
-        put_row(alloc, &mut members, id, first)?;
-        last = Some(id);
+    for (place, row) in database.rows_of(number) {
+        let first = first_row(alloc, notation, watched, place.id, row.row())?;
+        put_row(alloc, &mut members, place.id, first)?;
     }
     Ok(members)
 }
