@@ -1,6 +1,6 @@
 //! What is left of a node once its threads have come to their ends.
 
-ghost use Rattle.std.specs.Prelude.{◌≡◌, ◌+◌, ◌∷◌, length, option_to_list, IfSome, vec_len};
+ghost use Rattle.std.specs.Prelude.{◌≡◌, ◌+◌, ◌∷◌, [], None, length, option_to_list, IfSome, vec_len};
 ghost use Rattle.std.specs.Vec.Iter.{into_iter_items, into_iter_len};
 
 use crate::party::Party;
@@ -41,10 +41,11 @@ impl<K: NodeName, F: Drop, D: Drop, N> Finished<K, F, D, N> {
         }
     }
 
-    /// What the next thread hands back, in the order in which they were added. Each is given once.
+    /// What the next thread hands back, in the order in which they were added; `None` once all are given, each of them once.
     pub fn next_back(&mut self) -> Option<Returned<K, F, D>>
         ensures node { self.new.node ≡ self.old.node }
         ensures count { into_iter_len self.new.backs + length (option_to_list result) ≡ into_iter_len self.old.backs }
+        ensures none { result ≡ None → into_iter_items self.old.backs ≡ [] }
         ensures next { IfSome result (λ r. (back : _) × (into_iter_items self.old.backs ≡ back ∷ into_iter_items self.new.backs)
             × (r.party ≡ back.0) × (r.tally ≡ back.3)) }
     {

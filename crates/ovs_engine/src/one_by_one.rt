@@ -1,6 +1,6 @@
 //! Doors that let one session in after another.
 
-ghost use Rattle.std.specs.Prelude.{◌≡◌, ◌≢◌, ◌⊎◌, true, None, IfSome};
+ghost use Rattle.std.specs.Prelude.{◌≡◌, ◌≢◌, ◌⊎◌, true, false, None, Some, IfSome, if◌then◌else◌, is_some};
 ghost use Rattle.ovs_engine.specs.Lines.{AdmitsBytes};
 
 use crate::connector::Connector;
@@ -58,6 +58,7 @@ impl<C: Connector + Drop> OneByOne<C> {
 
     // Opens the connection that is due.
     fn open(&mut self) -> Option<(C::In, C::Out)>
+        ensures course { self.new.course ≡ (if is_some result then Course.Inside else Course.Free) }
         ensures lawful { IfSome result (λ connection. AdmitsBytes C.admits 0 (C.In.remaining connection.0)) }
     {
         let connection = self.connector.open(TxnId::zero());
@@ -102,6 +103,8 @@ impl<C: Connector + Drop> Doors for OneByOne<C> {
     // Who is inside has the first number, since a hall was empty when it came in.
     fn next_ready(&mut self) -> Option<usize>
         ensures first { IfSome result (λ key. key ≡ 0) }
+        ensures ready { self.old.is_ready ≡ true → result ≡ Some 0 }
+        ensures once { self.new.is_ready ≡ false }
         ensures same { self.new.course ≡ self.old.course }
     {
         if !self.is_ready {
@@ -115,6 +118,8 @@ impl<C: Connector + Drop> Doors for OneByOne<C> {
     fn accept(&mut self, key: usize) -> Option<(C::In, C::Out)>
         ensures one { key ≢ 0 → result ≡ None }
         ensures due { self.old.course ≢ Course.Due → result ≡ None }
+        ensures let_in { key ≡ 0 → self.old.course ≡ Course.Due → self.new.course ≡ (if is_some result then Course.Inside else Course.Free) }
+        ensures ended { key ≡ 0 → self.old.course ≡ Course.Inside → self.new.course ≡ Course.Free }
         ensures lawful { IfSome result (λ connection. AdmitsBytes C.admits 0 (C.In.remaining connection.0)) }
     {
         if key != 0 {
