@@ -1,6 +1,6 @@
 //! What the folder's thread does, beside all others.
 
-ghost use Rattle.std.specs.Prelude.{◌≡◌, IfOk, IfErr, vec_len};
+ghost use Rattle.std.specs.Prelude.{◌≡◌, IfOk, IfErr, length, vec_len};
 ghost use Rattle.left_right.specs.Handles.{published, pending};
 ghost use Rattle.ovs_folder.specs.InStep.{IsInStep};
 ghost use Rattle.ovs_folder.specs.Ledger.{steps_in};
@@ -11,6 +11,7 @@ use left_right::ReadHandle;
 use ovs_feed::{FeedName, FeedQueue};
 use ovs_folder::{Node, NodeLink};
 use ovs_hall::Bell;
+use ovs_json::NoMemory;
 use ovs_threads::Work;
 use ovs_views::{Board, Front, Handle, NodeName, Shown};
 use std::alloc::Global;
@@ -52,28 +53,67 @@ pub(crate) fn ring_all<B: Bell>(bells: &[B]) {
     }
 }
 
+// The bells of the workers, and how many steps of the chain were published when they were rung.
+#[derive(Drop)]
+struct Bells<'a, B: Bell> {
+    bells: &'a [B],
+    rung_for: u64,
+}
+
+impl<'a, B: Bell> Bells<'a, B> {
+    // Rings all bells where more steps are published than they were rung for.
+    fn ring_for(&mut self, published: u64)
+        ensures rung { self.new.rung_for ≡ published }
+    {
+        if self.rung_for != published {
+            ring_all(self.bells);
+            self.rung_for = published;
+        }
+    }
+}
+
 impl<'a, K: NodeName, Q: FeedName, B: Bell, O: Watcher, R: Wait> Folding<'a, K, Q, B, O, R> {
-    /// Folds until no other thread runs any more and nothing is left to fold, and rings the bells once something was published.
-    /// It sleeps while there is nothing to do; after want of memory it tries again.
+    /// Folds until no other thread runs any more and nothing is left to fold. It sleeps while there is nothing to do; after want of
+    /// memory it tries again.
     pub(crate) fn fold_all<H: Wait + Drop>(&self, node: &mut Node<K, Q, Handle<K, H>>)
         requires in_step { IsInStep (published node.old.publisher.handle) (pending node.old.publisher.handle) node.old.publisher.front node.old.publisher.kept (steps_in node.old.intake.store) }
         ensures in_step { IsInStep (published node.new.publisher.handle) (pending node.new.publisher.handle) node.new.publisher.front node.new.publisher.kept (steps_in node.new.intake.store) }
     {
+        let mut bells = Bells {
+            bells: self.bells,
+            rung_for: 0,
+        };
         let mut is_put_off = false;
         for _ in self.rt.forever() {
             let is_last = self.running.load(Ordering::SeqCst) == 0;
-            let folded = node.fold_next(self.rt, self.queue, self.board);
-            if let Some(link) = node.take_refused() {
-                self.watcher.refused(&link);
-            }
+            let folded = self.fold_and_ring(node, &mut bells);
             self.tell_put_off(&mut is_put_off, folded.is_err());
             match folded {
-                Ok(true) => ring_all(self.bells),
+                Ok(true) => {}
                 Ok(false) if is_last => break,
                 Ok(false) => self.queue.wait(self.rt),
                 Err(_) => thread::yield_now(),
             }
         }
+    }
+
+    // Takes one link more, if one came, and folds. Whether one was taken. Whatever comes of it, the bells were rung for all that is
+    // published then, also where that was put off before for want of memory.
+    fn fold_and_ring<H: Wait + Drop>(
+        &self,
+        node: &mut Node<K, Q, Handle<K, H>>,
+        bells: &mut Bells<'a, B>,
+    ) -> Result<bool, NoMemory>
+        requires in_step { IsInStep (published node.old.publisher.handle) (pending node.old.publisher.handle) node.old.publisher.front node.old.publisher.kept (steps_in node.old.intake.store) }
+        ensures in_step { IsInStep (published node.new.publisher.handle) (pending node.new.publisher.handle) node.new.publisher.front node.new.publisher.kept (steps_in node.new.intake.store) }
+        ensures rung { bells.new.rung_for ≡ length (published node.new.publisher.handle) }
+    {
+        let folded = node.fold_next(self.rt, self.queue, self.board);
+        bells.ring_for(node.published_len());
+        if let Some(link) = node.take_refused() {
+            self.watcher.refused(&link);
+        }
+        folded
     }
 
     // Tells that there was no memory, once until there is some again.

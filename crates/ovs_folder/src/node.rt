@@ -120,6 +120,13 @@ impl<K: NodeName, Q: FeedName, R: Wait + Drop> Node<K, Q, Handle<K, R>> {
         Ok(true)
     }
 
+    /// How many steps of the chain are published.
+    pub fn published_len(&self) -> u64
+        ensures value { result ≡ length (published self.now.publisher.handle) }
+    {
+        self.publisher.told().len()
+    }
+
     /// What became of all that was sent, once all ends are back and a `fold_next` after that answered false.
     pub fn finish(self) -> Report<K, Handle<K, R>>
         requires back { length self.intake.feed.returned ≡ self.intake.feed.ends }
