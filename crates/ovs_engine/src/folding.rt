@@ -1,8 +1,9 @@
 //! What the folder's thread does, beside all others.
 
-ghost use Rattle.std.specs.Prelude.{◌≡◌, IfOk, IfErr, length, vec_len};
+ghost use Rattle.std.specs.Prelude.{◌≡◌, Ok, false, IfOk, IfErr, OnOk, length, vec_len};
 ghost use Rattle.left_right.specs.Handles.{published, pending};
-ghost use Rattle.ovs_folder.specs.InStep.{IsInStep};
+ghost use Rattle.ovs_feed.specs.Feed.{IsDrained};
+ghost use Rattle.ovs_folder.specs.InStep.{IsAtRest, IsInStep};
 ghost use Rattle.ovs_folder.specs.Ledger.{steps_in};
 
 use crate::party::beside_with_views;
@@ -78,6 +79,7 @@ impl<'a, K: NodeName, Q: FeedName, B: Bell, O: Watcher, R: Wait> Folding<'a, K, 
     pub(crate) fn fold_all<H: Wait + Drop>(&self, node: &mut Node<K, Q, Handle<K, H>>)
         requires in_step { IsInStep (published node.old.publisher.handle) (pending node.old.publisher.handle) node.old.publisher.front node.old.publisher.kept (steps_in node.old.intake.store) }
         ensures in_step { IsInStep (published node.new.publisher.handle) (pending node.new.publisher.handle) node.new.publisher.front node.new.publisher.kept (steps_in node.new.intake.store) }
+        ensures done { IsAtRest node.new.intake node.new.settled (published node.new.publisher.handle) × IsDrained node.new.intake.feed }
     {
         let mut bells = Bells {
             bells: self.bells,
@@ -107,6 +109,8 @@ impl<'a, K: NodeName, Q: FeedName, B: Bell, O: Watcher, R: Wait> Folding<'a, K, 
         requires in_step { IsInStep (published node.old.publisher.handle) (pending node.old.publisher.handle) node.old.publisher.front node.old.publisher.kept (steps_in node.old.intake.store) }
         ensures in_step { IsInStep (published node.new.publisher.handle) (pending node.new.publisher.handle) node.new.publisher.front node.new.publisher.kept (steps_in node.new.intake.store) }
         ensures rung { bells.new.rung_for ≡ length (published node.new.publisher.handle) }
+        ensures rest { OnOk result (IsAtRest node.new.intake node.new.settled (published node.new.publisher.handle)) }
+        ensures drained { result ≡ Ok false → IsDrained node.new.intake.feed }
     {
         let folded = node.fold_next(self.rt, self.queue, self.board);
         bells.ring_for(node.published_len());
@@ -156,13 +160,15 @@ pub fn fold_beside<
 >
     requires in_step { IsInStep (published node.publisher.handle) (pending node.publisher.handle) node.publisher.front node.publisher.kept (steps_in node.intake.store) }
     ensures in_step { IfOk result (λ r. IsInStep (published r.1.publisher.handle) (pending r.1.publisher.handle) r.1.publisher.front r.1.publisher.kept (steps_in r.1.intake.store)) }
+    ensures done { IfOk result (λ r. IsAtRest r.1.intake r.1.settled (published r.1.publisher.handle) × IsDrained r.1.intake.feed) }
     ensures all { IfOk result (λ r. vec_len r.0 ≡ vec_len jobs) }
     ensures handed_back { IfErr result (λ n. (n.jobs ≡ jobs) × IsInStep (published n.node.publisher.handle) (pending n.node.publisher.handle) n.node.publisher.front n.node.publisher.kept (steps_in n.node.intake.store)) }
 {
     folding.running.store(jobs.len() as u64, Ordering::SeqCst);
     let folds = move || -> Node<K, Q, Handle<K, H>>
         requires { IsInStep (published node.publisher.handle) (pending node.publisher.handle) node.publisher.front node.publisher.kept (steps_in node.intake.store) }
-        ensures { IsInStep (published result.publisher.handle) (pending result.publisher.handle) result.publisher.front result.publisher.kept (steps_in result.intake.store) }
+        ensures in_step { IsInStep (published result.publisher.handle) (pending result.publisher.handle) result.publisher.front result.publisher.kept (steps_in result.intake.store) }
+        ensures done { IsAtRest result.intake result.settled (published result.publisher.handle) × IsDrained result.intake.feed }
     {
         let mut node = node;
         folding.fold_all(&mut node);

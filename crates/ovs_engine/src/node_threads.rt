@@ -3,7 +3,8 @@
 ghost use Rattle.std.specs.Prelude.{◌≡◌, IfOk, IfErr, vec_len};
 ghost use Rattle.std.specs.Vec.Iter.{into_iter_len};
 ghost use Rattle.left_right.specs.Handles.{published, pending};
-ghost use Rattle.ovs_folder.specs.InStep.{IsInStep};
+ghost use Rattle.ovs_feed.specs.Feed.{IsDrained};
+ghost use Rattle.ovs_folder.specs.InStep.{IsAtRest, IsInStep};
 ghost use Rattle.ovs_folder.specs.Ledger.{steps_in};
 
 use crate::connector::Connector;
@@ -132,6 +133,7 @@ pub fn run_node<
     requires schema { shared.now.schema.now ≡ K.schema }
     requires in_step { IsInStep (published node.publisher.handle) (pending node.publisher.handle) node.publisher.front node.publisher.kept (steps_in node.intake.store) }
     ensures in_step { IfOk result (λ r. IsInStep (published r.node.publisher.handle) (pending r.node.publisher.handle) r.node.publisher.front r.node.publisher.kept (steps_in r.node.intake.store)) }
+    ensures done { IfOk result (λ r. IsAtRest r.node.intake r.node.settled (published r.node.publisher.handle) × IsDrained r.node.intake.feed) }
     ensures all { IfOk result (λ r. into_iter_len r.backs ≡ vec_len crew.entry.jobs) }
     ensures handed_back { IfErr result (λ n. (n.crew.jobs ≡ crew.entry.jobs) × IsInStep (published n.node.publisher.handle) (pending n.node.publisher.handle) n.node.publisher.front n.node.publisher.kept (steps_in n.node.intake.store)) }
 {

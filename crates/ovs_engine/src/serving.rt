@@ -2,7 +2,8 @@
 
 ghost use Rattle.std.specs.Prelude.{◌≡◌, IfOk, IfErr, vec_len};
 ghost use Rattle.left_right.specs.Handles.{published, pending};
-ghost use Rattle.ovs_folder.specs.InStep.{IsInStep};
+ghost use Rattle.ovs_feed.specs.Feed.{IsDrained};
+ghost use Rattle.ovs_folder.specs.InStep.{IsAtRest, IsInStep};
 ghost use Rattle.ovs_folder.specs.Ledger.{steps_in};
 
 use crate::connector::Connector;
@@ -176,6 +177,7 @@ pub(crate) fn beside_upstreams<
 >
     requires in_step { IsInStep (published node.publisher.handle) (pending node.publisher.handle) node.publisher.front node.publisher.kept (steps_in node.intake.store) }
     ensures in_step { IfOk result (λ r. IsInStep (published r.1.publisher.handle) (pending r.1.publisher.handle) r.1.publisher.front r.1.publisher.kept (steps_in r.1.intake.store)) }
+    ensures done { IfOk result (λ r. IsAtRest r.1.intake r.1.settled (published r.1.publisher.handle) × IsDrained r.1.intake.feed) }
     ensures all { IfOk result (λ r. vec_len r.0 ≡ vec_len jobs.entry) }
     ensures handed_back { IfErr result (λ n. (n.jobs ≡ jobs.entry) × IsInStep (published n.node.publisher.handle) (pending n.node.publisher.handle) n.node.publisher.front n.node.publisher.kept (steps_in n.node.intake.store)) }
 {
