@@ -194,12 +194,17 @@ def asks(pair):
         print(f"{name}, {size:,} bytes: {told}", flush=True)
 
 
-def counting(pair):
+def counter_requests(load):
     """A request that changes the one row of a table, and one that monitors it."""
-    pair.fill("Counter", 1)
     write = {"op": "mutate", "table": "Counter", "where": [], "mutations": [["number", "+=", 1]]}
     watch = {"Counter": {"columns": ["name", "number"]}}
-    return pair.load.file("write", request("transact", write)), pair.load.file("watch", request("monitor_cond", "m", watch))
+    return load.file("write", request("transact", write)), load.file("watch", request("monitor_cond", "m", watch))
+
+
+def counting(pair):
+    """The requests, where the table has its row."""
+    pair.fill("Counter", 1)
+    return counter_requests(pair.load)
 
 
 def writes(pair):
