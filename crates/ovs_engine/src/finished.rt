@@ -23,13 +23,13 @@ pub struct Returned<K: NodeName, F, D> {
 /// What is left of a node whose threads have come to their ends.
 #[derive(Drop)]
 pub struct Finished<K: NodeName, F: Drop, D: Drop, N> {
-    /// The node; all that was sent to it was taken, folded and published.
+    /// The node. That it is at rest `run_node` says, and `run_source` of `ovs_origin`.
     pub node: N,
     backs: IntoIter<Back<K, F, D>>,
 }
 
 impl<K: NodeName, F: Drop, D: Drop, N> Finished<K, F, D, N> {
-    /// The node, and what comes back of its threads, in the order in which they were added.
+    /// The node, and what comes back of its threads, in this order.
     pub fn new(node: N, backs: Vec<Back<K, F, D>>) -> Finished<K, F, D, N>
         ensures node { result.node ≡ node }
         ensures all { into_iter_len result.backs ≡ vec_len backs }
@@ -41,7 +41,7 @@ impl<K: NodeName, F: Drop, D: Drop, N> Finished<K, F, D, N> {
         }
     }
 
-    /// What the next thread hands back, in the order in which they were added; `None` once all are given, each of them once.
+    /// What the next thread hands back, in the order that was given; `None` once all are given, each of them once.
     pub fn next_back(&mut self) -> Option<Returned<K, F, D>>
         ensures node { self.new.node ≡ self.old.node }
         ensures count { into_iter_len self.new.backs + length (option_to_list result) ≡ into_iter_len self.old.backs }

@@ -103,8 +103,9 @@ pub struct NotRun<
     pub crew: Crew<'a, K, Q, C, D, L, B>,
 }
 
-/// Runs a node: each upstream and each worker in a thread of its own, and the folder in this one. Comes back once all threads
-/// have come to their ends and all that the upstreams sent was taken.
+/// Runs a node: each upstream and each worker in a thread of its own, and the folder in this one, until all threads have come to
+/// their ends. What comes back is at rest: all that the node holds is folded and published. That all that the upstreams sent was
+/// taken is known once their ends have come back to the node (`Node::join`) and its `fold_next` answers false.
 ///
 /// A thread that couldn't be started counts as one that has ended, with nothing done.
 ///

@@ -54,8 +54,8 @@ impl<T: Drop, K: FeedName> Feed<T, K> {
         }
     }
 
-    /// The next item, with the number of its end. None only where the queue was empty at one step of the call: then all that
-    /// the ends that are back sent was taken. It waits only for an end that is in the middle of a `send`.
+    /// The next item, with the number of its end. Where it gives none, all that the ends that are back sent was taken; of ends
+    /// that are out this says nothing. It waits only for an end that is in the middle of a `send`.
     pub fn take<R: Wait>(&mut self, rt: &R, queue: &FeedQueue<T, K>) -> Option<Item<T>>
         ensures some { IfSome result (λ item. self.new ≡ record { taken = self.old.taken ++ item ∷ []; ends = self.old.ends; returned = self.old.returned }) }
         ensures none { IfNone result ((self.new ≡ self.old) × IsDrained self.old) }

@@ -20,8 +20,8 @@ use std::alloc::Global;
 use std::marker::Model;
 use std::sync::Wait;
 
-/// A store with the feed that its links come from. Each link that came is held, or was refused and counted, or is kept to be
-/// taken.
+/// A store with the feed that its links come from. Each link that came is held, or contradicts a held one, or the store is full,
+/// or it is kept to be taken; where both counts of refused links are 0 each is held or kept.
 #[derive(Drop)]
 pub struct Intake<K: NodeName, Q: FeedName> {
     store: LinkStore,
@@ -124,7 +124,7 @@ impl<K: NodeName, Q: FeedName> Intake<K, Q> {
         self.refused.take()
     }
 
-    /// Pops one link, and keeps it to be taken. False exactly where the feed was empty.
+    /// Pops one link, and keeps it to be taken. False where the feed gave none.
     pub fn pop<R: Wait>(&mut self, rt: &R, queue: &FeedQueue<NodeLink<K>, Q>) -> bool
         requires none { self.old.kept ≡ None }
         ensures store { self.new.store ≡ self.old.store }
@@ -188,8 +188,8 @@ impl<K: NodeName, Q: FeedName> Intake<K, Q> {
         self.feed.returned() == self.feed.ends()
     }
 
-    /// The store and the counts, when all ends are back and all that they sent was taken: each held link was sent, and each that
-    /// was sent is held, or was refused and counted.
+    /// The store and the counts, when all ends are back and all that they sent was taken: each held link was sent, and where both
+    /// counts are 0 each that was sent is held.
     pub fn close(self) -> Closed<K>
         requires taken { self.kept ≡ None }
         requires back { length self.feed.returned ≡ self.feed.ends }

@@ -95,7 +95,7 @@ impl<K: NodeName, Q: FeedName, R: Wait + Drop> Node<K, Q, Handle<K, R>> {
     }
 
     /// Does what an earlier want of memory left, and then takes one link more, folds the chain, publishes it and posts it on the
-    /// board. True where a link was taken, false where the feed was empty; then nothing is left to do.
+    /// board. True where a link was taken, false where the feed gave none; then nothing is left to do.
     ///
     /// # Errors
     /// `NoMemory` alone; then what is left is kept for the next call.

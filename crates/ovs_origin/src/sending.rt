@@ -139,7 +139,7 @@ fn send_all<K: NodeName, L: OriginDesk<K>, S: LinkSink, R: Wait>(
 /// none, and ends once no other of the threads runs that are counted here with its own, and no link is left: so the desk is to
 /// be rung after each of them has left, and after what may make a link.
 ///
-/// - `Closed`: no thread that asks the desk runs any more, and every link that it gave was sent.
+/// - `Closed`: no thread that asks the desk runs any more, and no link that was taken from it is unsent.
 /// - `NoMemory`: memory ran out in the sink a million times in a row. The link that wasn't sent is handed back, and those after
 ///   it are still at the desk.
 pub fn follow_source<K: NodeName, L: OriginDesk<K>, S: LinkSink, R: Wait>(

@@ -20,7 +20,7 @@ pub struct SourceLine<K: NodeName, Q: FeedName, L: OriginDesk<K>> {
     ghost admitted: { ∥ AllOf L.gives end.1 ∥₁ },
 }
 
-/// What is left of it once nothing more is sent: where that ended `Closed`, all that the desk gave was sent.
+/// What is left of it once nothing more is sent: where that ended `Closed`, no link that was taken from the desk is unsent.
 #[derive(Drop)]
 pub struct SourceSent<K: NodeName, Q: FeedName, L: OriginDesk<K>> {
     /// What the links were sent with.

@@ -153,8 +153,9 @@ fn beside_source<
 }
 
 /// Runs a source: the links of its desk are sent to the node's feed by a thread of their own, each worker serves readers in
-/// one of its own, and the folder is in this one. Comes back once all threads have come to their ends and all links that were
-/// sent were taken.
+/// one of its own, and the folder is in this one, until all threads have come to their ends. What comes back is at rest: all that
+/// the node holds is folded and published. That all links that were sent were taken is known once the end has come back to the
+/// node (`Node::join`) and its `fold_next` answers false.
 ///
 /// A thread that couldn't be started counts as one that has ended with `NoMemory`, with nothing done.
 ///

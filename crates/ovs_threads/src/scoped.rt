@@ -78,7 +78,8 @@ fn end_all<X: Drop, R: Threads>(rt: &R, begun: Vec<Begun<X>>, results: &mut Vec<
 }
 
 /// Does each job in a thread of its own, and beside them what is to be done here, in this thread. Comes back once all have
-/// come to their ends, with what came of each job, in order. A job whose thread couldn't be started is refused.
+/// come to their ends, with as many results as there were jobs. A job whose thread couldn't be started is refused. Which jobs
+/// are, and which result is of which job, no clause says.
 ///
 /// # Errors
 /// `NotBegun` where memory ran out.
