@@ -11,5 +11,4 @@ pub mod Owed
 pub mod Owners
 pub mod Places
 pub mod Search
-pub mod Shown
 pub mod Steps

@@ -6,4 +6,3 @@ pub mod Ledger
 pub mod RelayDesk
 pub mod Relaying
 pub mod Runs
-pub mod ShownRuns

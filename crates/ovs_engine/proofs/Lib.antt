@@ -1,3 +1,2 @@
 pub mod Admitted
-pub mod Collected
 pub mod DeskParts

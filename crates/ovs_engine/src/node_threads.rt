@@ -13,7 +13,6 @@ use crate::desk_lock::{DeskLock, UpwardDesk};
 use crate::finished::{Finished, Returned};
 use crate::folding::Folding;
 use crate::line::Line;
-use crate::progress::Progress;
 use crate::serving::{Serving, beside_upstreams};
 use crate::upstreams::Follows;
 use crate::watcher::Watcher;
@@ -30,7 +29,7 @@ use std::thread::Threads;
 
 /// What the threads of a node share.
 #[derive(Drop)]
-pub struct Shared<'a, K: NodeName, Q: FeedName, L: DeskLock<K>, B: Bell, O: Watcher, R: Wait> {
+pub struct Shared<'a, K: NodeName, Q: FeedName, L: DeskLock, B: Bell, O: Watcher, R: Wait> {
     /// What they wait with.
     pub rt: &'a R,
     /// The node's schema.
@@ -53,12 +52,11 @@ pub struct Shared<'a, K: NodeName, Q: FeedName, L: DeskLock<K>, B: Bell, O: Watc
     pub limits: Limits,
 }
 
-/// What the threads of a node count: the numbers of their sessions, how many of them run, and how far the folder has come.
+/// What the threads of a node count: the numbers of their sessions, and how many of them run.
 #[derive(Drop)]
 pub struct Counters {
     numbers: AtomicU64,
     running: AtomicU64,
-    progress: Progress,
 }
 
 impl Counters {
@@ -67,18 +65,12 @@ impl Counters {
         Counters {
             numbers: AtomicU64::new(0),
             running: AtomicU64::new(0),
-            progress: Progress::new(),
         }
     }
 
     /// The number of the next session of any worker.
     pub fn numbers(&self) -> &AtomicU64 {
         &self.numbers
-    }
-
-    /// How far the folder has come.
-    pub fn progress(&self) -> &Progress {
-        &self.progress
     }
 
     /// How many threads run beside the folder's.
@@ -125,7 +117,7 @@ pub fn run_node<
     Q: FeedName + Send + Sync,
     C: Connector<In: Send, Out: Send> + Drop + Send,
     D: Doors<In: Send, Out: Send> + Drop + Send,
-    L: UpwardDesk + DeskLock<K> + Sync,
+    L: UpwardDesk + Sync,
     B: Bell + Sync,
     O: Watcher,
     H: Wait + Drop,
@@ -153,7 +145,6 @@ pub fn run_node<
         bells: shared.bells,
         watcher: shared.watcher,
         running: shared.counters.running(),
-        progress: shared.counters.progress(),
     };
     let serving = Serving {
         feeds: Follows {
@@ -172,7 +163,6 @@ pub fn run_node<
         bells: shared.bells,
         numbers: shared.counters.numbers(),
         running: shared.counters.running(),
-        progress: shared.counters.progress(),
         limits: shared.limits,
     };
     match beside_upstreams(&folding, crew.jobs, &serving, node) {

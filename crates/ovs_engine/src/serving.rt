@@ -12,7 +12,6 @@ use crate::desks::{SharedDesk, SharedSide};
 use crate::folding::{Folding, NotFolded, fold_beside};
 use crate::line::Line;
 use crate::party::Party;
-use crate::progress::Progress;
 use crate::upstreams::{Follows, Upstream};
 use crate::watcher::Watcher;
 use crate::workers::serve_readers;
@@ -45,16 +44,7 @@ pub trait Feeds<K: NodeName, E, F> {
 
 /// What the threads of a node share, but for the folder's.
 #[derive(Drop)]
-pub struct Serving<
-    'a,
-    K: NodeName,
-    Q: FeedName,
-    T: Drop,
-    L: DeskLock<K>,
-    U: Bell,
-    B: Bell,
-    R: Wait,
-> {
+pub struct Serving<'a, K: NodeName, Q: FeedName, T: Drop, L: DeskLock, U: Bell, B: Bell, R: Wait> {
     /// What those do that send links.
     pub feeds: T,
     /// What they wait with.
@@ -73,13 +63,11 @@ pub struct Serving<
     pub numbers: &'a AtomicU64,
     /// How many threads run.
     pub running: &'a AtomicU64,
-    /// How far the folder has come.
-    pub progress: &'a Progress,
     /// How much of a session may wait to be written, and how many messages it answers in a turn.
     pub limits: Limits,
 }
 
-impl<'a, K: NodeName, Q: FeedName, T: Drop, L: DeskLock<K>, U: Bell, B: Bell, R: Wait> Serving<
+impl<'a, K: NodeName, Q: FeedName, T: Drop, L: DeskLock, U: Bell, B: Bell, R: Wait> Serving<
     'a,
     K,
     Q,
@@ -98,13 +86,7 @@ impl<'a, K: NodeName, Q: FeedName, T: Drop, L: DeskLock<K>, U: Bell, B: Bell, R:
 
     // Serves readers at these doors.
     fn serve<D: Doors>(&self, doors: &mut D, view: View<K>) -> (View<K>, Tally) {
-        let desk = SharedDesk::new(
-            self.alloc,
-            self.desk,
-            self.upward,
-            self.bells,
-            self.progress,
-        );
+        let desk = SharedDesk::new(self.alloc, self.desk, self.upward, self.bells);
         serve_readers::<K, SharedDesk<'a, L, U, B>, D, R>(
             self.rt,
             self.alloc,
@@ -122,7 +104,7 @@ impl<
     K: NodeName,
     Q: FeedName,
     T: Feeds<K, E, F> + Drop,
-    L: DeskLock<K>,
+    L: DeskLock,
     U: Bell,
     B: Bell,
     R: Wait,
@@ -179,7 +161,7 @@ pub(crate) fn beside_upstreams<
     Q: FeedName + Send + Sync,
     C: Connector<In: Send, Out: Send> + Drop + Send,
     D: Doors<In: Send, Out: Send> + Drop + Send,
-    L: UpwardDesk + DeskLock<K> + Sync,
+    L: UpwardDesk + Sync,
     B: Bell + Sync,
     O: Watcher,
     H: Wait + Drop,

@@ -1,4 +1,3 @@
 pub mod ByName
-pub mod BySession
 pub mod Lock
 pub mod LockTable

@@ -5,13 +5,12 @@ ghost use Rattle.ovs_links.specs.Sets.{IsOfTables};
 
 use crate::node_source::NodeSource;
 use crate::origin_desk::OriginDesk;
-use crate::origin_state::OriginState;
 use ovs_authority::Ask;
 use ovs_engine::DeskLock;
 use ovs_hall::Bell;
 use ovs_json::NoMemory;
 use ovs_links::Link;
-use ovs_views::{NodeName, View, ViewSession};
+use ovs_views::NodeName;
 use ovs_wire::Message;
 use std::alloc::Global;
 use std::sync::{Mutex, Wait};
@@ -21,38 +20,28 @@ use std::thread::Parker;
 #[derive(Drop)]
 pub struct LockedSource<'a, K: NodeName, R: Wait> {
     rt: &'a R,
-    desk: Mutex<OriginState<K>>,
+    desk: Mutex<NodeSource<K>>,
     bell: Parker,
 }
 
 impl<'a, K: NodeName, R: Wait> LockedSource<'a, K, R> {
     /// This desk.
-    pub fn new(rt: &'a R, alloc: Global, desk: NodeSource<K>) -> LockedSource<'a, K, R> {
+    pub fn new(rt: &'a R, desk: NodeSource<K>) -> LockedSource<'a, K, R> {
         LockedSource {
             rt,
-            desk: Mutex::new(OriginState::new(alloc, desk)),
+            desk: Mutex::new(desk),
             bell: Parker::new(),
         }
     }
 }
 
-impl<'a, K: NodeName, R: Wait> DeskLock<K> for LockedSource<'a, K, R> {
-    ghost owes = { λ _ _ _ _. Unit {0} };
-
+impl<'a, K: NodeName, R: Wait> DeskLock for LockedSource<'a, K, R> {
     fn ask(&self, alloc: Global, who: u64, ask: Ask) -> Result<Option<Message>, NoMemory> {
         self.desk.lock(self.rt).ask(alloc, who, ask)
     }
 
-    fn collect(
-        &self,
-        alloc: Global,
-        who: u64,
-        is_held_back: bool,
-        view: &mut View<K>,
-        session: &ViewSession<K>,
-    ) -> Result<Option<Message>, NoMemory> {
-        let mut state = self.desk.lock(self.rt);
-        state.collect(alloc, who, is_held_back, view, session)
+    fn collect(&self, alloc: Global, who: u64) -> Result<Option<Message>, NoMemory> {
+        self.desk.lock(self.rt).collect(alloc, who)
     }
 
     fn end_session(&self, who: u64) {

@@ -193,7 +193,6 @@ pub fn run_source<
         bells: shared.bells,
         watcher: shared.watcher,
         running: shared.counters.running(),
-        progress: shared.counters.progress(),
     };
     let serving = Serving {
         feeds: Sends {
@@ -210,7 +209,6 @@ pub fn run_source<
         bells: shared.bells,
         numbers: shared.counters.numbers(),
         running: shared.counters.running(),
-        progress: shared.counters.progress(),
         limits: shared.limits,
     };
     match beside_source(&folding, crew.jobs, &serving, node) {

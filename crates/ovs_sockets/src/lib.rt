@@ -4,7 +4,6 @@
 mod bell;
 mod channel;
 mod client;
-mod crowd;
 mod doors;
 mod ending;
 mod listening;
