@@ -7,6 +7,9 @@ from upstream import Upstream, unknown
 
 CLIENTS = 8
 EACH = 40
+# How many requests may be on their way from a relay, and how many of them from one session.
+MOST = 4_096
+OF_ONE = 128
 
 
 @check(240)
@@ -136,7 +139,7 @@ def too_many_requests(lab):
 
     def holds_back(connection):
         connection.begin(unknown)
-        while len(messages) < 4_096:
+        while len(messages) < MOST:
             messages.append(connection.receive())
         wait_until(lambda: refused, 30, "the next request is refused")
         for message in messages:
@@ -148,15 +151,17 @@ def too_many_requests(lab):
     refused = []
     upstream = lab.keep(Upstream(NET, holds_back))
     relay = lab.relay([upstream])
-    many, one = relay.session(), relay.session()
-    numbers = [many.request("transact", "net", insert()) for _ in range(4_096)]
-    wait_until(lambda: len(messages) == 4_096, 30, "all requests went up")
+    one, many = relay.session(), [relay.session() for _ in range(MOST // OF_ONE)]
+    for session in many:
+        for _ in range(OF_ONE):
+            session.request("transact", "net", insert())
+    wait_until(lambda: len(messages) == MOST, 30, "all requests went up")
     try:
         raise AssertionError(f"answered {one.transact('net', insert())!r}")
     except Refused as fault:
         refused.append(fault.args[0])
     equal(refused, [{"error": "too many requests"}], "the refusal")
-    waiting = hear_all([many], lambda session: len(session.replies) == len(numbers), 30)
-    holds(not waiting, f"{len(many.replies)} of {len(numbers)} were answered")
+    waiting = hear_all(many, lambda session: len(session.replies) == OF_ONE, 30)
+    holds(not waiting, f"{len(waiting)} of {len(many)} sessions weren't answered all")
     equal(one.transact("net", insert()), [{"count": 1}], "the next request")
     equal(upstream.faults, [], "the stand-in's faults")

@@ -4,6 +4,7 @@ import os
 import re
 import subprocess
 
+import own_writes
 from client import Closed, Refused, Session
 from data import NET, ZEROS, insert, select
 from debian import alone, clustered, environment, run, schema_file, Server, tool, wait_for, watch
@@ -15,6 +16,7 @@ from upstream import Passage
 LIMIT = 300
 HERE = os.path.dirname(os.path.abspath(__file__))
 DEBIAN_PYTHON = "/usr/bin/python3"
+OWN_WRITES = 40
 # A clustered server remembers this many commits at most.
 REMEMBERED = 100
 
@@ -132,6 +134,32 @@ def python_idl(lab):
         writer.transact("net", {"op": "delete", "table": "Port", "where": [["name", "==", "first"]]})
         wait_for(client, "rows written\n")
         equal(names(writer), ["written"], "the server's rows")
+
+
+@check(LIMIT)
+def python_idl_sees_what_it_wrote(lab):
+    """The Python IDL at the last of two relays has each row that it inserts once the commit is answered."""
+    server, relay = chain_behind_a_cluster(lab, NET)
+    written = [f"written-{number}" for number in range(OWN_WRITES)]
+    with server.session() as writer:
+        writer.transact("net", insert(name="first"))
+        client = idl(lab, relay, *written)
+        wait_for(client, f" {written[-1]} ", 40)
+    told = [line.partition(" ")[2] for line in client.output().splitlines() if line.startswith("commit")]
+    missing = [line for line, name in zip(told, written) if line != f"success {name} is there"]
+    holds(not missing, f"{len(missing)} of {len(written)} rows weren't there when the commit was answered: {missing[:3]!r}")
+
+
+@check(LIMIT)
+def own_writes_behind_a_cluster(lab):
+    """Behind a clustered server, too, a client is told of its own insert before the reply, and a select then shows it, at one relay and at two."""
+    server, relay = behind_a_cluster(lab)
+    counts = []
+    for node in (server, relay, lab.relay([relay], name="second").with_source()):
+        for kind in own_writes.KINDS:
+            counts.append(own_writes.Count(f"{node.name}, {kind}"))
+            own_writes.writes(own_writes.watching(node, kind), 5 * OWN_WRITES, counts[-1])
+    own_writes.all_good(counts)
 
 
 @check(LIMIT)

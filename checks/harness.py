@@ -124,11 +124,10 @@ class Lab:
         self.children.append(child)
         return child
 
-    def run(self, *words, text=b"", seconds=START_SECONDS, out=None):
+    def run(self, *words, text=b"", seconds=START_SECONDS, out=None, environment=None):
         """Runs the program to its end: the status, standard output and standard error."""
-        ran = subprocess.run(
-            [self.program, *words], input=text, stdout=out or subprocess.PIPE, stderr=subprocess.PIPE, cwd=self.folder, timeout=seconds, check=False
-        )
+        streams = {"stdout": out or subprocess.PIPE, "stderr": subprocess.PIPE}
+        ran = subprocess.run([self.program, *words], input=text, cwd=self.folder, timeout=seconds, check=False, env=environment, **streams)
         return ran.returncode, (ran.stdout or b"").decode(errors="replace"), ran.stderr.decode(errors="replace")
 
     def source_words(self, port, *more, schema=NET):
@@ -141,14 +140,14 @@ class Lab:
             words += ["--upstream", f"127.0.0.1:{upstream}"]
         return words + list(more)
 
-    def source(self, *more, port=None, schema=NET):
+    def source(self, *more, port=None, schema=NET, environment=None):
         port = port or free_port()
-        return Node(self, self.source_words(port, *more, schema=schema), "source", port).serving()
+        return Node(self, self.source_words(port, *more, schema=schema), "source", port, environment).serving()
 
-    def relay(self, upstreams, *more, port=None, schema=NET, name="relay"):
+    def relay(self, upstreams, *more, port=None, schema=NET, name="relay", environment=None):
         port = port or free_port()
         ports = [getattr(upstream, "port", upstream) for upstream in upstreams]
-        return Node(self, self.relay_words(port, ports, *more, schema=schema), name, port).serving()
+        return Node(self, self.relay_words(port, ports, *more, schema=schema), name, port, environment).serving()
 
     def tier(self, *more):
         """A source, and a relay behind it that has found it."""

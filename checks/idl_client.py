@@ -1,6 +1,7 @@
-"""A client by the Python library that Debian brings: python3 idl_client.py REMOTE SCHEMA [NAME].
+"""A client by the Python library that Debian brings: python3 idl_client.py REMOTE SCHEMA [NAME ..].
 
-Prints `rows` with the names of all rows whenever they change, and once it has seen some inserts a row of this name. Runs for a minute.
+Prints `rows` with the names of all rows whenever they change. Once it has seen some it inserts a row of each of these names, one after the
+other, and prints for each the status of the commit, and whether the row was there with it. Runs for a minute.
 """
 import sys
 import time
@@ -18,7 +19,7 @@ def names(idl):
 def insert(idl, name):
     transaction = ovs.db.idl.Transaction(idl)
     transaction.insert(idl.tables["Port"]).name = name
-    print("commit", transaction.commit_block(), flush=True)
+    print("commit", transaction.commit_block(), name, "is" if name in names(idl) else "isn't", "there", flush=True)
 
 
 def main():
@@ -32,8 +33,8 @@ def main():
         if idl.change_seqno and names(idl) != shown:
             shown = names(idl)
             print("rows", *shown, flush=True)
-        if written and shown:
-            insert(idl, written.pop())
+        while written and shown:
+            insert(idl, written.pop(0))
         poller = ovs.poller.Poller()
         idl.wait(poller)
         poller.timer_wait(200)

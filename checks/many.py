@@ -73,7 +73,7 @@ def a_client_that_never_reads(lab):
     writer = relay.session()
     row = writer.transact("net", insert(name="p"))[0]["uuid"]
     reader = Mirror(relay.session(), NET, "Port", "monitor_cond", "m", {"columns": ["name"]})
-    # The answer to the insert may come before its commit.
+    # Another session's reply to its insert may come before the commit is told here.
     if not reader.rows:
         reader.take(20)
     change(writer, row, 0)

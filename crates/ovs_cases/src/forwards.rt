@@ -4,8 +4,9 @@ use crate::case::{add, list, part, text, word};
 use crate::fault::Fault;
 use crate::messages::text_of;
 use ovs_authority::{Answer, Request};
-use ovs_desk::{ForwardError, Forwards};
+use ovs_desk::{ForwardError, Forwards, StandingAnswer};
 use ovs_json::Json;
+use ovs_types::TxnId;
 use ovs_wire::{Id, Message, Method, Params};
 use serde_json::Value;
 use std::alloc::Global;
@@ -57,6 +58,10 @@ fn reply(alloc: Global, forwards: &mut Forwards, parts: &[Value]) -> Result<Stri
     let answer = Answer {
         result: Json::new(part(parts, 2)?.clone()?),
         error: Json::new(Value::Null),
+    };
+    let answer = StandingAnswer {
+        answer,
+        standing: TxnId::zero(),
     };
     match forwards.reply(number(parts, 1)?, answer) {
         Ok(()) => word(alloc, "ok"),

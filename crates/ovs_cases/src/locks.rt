@@ -22,6 +22,7 @@ fn asked(alloc: Global, answer: Result<bool, LockError>) -> Result<String, Fault
         Err(LockError::NoMemory) => Err(Fault::NoMemory),
         Err(LockError::BadLock) => word(alloc, "bad lock"),
         Err(LockError::AlreadyAsked) => word(alloc, "already asked"),
+        Err(LockError::TooMany) => word(alloc, "too many requests"),
     }
 }
 

@@ -4,9 +4,9 @@ use crate::case::{add, list, part, text, word};
 use crate::desks::{asked, collected, ended, session, told, verb};
 use crate::fault::Fault;
 use ovs_authority::Answer;
-use ovs_desk::{BadReply, RelayDesk, SourceMessage};
+use ovs_desk::{BadReply, RelayDesk, SourceMessage, StandingAnswer};
 use ovs_json::Json;
-use ovs_types::Text;
+use ovs_types::{Text, TxnId};
 use serde_json::Value;
 use std::alloc::Global;
 
@@ -32,7 +32,10 @@ fn said(alloc: Global, what: &str, parts: &[Value]) -> Result<SourceMessage, Fau
     match what {
         "reply" => Ok(SourceMessage::ReplyFor {
             number: part(parts, 1)?.as_u64().ok_or(Fault::Malformed)?,
-            answer: answer(parts)?,
+            answer: StandingAnswer {
+                answer: answer(parts)?,
+                standing: TxnId::zero(),
+            },
         }),
         "locked" => Ok(SourceMessage::Locked(name(alloc, parts)?)),
         _ => Ok(SourceMessage::Stolen(name(alloc, parts)?)),

@@ -113,7 +113,7 @@ module _ (who : ℕ) (d e : RelayValue) (m : Option Message) (k : CollectsSent w
   by_state r (Waiting request) x h known = absurd cc
   by_state r Taken x h known = absurd cc
   by_state r (Answered answer) x h known =
-      let same : x ≡ messages.Reply answer.result answer.error r.id = cc in
+      let same : x ≡ messages.Reply answer.answer.result answer.answer.error r.id = cc in
       subst (λ (y : Message). CollectsTo (owing_of d who) (Some y) (owing_of e who)) (sym same)
       (known, waits, ap (λ l. map message_of (notices_to who l.locks)) locks, ap (λ l. stands_at who l.locks) locks)
   by_state r Lost x h known =

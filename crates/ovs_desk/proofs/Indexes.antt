@@ -5,7 +5,7 @@ use Rattle.std.proofs.lemmas.Bool.{lt-ltb, le-ltb, ltb-true, ltb-false, cases_or
 use Rattle.std.specs.Prelude.{nat_lt, position, option_map, is_some}
 use Rattle.std.specs.List.{AllByRecursion, find, list_any, position_or_len}
 use Rattle.std.specs.List.Sorted.{IsPartitionPoint}
-use Rattle.ovs_authority.specs.declared.answer.Answer.{Answer}
+use Rattle.ovs_desk.specs.declared.standing.StandingAnswer.{StandingAnswer}
 use Rattle.ovs_desk.specs.declared.by_asker.ByAsker.{ByAsker}
 use Rattle.ovs_desk.specs.declared.pending.Pending.{Pending}
 use Rattle.ovs_desk.specs.declared.pending.State.{State}
@@ -259,7 +259,7 @@ module _ {sent : ℕ} {es : List Pending} {low : ℕ} {every owed : List ByAsker
     past = (let below = found_below (passes ToGo) 0 (4096 * sent) es r a is in omega (arith, below));
   }
 
-  pub index_answered : (n : ℕ) (answer : Answer) (r : Pending) → find (passes (Open n)) es ≡ Some r
+  pub index_answered : (n : ℕ) (answer : StandingAnswer) (r : Pending) → find (passes (Open n)) es ≡ Some r
       → IsIndex sent (at_first (passes (Open n)) (answered answer) es) low every (put (by_asker r) owed) room
   index_answered n answer r is = record {
     all = x.all ∙ sym (listed_same (passes (Open n)) (answered answer) (λ e. refl) is_any (λ e waits. refl) es);
@@ -271,7 +271,7 @@ module _ {sent : ℕ} {es : List Pending} {low : ℕ} {every owed : List ByAsker
   }
 
   -- one more is due, and there is room for it
-  pub room_for_answer : (n : ℕ) (answer : Answer) (r : Pending) → find (passes (Open n)) es ≡ Some r → length owed < room
+  pub room_for_answer : (n : ℕ) (answer : StandingAnswer) (r : Pending) → find (passes (Open n)) es ≡ Some r → length owed < room
   room_for_answer n answer r is =
       let y = index_answered n answer r is in
       let fewer : length (put (by_asker r) owed) ≤ length (at_first (passes (Open n)) (answered answer) es) =

@@ -2,7 +2,7 @@
 use Rattle.std.proofs.Common.{◌≡◌, List, [], ◌∷◌, ◌++◌, Bool, true, false, cond, Option, Some, None, refl, sym, ap, subst, ◌∙◌, inl, inr, append_assoc}
 use Rattle.std.specs.Prelude.{◌==◌, not, map, filter, option_to_list}
 use Rattle.std.specs.List.{find}
-use Rattle.ovs_authority.specs.declared.answer.Answer.{Answer}
+use Rattle.ovs_desk.specs.declared.standing.StandingAnswer.{StandingAnswer}
 use Rattle.ovs_desk.specs.declared.pending.Pending.{Pending}
 use Rattle.ovs_desk.specs.declared.pending.State.{State}
 use Rattle.ovs_desk.specs.declared.pending.State.TheVariants.{Waiting, Taken, Answered, Lost}
@@ -61,7 +61,7 @@ waiting_without test (e ∷ es) = by (test e) (is_waiting e.state) refl (waiting
     by false false is rest = rw is rest
 
 -- one that is answered waits no longer
-waiting_answered : (test : Pending → Bool) (answer : Answer) (es : List Pending) → IsPartOf (waiting (at_first test (answered answer) es)) (waiting es)
+waiting_answered : (test : Pending → Bool) (answer : StandingAnswer) (es : List Pending) → IsPartOf (waiting (at_first test (answered answer) es)) (waiting es)
 waiting_answered test answer [] = tt
 waiting_answered test answer (e ∷ es) = by (test e) (is_waiting e.state) refl (waiting_answered test answer es)
   where

@@ -134,8 +134,8 @@ record Replied (id : Data) (state : State) : Type 0 where
 own_reply : (id : Data) (state : State) → is_open state ≡ false → Replied id state
 own_reply id (Waiting request) e = absurd cc
 own_reply id Taken e = absurd cc
-own_reply id (Answered answer) e = record { result = answer.result; error = answer.error; is = refl }
-own_reply id Lost e = record { result = source_lost.result; error = source_lost.error; is = refl }
+own_reply id (Answered answer) e = record { result = answer.answer.result; error = answer.answer.error; is = refl }
+own_reply id Lost e = record { result = source_lost.answer.result; error = source_lost.answer.error; is = refl }
 
 gives_own : (before : List Pending) (c : Call) (l k : Ledger) → After c l k → AllByRecursion (λ e. WasSent e before) l.pending → GivesOwn c before
 gives_own before (Sends who id request n) l k after all = tt

@@ -11,4 +11,5 @@ pub mod Owed
 pub mod Owners
 pub mod Places
 pub mod Search
+pub mod Shown
 pub mod Steps

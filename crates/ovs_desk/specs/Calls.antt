@@ -2,8 +2,8 @@
 use Rattle.std.specs.Prelude.{◌≡◌, ◌≢◌, ◌<◌, ◌+◌, ◌*◌, ◌++◌, ◌==◌, ℕ, [], ◌∷◌, not, map, filter, Option, Some, None, Result, Ok, Err}
 use Rattle.std.specs.List.{AllByRecursion}
 use Rattle.serde_json.specs.Data.{Data}
-use Rattle.ovs_authority.specs.declared.answer.Answer.{Answer}
 use Rattle.ovs_authority.specs.declared.ask.Request.{Request}
+use Rattle.ovs_desk.specs.declared.standing.StandingAnswer.{StandingAnswer}
 use Rattle.ovs_desk.specs.declared.pending.Pending.{Pending}
 use Rattle.ovs_desk.specs.declared.pending.Sought.TheVariants.{ToGo, Open, Due}
 use Rattle.ovs_desk.specs.declared.pending.State.TheVariants.{Waiting}
@@ -17,7 +17,7 @@ use Rattle.ovs_desk.specs.Ledger.{Ledger, Forwarding, passes, taken, answered, l
 pub data Call : Type 0 where
   Sends : ℕ → Data → Request → ℕ → Call
   TakesUp : Option Pending → Call
-  Replies : ℕ → Answer → Call
+  Replies : ℕ → StandingAnswer → Call
   LosesSource : Call
   Collects : ℕ → Option Pending → Call
   Ends : ℕ → Call

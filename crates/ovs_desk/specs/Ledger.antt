@@ -1,5 +1,5 @@
 -- Requests that are passed on: how many were sent, and those that aren't collected yet, in order of sending.
-use Rattle.std.specs.Prelude.{◌≡◌, ◌%◌, ◌^◌, ◌==◌, ◌&&◌, ℕ, List, [], ◌∷◌, Bool, true, false, not, Option, Some, None, if◌then◌else◌, option_and_then, codes, length, nat_lt}
+use Rattle.std.specs.Prelude.{◌≡◌, ◌%◌, ◌^◌, ◌==◌, ◌&&◌, ℕ, List, [], ◌∷◌, Bool, true, false, not, Option, Some, None, if◌then◌else◌, option_and_then, option_map, codes, length, nat_lt}
 use Rattle.std.specs.List.{find}
 use Rattle.serde_json.specs.Data.{Data}
 use Rattle.ovs_authority.specs.Answers as answers
@@ -7,7 +7,7 @@ use Rattle.ovs_authority.specs.Answers.{refused}
 use Rattle.ovs_wire.specs.Named.{id_of_number}
 use Rattle.ovs_wire.specs.declared.message.Message.{Message}
 use Rattle.ovs_wire.specs.declared.message.Message.TheVariants as messages
-use Rattle.ovs_authority.specs.declared.answer.Answer.{Answer}
+use Rattle.ovs_desk.specs.declared.standing.StandingAnswer.{StandingAnswer}
 use Rattle.ovs_desk.specs.declared.pending.Pending.{Pending}
 use Rattle.ovs_desk.specs.declared.pending.Sought.{Sought}
 use Rattle.ovs_desk.specs.declared.pending.Sought.TheVariants.{ToGo, Open, Due, Of}
@@ -57,19 +57,29 @@ going_up number Lost = None
 abbrev pub message_of : Pending → Option Message
 message_of e = going_up e.number e.state
 
--- what is answered to those that wait when the source is lost
-abbrev pub source_lost : Answer
-source_lost = refused (codes "source lost")
+-- what is answered to those that wait when the source is lost, wherever the chain stands
+abbrev pub source_lost : StandingAnswer
+source_lost = record { answer = refused (codes "source lost"); standing = 0 }
 
 -- what goes back: the answer, or that the source was lost, with the asker's own id
 abbrev pub going_back : Data → State → Option Message
 going_back id (Waiting request) = None
 going_back id Taken = None
-going_back id (Answered answer) = Some (answers.reply_of answer id)
-going_back id Lost = Some (answers.reply_of source_lost id)
+going_back id (Answered a) = Some (answers.reply_of a.answer id)
+going_back id Lost = Some (answers.reply_of source_lost.answer id)
 
 abbrev pub reply_of : Pending → Option Message
 reply_of e = going_back e.id e.state
+
+-- where an answer stands; 0 where there is none, or the source was lost
+abbrev pub stands_at : State → ℕ
+stands_at (Waiting request) = 0
+stands_at Taken = 0
+stands_at (Answered a) = a.standing
+stands_at Lost = 0
+
+abbrev pub standing_of : Pending → ℕ
+standing_of e = stands_at e.state
 
 abbrev pub with_state : State → Pending → Pending
 with_state state e = record { asker = e.asker; id = e.id; number = e.number; state = state }
@@ -77,7 +87,7 @@ with_state state e = record { asker = e.asker; id = e.id; number = e.number; sta
 abbrev pub taken : Pending → Pending
 taken e = with_state Taken e
 
-abbrev pub answered : Answer → Pending → Pending
+abbrev pub answered : StandingAnswer → Pending → Pending
 answered answer e = with_state (Answered answer) e
 
 abbrev pub lost : Pending → Pending
@@ -122,6 +132,14 @@ due_to who l = find (passes (Due who)) l.pending
 
 abbrev pub next_back : ℕ → Ledger → Option Message
 next_back who l = option_and_then reply_of (due_to who l)
+
+-- where that answer stands
+abbrev pub next_standing : ℕ → Ledger → Option ℕ
+next_standing who l = option_map standing_of (due_to who l)
+
+-- the session that asked under a number, if that request waits for its answer
+abbrev pub asker_of : ℕ → Ledger → Option ℕ
+asker_of number l = option_map (λ (e : Pending). e.asker) (find (passes (Open number)) l.pending)
 
 -- ---- places
 

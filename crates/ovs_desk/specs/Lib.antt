@@ -6,3 +6,4 @@ pub mod Ledger
 pub mod RelayDesk
 pub mod Relaying
 pub mod Runs
+pub mod ShownRuns

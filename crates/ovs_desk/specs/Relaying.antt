@@ -26,6 +26,7 @@ use Rattle.ovs_lock_desk.specs.declared.late_steal.LateSteal.{LateSteal}
 use Rattle.ovs_desk.specs.declared.error.BadReply.{BadReply}
 use Rattle.ovs_desk.specs.declared.error.ForwardError.TheVariants as forwarding
 use Rattle.ovs_desk.specs.declared.error.Unsent.{Unsent}
+use Rattle.ovs_desk.specs.declared.standing.StandingAnswer.{StandingAnswer}
 use Rattle.ovs_desk.specs.declared.source_message.SourceMessage.{SourceMessage}
 use Rattle.ovs_desk.specs.declared.source_message.SourceMessage.TheVariants as says
 use Rattle.ovs_desk.specs.Asserts.{rewritten}
@@ -61,6 +62,7 @@ text_of errors.AlreadyAsked = Some (codes "already asked")
 text_of errors.NeverAsked = Some (codes "never asked")
 text_of errors.SourceLost = Some (codes "source lost")
 text_of errors.StealPending = Some (codes "steal pending")
+text_of errors.TooMany = Some (codes "too many requests")
 text_of errors.NoMemory = None
 
 abbrev pub IsRefusedBy : Option (List ℕ) → Answer → Type 0
@@ -162,9 +164,9 @@ TakesUp d m e = TakesUpWhere d.locks.has_source d m e
 
 -- ---- what the source says
 
--- whether the source gave the lock: {"locked": BOOL}, and no error
+-- whether the source gave the lock: {"locked": BOOL}, or an error, with which it didn't
 abbrev pub won_by : Answer → Option Bool
-won_by a = if is_some (as_null a.error) then option_and_then as_bool (get (codes "locked") a.result) else None
+won_by a = if is_some (as_null a.error) then option_and_then as_bool (get (codes "locked") a.result) else Some false
 
 -- the reply to a Lock or a Steal that is open
 abbrev pub HearsWon : Option Bool → ℕ → RelayValue → Result ⊤ BadReply → RelayValue → Type 0
@@ -177,12 +179,12 @@ abbrev pub HearsOfLock : Bool → ℕ → Answer → RelayValue → Result ⊤ B
 HearsOfLock false n a d r e = (r ≡ Ok tt) × (e ≡ d)
 HearsOfLock true n a d r e = HearsWon (won_by a) n d r e
 
-abbrev pub HearsBy : Bool → ℕ → Answer → RelayValue → Result ⊤ BadReply → RelayValue → Type 0
+abbrev pub HearsBy : Bool → ℕ → StandingAnswer → RelayValue → Result ⊤ BadReply → RelayValue → Type 0
 HearsBy true n a d r e = (r ≡ Ok tt) × ChangesRequests (calls.Replies n a) d e
-HearsBy false n a d r e = HearsOfLock (is_sent_at n d.locks.locks) n a d r e
+HearsBy false n a d r e = HearsOfLock (is_sent_at n d.locks.locks) n a.answer d r e
 
 -- a request was answered: a transaction, or by its number a lock request
-abbrev pub HearsReply : ℕ → Answer → RelayValue → Result ⊤ BadReply → RelayValue → Type 0
+abbrev pub HearsReply : ℕ → StandingAnswer → RelayValue → Result ⊤ BadReply → RelayValue → Type 0
 HearsReply n a d r e = HearsBy (nat_lt n first_lock) n a d r e
 
 -- what the source says

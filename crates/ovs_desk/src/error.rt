@@ -34,7 +34,7 @@ pub struct Unsent {
 #[error("no such request")]
 pub struct Unknown;
 
-/// A reply that may not come: that to a Lock or Steal which is open is `{"locked": BOOL}`, without an error. Nothing is
+/// A reply that may not come: that to a Lock or Steal which is open is `{"locked": BOOL}`, or an error. Nothing is
 /// changed then.
 #[derive(Clone, Copy, Debug, PartialEq, Eq, Error)]
 #[error("a reply that may not come")]

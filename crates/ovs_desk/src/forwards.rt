@@ -7,14 +7,16 @@ ghost use Rattle.slab.specs.Slab.{ContainsKey, HasRoomFor, SameValues, Updates, 
 ghost use Rattle.ovs_desk.specs.declared.pending.Pending.{Pending};
 ghost use Rattle.ovs_desk.specs.declared.pending.Sought.{Sought};
 ghost use Rattle.ovs_desk.specs.ByAsker.{InOrder, without};
-ghost use Rattle.ovs_desk.specs.Ledger.{place_of, passes, lost, with_pending, without_first, to_go, due_to, next_up, next_back, refusal, IsKept, SamePlaces};
+ghost use Rattle.ovs_desk.specs.Ledger.{place_of, passes, lost, with_pending, without_first, to_go, due_to, next_up, next_back, next_standing, asker_of, refusal, IsKept, SamePlaces};
 ghost use Rattle.ovs_desk.specs.Calls.{After, SendsTo};
 ghost use Rattle.ovs_desk.specs.Calls as calls;
 
 use crate::by_asker::{ByAsker, first_number, put, take_out};
 use crate::error::{ForwardError, Unknown, Unsent};
 use crate::pending::{Pending, Sought, State};
-use ovs_authority::{Answer, Request};
+use crate::standing::StandingAnswer;
+use ovs_authority::Request;
+use ovs_data::TxnId;
 use ovs_json::NoMemory;
 use ovs_wire::{Id, Message};
 use slab::Slab;
@@ -272,7 +274,7 @@ impl Forwards {
     ///
     /// # Errors
     /// `Unknown` exactly where no request of this number waits for its answer; nothing is changed then.
-    pub fn reply(&mut self, number: u64, answer: Answer) -> Result<(), Unknown>
+    pub fn reply(&mut self, number: u64, answer: StandingAnswer) -> Result<(), Unknown>
         ensures known { OnOk result (list_any (passes (Sought.Open number)) self.old.ledger.pending ≡ true) }
         ensures unknown { OnErr result (list_any (passes (Sought.Open number)) self.old.ledger.pending ≡ false) }
         ensures after { After (calls.Replies number answer) self.old.ledger self.new.ledger }
@@ -311,6 +313,22 @@ impl Forwards {
             pending.number,
         );
         Ok(pending.into_reply())
+    }
+
+    /// Where the answer stands that `collect` would give to a session; `None` where it would give none. No memory is taken.
+    pub fn standing(&self, who: u64) -> Option<TxnId>
+        ensures value { result ≡ next_standing who self.now.ledger }
+    {
+        let at = self.due_at(who)?;
+        Some(self.pending[at].standing())
+    }
+
+    /// The session that asked under this number, where that request waits for its answer. No memory is taken.
+    pub fn asker_of(&self, number: u64) -> Option<u64>
+        ensures value { result ≡ asker_of number self.now.ledger }
+    {
+        let at = self.open_at(number)?;
+        Some(self.pending[at].asker)
     }
 
     /// Whether an answer is due to a session. No memory is taken.

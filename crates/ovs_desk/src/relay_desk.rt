@@ -6,7 +6,7 @@ ghost use Rattle.ovs_authority.specs.Owing.{AsksTo, CollectsTo, LeavesOthers, si
 ghost use Rattle.ovs_locks.specs.Lock.{name_told};
 ghost use Rattle.ovs_lock_desk.specs.LockDesk.{IsDeskTable, first_due_up, is_sent_at, answers_to};
 ghost use Rattle.ovs_desk.specs.Calls as calls;
-ghost use Rattle.ovs_desk.specs.Ledger.{passes};
+ghost use Rattle.ovs_desk.specs.Ledger.{passes, next_standing, asker_of};
 ghost use Rattle.ovs_desk.specs.RelayDesk.{new_desk, owing_of, owner_of, message_of};
 ghost use Rattle.ovs_desk.specs.Relaying.{ChangesRequests, locked_so, at_once, text_of, late_answer, IsRefusalOf, IsToldOfSending, AsksForLock, AsksByName, Asks, Transacts, TakesUp, TakesUpLock, TakesUpDue, method_of, won_by, Hears, HearsReply, HearsOfLock, LosesSource, FindsSource, CollectsSent, CollectsLate, CollectsNotice, CollectsOfLock, Collects, EndsSession};
 ghost use Rattle.ovs_desk.specs.declared.pending.Sought.{Sought};
@@ -15,7 +15,9 @@ use crate::asserts::rewrite;
 use crate::error::{BadReply, ForwardError, Unsent};
 use crate::forwards::Forwards;
 use crate::source_message::SourceMessage;
+use crate::standing::StandingAnswer;
 use ovs_authority::{Answer, Ask, Authority, Member, Verb, lock_request, refused, replied};
+use ovs_data::TxnId;
 use ovs_json::{NoMemory, Text, under_name};
 use ovs_lock_desk::{DeskError, LockDesk, LockVerb};
 use ovs_locks::LockNotice;
@@ -85,6 +87,7 @@ fn refusal_text(error: DeskError) -> Option<&'static str>
         DeskError::NeverAsked => Some("never asked"),
         DeskError::SourceLost => Some("source lost"),
         DeskError::StealPending => Some("steal pending"),
+        DeskError::TooMany => Some("too many requests"),
         DeskError::NoMemory => None,
     }
 }
@@ -167,12 +170,12 @@ fn method_of(verb: LockVerb) -> &'static str
     }
 }
 
-// Whether the source gave the lock, by its answer `{"locked": BOOL}`.
+// Whether the source gave the lock, by its answer `{"locked": BOOL}`. With an error it didn't: it may allow a session only so many.
 fn won_by(answer: &Answer) -> Option<bool>
     ensures value { result ≡ won_by answer.now }
 {
     if !answer.error.as_value().is_null() {
-        return None;
+        return Some(false);
     }
     answer.result.as_value().get("locked")?.as_bool()
 }
@@ -239,7 +242,8 @@ impl RelayDesk {
     /// What the source says. An answer to a request that isn't open is ignored. No memory is taken.
     ///
     /// # Errors
-    /// `BadReply` where a Lock or Steal that is open was answered by anything but `{"locked": BOOL}`; nothing is changed then.
+    /// `BadReply` where a Lock or Steal that is open was answered by neither `{"locked": BOOL}` nor an error; nothing is
+    /// changed then.
     pub fn heard(&mut self, message: SourceMessage) -> Result<(), BadReply>
         ensures heard { Hears message self.old result self.new }
     {
@@ -257,19 +261,19 @@ impl RelayDesk {
     }
 
     // A request was answered.
-    fn heard_reply(&mut self, number: u64, answer: Answer) -> Result<(), BadReply>
+    fn heard_reply(&mut self, number: u64, answer: StandingAnswer) -> Result<(), BadReply>
         ensures heard { HearsReply number answer self.old result self.new }
     {
         if number < FIRST_LOCK {
             self.heard_answer(number, answer);
             Ok(())
         } else {
-            self.heard_of_lock(number, &answer)
+            self.heard_of_lock(number, &answer.answer)
         }
     }
 
     // A transaction was answered. One that isn't open is ignored.
-    fn heard_answer(&mut self, number: u64, answer: Answer)
+    fn heard_answer(&mut self, number: u64, answer: StandingAnswer)
         ensures heard { ChangesRequests (calls.Replies number answer) self.old self.new }
     {
         let _known = self.forwards.reply(number, answer);
@@ -289,6 +293,21 @@ impl RelayDesk {
             }
             None => Err(BadReply),
         }
+    }
+
+    /// Where the answer stands that `collect` would give first to a session, of those that were passed on; `None` where it would
+    /// give none of them. No memory is taken.
+    pub fn standing(&self, who: u64) -> Option<TxnId>
+        ensures value { result ≡ next_standing who self.now.forwards.ledger }
+    {
+        self.forwards.standing(who)
+    }
+
+    /// The session whose transaction went up under this number, where it waits for its answer. No memory is taken.
+    pub fn asker_of(&self, number: u64) -> Option<u64>
+        ensures value { result ≡ asker_of number self.now.forwards.ledger }
+    {
+        self.forwards.asker_of(number)
     }
 
     /// The source is lost: each request that waits for its answer is answered so, and no lock has an owner. Until there is a

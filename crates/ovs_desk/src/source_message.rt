@@ -1,6 +1,6 @@
 //! What a relay's source says to its desk.
 
-use ovs_authority::Answer;
+use crate::standing::StandingAnswer;
 use ovs_json::Text;
 
 /// What the source says of what went up, and of the relay's locks.
@@ -10,8 +10,8 @@ pub enum SourceMessage {
     ReplyFor {
         /// The number, by which the request was asked for.
         number: u64,
-        /// Its answer.
-        answer: Answer,
+        /// Its answer, and where that stands.
+        answer: StandingAnswer,
     },
     /// The lock of this name is held from now on (RFC 7047 section 4.1.9).
     Locked(Text),

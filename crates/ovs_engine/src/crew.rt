@@ -8,6 +8,7 @@ use crate::desk_lock::UpwardDesk;
 use crate::desks::SharedSide;
 use crate::line::Line;
 use crate::party::Party;
+use crate::progress::Progress;
 use crate::serving::UpstreamJob;
 use crate::upstreams::Upstream;
 use ovs_feed::FeedName;
@@ -42,6 +43,8 @@ pub struct SourceDesk<'a, L: UpwardDesk, B: Bell> {
     pub desk: &'a L,
     /// The workers' bells.
     pub bells: &'a [B],
+    /// How far the folder has come, where the node has no other upstream.
+    pub progress: Option<&'a Progress>,
 }
 
 /// The threads that a node is to have beside the folder's.

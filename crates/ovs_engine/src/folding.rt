@@ -7,10 +7,11 @@ ghost use Rattle.ovs_folder.specs.InStep.{IsAtRest, IsInStep};
 ghost use Rattle.ovs_folder.specs.Ledger.{steps_in};
 
 use crate::party::beside_with_views;
+use crate::progress::Progress;
 use crate::watcher::Watcher;
 use left_right::ReadHandle;
 use ovs_feed::{FeedName, FeedQueue};
-use ovs_folder::{Node, NodeLink};
+use ovs_folder::{Node, NodeLink, RefusedLink};
 use ovs_hall::Bell;
 use ovs_json::NoMemory;
 use ovs_threads::Work;
@@ -36,6 +37,8 @@ pub struct Folding<'a, K: NodeName, Q: FeedName, B: Bell, O: Watcher, R: Wait> {
     pub watcher: &'a O,
     /// How many other threads run.
     pub running: &'a AtomicU64,
+    /// Where the other threads see how far it has come.
+    pub progress: &'a Progress,
 }
 
 /// There was no memory to begin: no job was done, and all is handed back.
@@ -113,11 +116,21 @@ impl<'a, K: NodeName, Q: FeedName, B: Bell, O: Watcher, R: Wait> Folding<'a, K, 
         ensures drained { result ≡ Ok false → IsDrained node.new.intake.feed }
     {
         let folded = node.fold_next(self.rt, self.queue, self.board);
+        self.progress.note_head(node.head());
         bells.ring_for(node.published_len());
         if let Some(link) = node.take_refused() {
-            self.watcher.refused(&link);
+            self.note_refused(&link);
         }
         folded
+    }
+
+    // A link was refused: from then on answers aren't held back for what they stand for, so that the workers are rung.
+    fn note_refused(&self, link: &RefusedLink) {
+        if !self.progress.has_refused() {
+            self.progress.note_refused();
+            ring_all(self.bells);
+        }
+        self.watcher.refused(link);
     }
 
     // Tells that there was no memory, once until there is some again.

@@ -13,6 +13,7 @@ use crate::desk_lock::{DeskLock, UpwardDesk};
 use crate::finished::{Finished, Returned};
 use crate::folding::Folding;
 use crate::line::Line;
+use crate::progress::Progress;
 use crate::serving::{Serving, beside_upstreams};
 use crate::upstreams::Follows;
 use crate::watcher::Watcher;
@@ -29,7 +30,7 @@ use std::thread::Threads;
 
 /// What the threads of a node share.
 #[derive(Drop)]
-pub struct Shared<'a, K: NodeName, Q: FeedName, L: DeskLock, B: Bell, O: Watcher, R: Wait> {
+pub struct Shared<'a, K: NodeName, Q: FeedName, L: DeskLock<K>, B: Bell, O: Watcher, R: Wait> {
     /// What they wait with.
     pub rt: &'a R,
     /// The node's schema.
@@ -52,11 +53,12 @@ pub struct Shared<'a, K: NodeName, Q: FeedName, L: DeskLock, B: Bell, O: Watcher
     pub limits: Limits,
 }
 
-/// What the threads of a node count: the numbers of their sessions, and how many of them run.
+/// What the threads of a node count: the numbers of their sessions, how many of them run, and how far the folder has come.
 #[derive(Drop)]
 pub struct Counters {
     numbers: AtomicU64,
     running: AtomicU64,
+    progress: Progress,
 }
 
 impl Counters {
@@ -65,12 +67,18 @@ impl Counters {
         Counters {
             numbers: AtomicU64::new(0),
             running: AtomicU64::new(0),
+            progress: Progress::new(),
         }
     }
 
     /// The number of the next session of any worker.
     pub fn numbers(&self) -> &AtomicU64 {
         &self.numbers
+    }
+
+    /// How far the folder has come.
+    pub fn progress(&self) -> &Progress {
+        &self.progress
     }
 
     /// How many threads run beside the folder's.
@@ -117,7 +125,7 @@ pub fn run_node<
     Q: FeedName + Send + Sync,
     C: Connector<In: Send, Out: Send> + Drop + Send,
     D: Doors<In: Send, Out: Send> + Drop + Send,
-    L: UpwardDesk + Sync,
+    L: UpwardDesk + DeskLock<K> + Sync,
     B: Bell + Sync,
     O: Watcher,
     H: Wait + Drop,
@@ -145,6 +153,7 @@ pub fn run_node<
         bells: shared.bells,
         watcher: shared.watcher,
         running: shared.counters.running(),
+        progress: shared.counters.progress(),
     };
     let serving = Serving {
         feeds: Follows {
@@ -163,6 +172,7 @@ pub fn run_node<
         bells: shared.bells,
         numbers: shared.counters.numbers(),
         running: shared.counters.running(),
+        progress: shared.counters.progress(),
         limits: shared.limits,
     };
     match beside_upstreams(&folding, crew.jobs, &serving, node) {

@@ -4,7 +4,7 @@ ghost use Rattle.std.specs.Prelude.{◌≡◌, ◌≢◌, ◌⊎◌, true, false
 ghost use Rattle.ovs_engine.specs.Lines.{AdmitsBytes};
 
 use crate::connector::Connector;
-use ovs_hall::{Doors, Woken};
+use ovs_hall::{Doors, Ready, Timeout, Woken};
 use ovs_types::TxnId;
 use std::thread;
 
@@ -77,7 +77,7 @@ impl<C: Connector + Drop> Doors for OneByOne<C> {
     type Out = C::Out;
 
     /// Asks the connector for another connection where nobody is inside.
-    fn wait(&mut self, is_busy: bool) -> Woken
+    fn wait(&mut self, timeout: Timeout) -> Woken
         ensures closed { result.is_closed ≡ true → self.new.course ≡ Course.Over }
         ensures no_more { self.old.course ≡ Course.Over → self.new.course ≡ Course.Over }
         ensures due { self.old.course ≡ Course.Due → self.new.course ≡ Course.Due }
@@ -87,7 +87,7 @@ impl<C: Connector + Drop> Doors for OneByOne<C> {
         match self.course {
             Course::Free if self.connector.next() => self.course = Course::Due,
             Course::Free => self.course = Course::Over,
-            Course::Inside if !is_busy => {
+            Course::Inside if timeout != Timeout::Zero => {
                 thread::yield_now();
                 self.is_ready = true;
             }
@@ -95,15 +95,17 @@ impl<C: Connector + Drop> Doors for OneByOne<C> {
         }
         Woken {
             is_rung: false,
+            is_any_ready: false,
             may_accept: matches!(self.course, Course::Due | Course::Inside),
             is_closed: self.course == Course::Over,
+            is_over: false,
         }
     }
 
     // Who is inside has the first number, since a hall was empty when it came in.
-    fn next_ready(&mut self) -> Option<usize>
-        ensures first { IfSome result (λ key. key ≡ 0) }
-        ensures ready { self.old.is_ready ≡ true → result ≡ Some 0 }
+    fn next_ready(&mut self) -> Option<Ready>
+        ensures first { IfSome result (λ ready. ready.key ≡ 0) }
+        ensures ready { self.old.is_ready ≡ true → result ≡ Some (record { key = 0; is_read_closed = true }) }
         ensures once { self.new.is_ready ≡ false }
         ensures same { self.new.course ≡ self.old.course }
     {
@@ -111,7 +113,10 @@ impl<C: Connector + Drop> Doors for OneByOne<C> {
             return None;
         }
         self.is_ready = false;
-        Some(0)
+        Some(Ready {
+            key: 0,
+            is_read_closed: true,
+        })
     }
 
     /// Lets nobody in but under the first number: another is offered while a session is inside.

@@ -12,6 +12,7 @@ use crate::desks::{SharedDesk, SharedSide};
 use crate::folding::{Folding, NotFolded, fold_beside};
 use crate::line::Line;
 use crate::party::Party;
+use crate::progress::Progress;
 use crate::upstreams::{Follows, Upstream};
 use crate::watcher::Watcher;
 use crate::workers::serve_readers;
@@ -44,7 +45,16 @@ pub trait Feeds<K: NodeName, E, F> {
 
 /// What the threads of a node share, but for the folder's.
 #[derive(Drop)]
-pub struct Serving<'a, K: NodeName, Q: FeedName, T: Drop, L: DeskLock, U: Bell, B: Bell, R: Wait> {
+pub struct Serving<
+    'a,
+    K: NodeName,
+    Q: FeedName,
+    T: Drop,
+    L: DeskLock<K>,
+    U: Bell,
+    B: Bell,
+    R: Wait,
+> {
     /// What those do that send links.
     pub feeds: T,
     /// What they wait with.
@@ -63,11 +73,13 @@ pub struct Serving<'a, K: NodeName, Q: FeedName, T: Drop, L: DeskLock, U: Bell, 
     pub numbers: &'a AtomicU64,
     /// How many threads run.
     pub running: &'a AtomicU64,
+    /// How far the folder has come.
+    pub progress: &'a Progress,
     /// How much of a session may wait to be written, and how many messages it answers in a turn.
     pub limits: Limits,
 }
 
-impl<'a, K: NodeName, Q: FeedName, T: Drop, L: DeskLock, U: Bell, B: Bell, R: Wait> Serving<
+impl<'a, K: NodeName, Q: FeedName, T: Drop, L: DeskLock<K>, U: Bell, B: Bell, R: Wait> Serving<
     'a,
     K,
     Q,
@@ -86,7 +98,13 @@ impl<'a, K: NodeName, Q: FeedName, T: Drop, L: DeskLock, U: Bell, B: Bell, R: Wa
 
     // Serves readers at these doors.
     fn serve<D: Doors>(&self, doors: &mut D, view: View<K>) -> (View<K>, Tally) {
-        let desk = SharedDesk::new(self.alloc, self.desk, self.upward, self.bells);
+        let desk = SharedDesk::new(
+            self.alloc,
+            self.desk,
+            self.upward,
+            self.bells,
+            self.progress,
+        );
         serve_readers::<K, SharedDesk<'a, L, U, B>, D, R>(
             self.rt,
             self.alloc,
@@ -104,7 +122,7 @@ impl<
     K: NodeName,
     Q: FeedName,
     T: Feeds<K, E, F> + Drop,
-    L: DeskLock,
+    L: DeskLock<K>,
     U: Bell,
     B: Bell,
     R: Wait,
@@ -161,7 +179,7 @@ pub(crate) fn beside_upstreams<
     Q: FeedName + Send + Sync,
     C: Connector<In: Send, Out: Send> + Drop + Send,
     D: Doors<In: Send, Out: Send> + Drop + Send,
-    L: UpwardDesk + Sync,
+    L: UpwardDesk + DeskLock<K> + Sync,
     B: Bell + Sync,
     O: Watcher,
     H: Wait + Drop,

@@ -1,7 +1,7 @@
 //! Connections over memory, which come in at the doors of a hall.
 
 use crate::sessions::Script;
-use ovs_hall::{Doors, Woken};
+use ovs_hall::{Doors, Ready, Timeout, Woken};
 use std::io::{self, ErrorKind, Read, Write};
 use std::sync::atomic::{AtomicBool, Ordering};
 
@@ -86,7 +86,7 @@ impl<'a> Doors for MemoryDoors<'a> {
     type Out = Checked<'a>;
 
     // Every session may go on again: its reader has the next piece.
-    fn wait(&mut self, _is_busy: bool) -> Woken {
+    fn wait(&mut self, _timeout: Timeout) -> Woken {
         self.next = 0;
         let may_accept = self.came < self.scripts.len();
         if !may_accept {
@@ -94,18 +94,23 @@ impl<'a> Doors for MemoryDoors<'a> {
         }
         Woken {
             is_rung: false,
+            is_any_ready: false,
             may_accept,
             is_closed: !may_accept,
+            is_over: false,
         }
     }
 
-    fn next_ready(&mut self) -> Option<usize> {
+    fn next_ready(&mut self) -> Option<Ready> {
         if self.next >= self.came {
             return None;
         }
         let key = self.next;
         self.next += 1;
-        Some(key)
+        Some(Ready {
+            key,
+            is_read_closed: true,
+        })
     }
 
     fn accept(&mut self, _key: usize) -> Option<(Pieces<'a>, Checked<'a>)> {

@@ -1,7 +1,7 @@
 //! A node's service with a desk of its own, for the sessions of one hall.
 
 ghost use Rattle.std.specs.Prelude.{◌≡◌};
-ghost use Rattle.ovs_service.specs.Client.{SaysNothing, AnswersTo, TellsNew};
+ghost use Rattle.ovs_service.specs.Client.{SaysNothing, AnswersTo, TellsNew, MayAsk, IsAnswered};
 
 use ovs_hall::{Host, Receives};
 use ovs_node::NodeName;
@@ -9,13 +9,13 @@ use ovs_service::{Client, Desk, NodeService};
 use ovs_session::{Outbox, Refusal, Service};
 
 /// A service of readers, which numbers them as they come.
-pub(crate) struct HallHost<K: NodeName, D: Desk> {
+pub(crate) struct HallHost<K: NodeName, D: Desk<K>> {
     pub(crate) service: NodeService<K, D>,
     /// The number of the next session.
     pub(crate) next: u64,
 }
 
-impl<K: NodeName, D: Desk> Service for HallHost<K, D> {
+impl<K: NodeName, D: Desk<K>> Service for HallHost<K, D> {
     type Session = Client<K>;
 
     ghost answers = { λ old text said new. AnswersTo K.schema D.replies D.owes old text said new };
@@ -23,6 +23,18 @@ impl<K: NodeName, D: Desk> Service for HallHost<K, D> {
     ghost tells = { λ old said new. TellsNew K.schema D.replies D.owes old said new };
 
     ghost refuses = { λ _ text. SaysNothing text };
+
+    ghost may_answer = { λ _ client. MayAsk client };
+
+    ghost is_answered = { λ _ client. IsAnswered client };
+
+    fn takes(&self, client: &Client<K>) -> bool {
+        self.service.takes(client)
+    }
+
+    fn awaits(&self, client: &Client<K>) -> bool {
+        self.service.awaits(client)
+    }
 
     fn answer(
         &mut self,
@@ -38,7 +50,7 @@ impl<K: NodeName, D: Desk> Service for HallHost<K, D> {
     }
 }
 
-impl<K: NodeName, D: Desk> Host for HallHost<K, D> {
+impl<K: NodeName, D: Desk<K>> Host for HallHost<K, D> {
     ghost is_silent = { λ host client. D.is_silent host.service.desk client.who };
 
     fn end(&mut self, client: Client<K>) {
@@ -46,7 +58,7 @@ impl<K: NodeName, D: Desk> Host for HallHost<K, D> {
     }
 }
 
-impl<K: NodeName, D: Desk> Receives for HallHost<K, D> {
+impl<K: NodeName, D: Desk<K>> Receives for HallHost<K, D> {
     fn begin(&mut self) -> Option<Client<K>> {
         let who = self.next;
         self.next = who.checked_add(1)?;

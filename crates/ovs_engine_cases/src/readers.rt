@@ -2,7 +2,7 @@
 
 use crate::fault::Fault;
 use crate::ids::last_number_in;
-use ovs_hall::{Bell, Doors, Woken};
+use ovs_hall::{Bell, Doors, Ready, Timeout, Woken};
 use serde_json::Value;
 use std::alloc::{AllocError, Global};
 use std::io::{self, ErrorKind, Read, Write};
@@ -174,24 +174,29 @@ impl Doors for ReaderDoors {
     type Out = Seeing;
 
     // The reader may go on at any time, so that nothing is waited for.
-    fn wait(&mut self, is_busy: bool) -> Woken {
-        if !is_busy {
+    fn wait(&mut self, timeout: Timeout) -> Woken {
+        if timeout != Timeout::Zero {
             thread::yield_now();
         }
         self.is_ready = self.has_come;
         Woken {
             is_rung: self.bell.is_rung.swap(false, Ordering::SeqCst),
+            is_any_ready: false,
             may_accept: !self.has_come,
             is_closed: self.has_come,
+            is_over: false,
         }
     }
 
-    fn next_ready(&mut self) -> Option<usize> {
+    fn next_ready(&mut self) -> Option<Ready> {
         if !self.is_ready {
             return None;
         }
         self.is_ready = false;
-        Some(0)
+        Some(Ready {
+            key: 0,
+            is_read_closed: true,
+        })
     }
 
     fn accept(&mut self, _key: usize) -> Option<(Asking, Seeing)> {

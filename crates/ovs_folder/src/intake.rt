@@ -6,6 +6,7 @@ ghost use Rattle.ovs_feed.specs.Feed.{IsDrained};
 ghost use Rattle.ovs_links.specs.Sets.{Holds};
 ghost use Rattle.ovs_links.specs.Settling.{after_settle, settled_of};
 ghost use Rattle.ovs_links.specs.Steps.{folded_of};
+ghost use Rattle.ovs_links.specs.Store.{head_of};
 ghost use Rattle.ovs_links.specs.declared.link.Link.{Link};
 ghost use Rattle.ovs_views.specs.Published.{IsNodeChain};
 ghost use Rattle.ovs_folder.specs.Ledger.{IsAccountOf, WasSent, IsFresh, TakesOne, steps_in};
@@ -14,7 +15,7 @@ use crate::node_link::NodeLink;
 use crate::refused::{RefusedLink, Why};
 use ovs_feed::{Feed, FeedEnd, FeedName, FeedQueue};
 use ovs_links::{Folded, Link, LinkStore, Settled, TakeError};
-use ovs_types::NoMemory;
+use ovs_types::{NoMemory, TxnId};
 use ovs_views::NodeName;
 use std::alloc::Global;
 use std::marker::Model;
@@ -151,6 +152,13 @@ impl<K: NodeName, Q: FeedName> Intake<K, Q> {
         ensures grows { IsPrefix (steps_in self.old.store) (steps_in self.new.store) }
     {
         self.store.settle(alloc)
+    }
+
+    /// The id after the last folded link, 0 where there is none.
+    pub(crate) fn head(&self) -> TxnId
+        ensures value { result ≡ head_of self.now.store }
+    {
+        self.store.head()
     }
 
     /// The database after the folded links, with their steps.

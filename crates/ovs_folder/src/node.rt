@@ -5,6 +5,7 @@ ghost use Rattle.left_right.specs.Handles.{published, pending};
 ghost use Rattle.ovs_feed.specs.Feed.{IsDrained};
 ghost use Rattle.ovs_links.specs.Sets.{Holds};
 ghost use Rattle.ovs_links.specs.Settling.{chain_of, settled_of};
+ghost use Rattle.ovs_links.specs.Store.{head_of};
 ghost use Rattle.ovs_links.specs.declared.link.Link.{Link};
 ghost use Rattle.ovs_views.specs.Published.{IsNodeChain};
 ghost use Rattle.ovs_folder.specs.InStep.{IsAtRest, IsInStep};
@@ -16,7 +17,7 @@ use crate::refused::RefusedLink;
 use crate::report::Report;
 use ovs_feed::{FeedEnd, FeedName, FeedQueue};
 use ovs_links::{Settled, Step};
-use ovs_types::NoMemory;
+use ovs_types::{NoMemory, TxnId};
 use ovs_views::{Board, Handle, NodeName, Publisher};
 use std::alloc::Global;
 use std::sync::{Mutex, Wait};
@@ -125,6 +126,13 @@ impl<K: NodeName, Q: FeedName, R: Wait + Drop> Node<K, Q, Handle<K, R>> {
         ensures value { result ≡ length (published self.now.publisher.handle) }
     {
         self.publisher.told().len()
+    }
+
+    /// The id after the last step of the chain that is folded, 0 where there is none.
+    pub fn head(&self) -> TxnId
+        ensures value { result ≡ head_of self.now.intake.store }
+    {
+        self.intake.head()
     }
 
     /// What became of all that was sent, once all ends are back and a `fold_next` after that answered false.

@@ -111,14 +111,21 @@ IsPassedOn old new = (ms : List Message) × (said : List ℕ) × AreWritten ms s
 
 -- ---- the side of the source
 
--- what the source said was told it, and else nothing
-abbrev pub IsHandedOn : {D : Type 0} → (D → SourceMessage → D → Type 0) → UpEvent → D → D → Type 0
-IsHandedOn hears (ReplyFor number answer) old new = hears old (said.ReplyFor number answer) new
-IsHandedOn hears (Locked name) old new = hears old (said.Locked name) new
-IsHandedOn hears (Stolen name) old new = hears old (said.Stolen name) new
-IsHandedOn hears (Send m) old new = new ≡ old
-IsHandedOn hears (Links ls) old new = new ≡ old
-IsHandedOn hears Nothing old new = new ≡ old
+-- where an answer stands that is heard at this stage
+abbrev pub standing_at : Stage → ℕ
+standing_at (At id) = id
+standing_at Opening = 0
+standing_at Asking = 0
+standing_at Ended = 0
+
+-- what the source said was told it, an answer with where it stands, and else nothing
+abbrev pub IsHandedOn : {D : Type 0} → (D → SourceMessage → D → Type 0) → Stage → UpEvent → D → D → Type 0
+IsHandedOn hears stage (ReplyFor number a) old new = hears old (said.ReplyFor number (record { answer = a; standing = standing_at stage })) new
+IsHandedOn hears stage (Locked name) old new = hears old (said.Locked name) new
+IsHandedOn hears stage (Stolen name) old new = hears old (said.Stolen name) new
+IsHandedOn hears stage (Send m) old new = new ≡ old
+IsHandedOn hears stage (Links ls) old new = new ≡ old
+IsHandedOn hears stage Nothing old new = new ≡ old
 
 -- the answer to the monitor came
 abbrev pub is_answer : Stage → Stage → Bool

@@ -3,16 +3,17 @@
 ghost use Rattle.std.specs.Prelude.{◌≡◌, ◌≤◌, ◌++◌, ℕ, List, Err, OnOk, OnErr, length};
 ghost use Rattle.ovs_links.specs.Sets.{AllOf, IsOfTables};
 ghost use Rattle.ovs_upstream.specs.Hearing.{links_in};
-ghost use Rattle.ovs_follow.specs.Following.{Hears, Asks, Refuses, IsSaid, IsForSource, IsHandedOn, IsFound, IsPassedOn};
+ghost use Rattle.ovs_follow.specs.Following.{Hears, Asks, Refuses, IsSaid, IsForSource, IsHandedOn, IsFound, IsPassedOn, standing_at};
 
 use crate::following::Following;
 use crate::hearing::hear;
 use crate::link_sink::LinkSink;
 use crate::saying::say;
 use crate::source_side::SourceSide;
-use ovs_desk::SourceMessage;
+use ovs_desk::{SourceMessage, StandingAnswer};
 use ovs_json::NoMemory;
 use ovs_session::{Outbox, Refusal, Service};
+use ovs_types::TxnId;
 use ovs_upstream::{Stage, UpEvent};
 use ovs_wire::Message;
 use std::alloc::Global;
@@ -20,6 +21,17 @@ use std::marker::PhantomData;
 
 // So many requests are passed on at once.
 const MOST_PASSED_ON: u32 = 64;
+
+// Where an answer stands that is heard at this stage: at the id of the last link that the session made, or where it was placed; at 0
+// before that.
+fn standing_at(stage: Stage) -> TxnId
+    ensures value { result ≡ standing_at stage }
+{
+    match stage {
+        Stage::At(id) => id,
+        _ => TxnId::zero(),
+    }
+}
 
 /// Follows an upstream: links go to the session's sink, and what the source asks and says to its side.
 #[derive(Drop)]
@@ -73,7 +85,7 @@ impl<S: LinkSink, D: SourceSide + Drop> Follower<S, D> {
         requires tables { AllOf (IsOfTables session.old.up.schema.description.tables) (links_in event) }
         ensures sent { OnOk result (session.new ≡ record session.old { sent = session.old.sent ++ links_in event }) }
         ensures said { OnOk result ((said : List ℕ) × IsSaid event said × (out.new ≡ out.old ++ said)) }
-        ensures handed { OnOk result (IsHandedOn D.hears event self.old.source self.new.source) }
+        ensures handed { OnOk result (IsHandedOn D.hears session.old.up.stage event self.old.source self.new.source) }
         ensures err { OnErr result ((session.new ≡ session.old) × (out.new ≡ out.old)) }
         ensures bad { result ≡ Err Refusal.BadInput → IsForSource event }
     {
@@ -81,6 +93,8 @@ impl<S: LinkSink, D: SourceSide + Drop> Follower<S, D> {
             UpEvent::Links(links) => Ok(session.send(links)?),
             UpEvent::Send(message) => Ok(say(self.alloc, &message, out)?),
             UpEvent::ReplyFor { number, answer } => {
+                let standing = standing_at(session.up().stage());
+                let answer = StandingAnswer { answer, standing };
                 self.tell_source(SourceMessage::ReplyFor { number, answer })
             }
             UpEvent::Locked(name) => self.tell_source(SourceMessage::Locked(name)),
@@ -146,6 +160,20 @@ impl<S: LinkSink, D: SourceSide + Drop> Service for Follower<S, D> {
     ghost tells = { λ old said new. Asks old said new };
 
     ghost refuses = { λ old text. Refuses old text };
+
+    ghost may_answer = { λ _ _. Unit {0} };
+
+    ghost is_answered = { λ _ _. Unit {0} };
+
+    // An upstream's messages are heard one after another, each at once.
+    fn takes(&self, _session: &Following<S>) -> bool {
+        true
+    }
+
+    // Behind the end of what an upstream says nothing more comes.
+    fn awaits(&self, _session: &Following<S>) -> bool {
+        false
+    }
 
     fn answer(
         &mut self,

@@ -1,7 +1,7 @@
 //! A worker: one thread that serves many sessions.
 
-use crate::again::Again;
-use crate::doors::{Doors, Woken};
+use crate::again::{Again, Waits};
+use crate::doors::{Doors, Timeout, Woken};
 use crate::hall::Hall;
 use crate::host::Receives;
 use crate::seat::Seat;
@@ -13,9 +13,6 @@ use std::sync::Wait;
 // So many turns a session has at most before the next has some.
 const TURNS_AT_ONCE: usize = 4;
 
-// So many connections at most are taken before sessions are served again.
-const ACCEPTS_AT_ONCE: usize = 16;
-
 // So many sessions at most are asked for by the doors before they are served.
 const READY_AT_ONCE: usize = 4096;
 
@@ -25,6 +22,8 @@ struct Floor<V: Receives, D: Doors> {
     again: Again,
     tally: Tally,
     limits: Limits,
+    // There was no memory for the connection that came last.
+    is_short: bool,
 }
 
 impl<V: Receives, D: Doors> Floor<V, D> {
@@ -34,6 +33,15 @@ impl<V: Receives, D: Doors> Floor<V, D> {
             again: Again::new(alloc),
             tally: Tally::new(),
             limits,
+            is_short: false,
+        }
+    }
+
+    // How long to wait at most, for all that is to be done.
+    fn timeout(&self) -> Timeout {
+        match self.again.timeout() {
+            Timeout::Infinite if self.is_short => Timeout::Short,
+            timeout => timeout,
         }
     }
 
@@ -46,29 +54,29 @@ impl<V: Receives, D: Doors> Floor<V, D> {
         doors.left(key, ended);
     }
 
-    // Some turns of the session of this number. Whether it has work left to do.
-    fn serve(&mut self, key: usize, host: &mut V, doors: &mut D) -> bool {
+    // Some turns of the session of this number. What it waits for then.
+    fn serve(&mut self, key: usize, host: &mut V, doors: &mut D) -> Waits {
         for _turn in 0..TURNS_AT_ONCE {
             match self.hall.turn(key, host) {
                 Some(Ok(Pace::Busy)) => {}
-                Some(Ok(Pace::Idle)) | None => return false,
-                Some(Err(ended)) if !ended.is_final() => return true,
+                Some(Ok(Pace::Idle)) | None => return Waits::No,
+                Some(Err(ended)) if !ended.is_final() => return Waits::ForMemory,
                 Some(Err(ended)) => {
                     self.end(key, ended, host, doors);
-                    return false;
+                    return Waits::No;
                 }
             }
         }
-        true
+        Waits::ForTurn
     }
 
     // The session of this number is to have turns. Where there is no memory to keep this it has them now.
     fn call<R: Wait>(&mut self, rt: &R, key: usize, host: &mut V, doors: &mut D) {
-        if self.again.push(key) {
+        if self.again.push(key, Waits::ForTurn) {
             return;
         }
         for _ in rt.forever() {
-            if !self.serve(key, host, doors) {
+            if self.serve(key, host, doors) != Waits::ForTurn {
                 break;
             }
         }
@@ -83,13 +91,21 @@ impl<V: Receives, D: Doors> Floor<V, D> {
         }
     }
 
+    // Each session is to look for itself whether something came.
+    fn note_all_ready(&mut self) {
+        for key in 0..self.hall.keys_end() {
+            self.hall.note_ready(key, true);
+        }
+    }
+
     // Each session that something came for is to have turns.
     fn call_ready<R: Wait>(&mut self, rt: &R, host: &mut V, doors: &mut D) {
         for _ready in 0..READY_AT_ONCE {
-            let Some(key) = doors.next_ready() else {
+            let Some(ready) = doors.next_ready() else {
                 break;
             };
-            self.call(rt, key, host, doors);
+            self.hall.note_ready(ready.key, ready.is_read_closed);
+            self.call(rt, ready.key, host, doors);
         }
     }
 
@@ -99,53 +115,69 @@ impl<V: Receives, D: Doors> Floor<V, D> {
             let Some(key) = self.again.pop() else {
                 break;
             };
-            if self.serve(key, host, doors) {
-                self.call(rt, key, host, doors);
+            match self.serve(key, host, doors) {
+                Waits::No => {}
+                // Where there is no memory to keep this, it is called once something comes or its bell is rung.
+                Waits::ForMemory => {
+                    let _is_kept = self.again.push(key, Waits::ForMemory);
+                }
+                Waits::ForTurn => self.call(rt, key, host, doors),
             }
         }
     }
 
-    // Takes the next connection in. False where there is none, no more are taken, or there is no memory.
-    fn accept_one<R: Wait>(&mut self, rt: &R, alloc: Global, host: &mut V, doors: &mut D) -> bool {
+    // Takes the next connection in, where there is one, and memory for it. Only one at a time: the other workers, which wait
+    // for the same connections, are to have theirs.
+    fn accept<R: Wait>(&mut self, rt: &R, alloc: Global, host: &mut V, doors: &mut D) {
         let key = self.hall.next_key();
-        if self.again.make_room(key).is_err() {
-            return false;
+        self.is_short = self.again.make_room(key).is_err();
+        if self.is_short {
+            return;
         }
         let Some((reader, writer)) = doors.accept(key) else {
-            return false;
+            return;
         };
         let Some(core) = host.begin() else {
-            return false;
+            return doors.left(key, Ended::Gone);
         };
         let seat = Seat::new(alloc, core, reader, writer, self.limits);
         match self.hall.enter(seat, host) {
-            Some(key) => {
-                self.call(rt, key, host, doors);
-                true
-            }
-            None => false,
-        }
-    }
-
-    // Takes in the connections that wait.
-    fn accept<R: Wait>(&mut self, rt: &R, alloc: Global, host: &mut V, doors: &mut D) {
-        for _accept in 0..ACCEPTS_AT_ONCE {
-            if !self.accept_one(rt, alloc, host, doors) {
-                break;
+            Some(key) => self.call(rt, key, host, doors),
+            None => {
+                self.is_short = true;
+                doors.left(key, Ended::NoMemory);
             }
         }
     }
 
     // What is to be done after a wait.
     fn go_on<R: Wait>(&mut self, rt: &R, alloc: Global, host: &mut V, doors: &mut D, woken: Woken) {
+        if woken.is_over {
+            return self.end_all(host, doors);
+        }
         if woken.is_rung {
             host.rung();
+        }
+        if woken.is_any_ready {
+            self.note_all_ready();
+        }
+        if woken.is_rung || woken.is_any_ready {
             self.call_all(rt, host, doors);
         }
         self.call_ready(rt, host, doors);
         self.serve_all(rt, host, doors);
+        self.is_short = false;
         if woken.may_accept {
             self.accept(rt, alloc, host, doors);
+        }
+    }
+
+    // Ends each session, as one whose devices pass nothing any more.
+    fn end_all(&mut self, host: &mut V, doors: &mut D) {
+        for key in 0..self.hall.keys_end() {
+            if self.hall.seat(key).is_some() {
+                self.end(key, Ended::Gone, host, doors);
+            }
         }
     }
 
@@ -156,6 +188,7 @@ impl<V: Receives, D: Doors> Floor<V, D> {
             again: _,
             tally,
             limits: _,
+            is_short: _,
         } = self;
         hall.close(host);
         tally
@@ -165,7 +198,8 @@ impl<V: Receives, D: Doors> Floor<V, D> {
 /// Serves the sessions that come in at the doors, until no more come and all have ended; what those counted is handed back.
 ///
 /// Each session has the whole law of its own as a fact of its seat (`Seat`), and its end is told to the host. Served are
-/// those for which something came, and all of them once the bell was rung, each a few turns before the next.
+/// those for which something came, and all of them once the bell was rung, each a few turns before the next; and one
+/// connection is taken between two waits.
 pub fn serve_many<V: Receives, D: Doors, R: Wait>(
     rt: &R,
     alloc: Global,
@@ -175,7 +209,7 @@ pub fn serve_many<V: Receives, D: Doors, R: Wait>(
 ) -> Tally {
     let mut floor = Floor::<V, D>::new(alloc, limits);
     for _ in rt.forever() {
-        let woken = doors.wait(!floor.again.is_empty());
+        let woken = doors.wait(floor.timeout());
         floor.go_on(rt, alloc, host, doors, woken);
         if woken.is_closed && floor.hall.len() == 0 {
             break;

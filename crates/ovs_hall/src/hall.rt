@@ -80,11 +80,20 @@ impl<V: Host, R: Read + Drop, W: Write + Drop> Hall<V, R, W> {
         ensures none { (result ≡ None) ↔ (get self.old.seats key ≡ None) }
         ensures over { (e : _) → IfSome (get self.old.seats key) (λ a. a.session.ended ≡ Some e → result ≡ Some (Err e)) }
         ensures ends { IfSome result (λ r. Became (λ a b. a.session.ended ≡ None → b.session.ended ≡ ended_by r) (get self.old.seats key) (get self.new.seats key)) }
-        ensures answer { IfSome result (λ r. Became (λ a b. a.session.ended ≡ None → IsAnswer V.refuses r b.session) (get self.old.seats key) (get self.new.seats key)) }
+        ensures answer { IfSome result (λ r. Became (λ a b. a.session.ended ≡ None → IsAnswer V.refuses (V.may_answer host.new) (V.is_answered host.new) r b.session) (get self.old.seats key) (get self.new.seats key)) }
     {
         match self.seats.get_mut(key) {
             Some(seat) => Some(seat.turn(host)),
             None => None,
+        }
+    }
+
+    /// Something may have come for the session of this number. No session is another.
+    pub fn note_ready(&mut self, key: usize, is_read_closed: bool)
+        ensures same { (other : ℕ) → get self.new.seats other ≡ get self.old.seats other }
+    {
+        if let Some(seat) = self.seats.get_mut(key) {
+            seat.note_ready(is_read_closed);
         }
     }
 

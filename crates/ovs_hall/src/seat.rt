@@ -26,7 +26,8 @@ pub struct Seat<V: Service, R: Read, W: Write> {
 }
 
 impl<V: Service, R: Read, W: Write> Seat<V, R, W> {
-    /// A session of which nothing was read or said yet.
+    /// A session of which nothing was read or said yet. It reads once, and then where it is told that something came
+    /// (`note_ready`).
     pub fn new(
         alloc: Global,
         core: V::Session,
@@ -39,7 +40,8 @@ impl<V: Service, R: Read, W: Write> Seat<V, R, W> {
         ensures writer { result.write_to.value ≡ writer }
         ensures limits { result.limits ≡ limits }
     {
-        let session = Session::new(alloc, core);
+        let mut session = Session::new(alloc, core);
+        session.read_when_told();
         Seat {
             began: Snapshot::of(&session),
             read_from: Snapshot::of(&reader),
@@ -58,6 +60,13 @@ impl<V: Service, R: Read, W: Write> Seat<V, R, W> {
         &self.session
     }
 
+    /// Something may have come for the session: bytes, or behind them its reader's end or failure.
+    pub fn note_ready(&mut self, is_read_closed: bool)
+        ensures same { self.new ≡ self.old }
+    {
+        self.session.note_ready(is_read_closed);
+    }
+
     /// One turn of the session, as `turn` of `ovs_session` says. What it began with, and its limits, stay.
     pub fn turn(&mut self, service: &mut V) -> Result<Pace, Ended>
         ensures same { (self.new.began ≡ self.old.began) × (self.new.read_from ≡ self.old.read_from)
@@ -67,7 +76,7 @@ impl<V: Service, R: Read, W: Write> Seat<V, R, W> {
         ensures over { (e : _) → self.old.session.ended ≡ Some e → (result ≡ Err e) × (self.new.session ≡ self.old.session)
             × (self.new.reader ≡ self.old.reader) × (self.new.writer ≡ self.old.writer) }
         ensures ends { self.old.session.ended ≡ None → self.new.session.ended ≡ ended_by result }
-        ensures answer { self.old.session.ended ≡ None → IsAnswer V.refuses result self.new.session }
+        ensures answer { self.old.session.ended ≡ None → IsAnswer V.refuses (V.may_answer service.new) (V.is_answered service.new) result self.new.session }
         ensures spent { SpendsAtMost 1 self.old.limits.messages self.old.session.counts self.new.session.counts }
     {
         turn(

@@ -186,7 +186,7 @@ module _ (has_source : Bool) (who : ℕ) (id : Data) (l : DeskLockValue) where
   neither true b e = absurd cc
   neither false b e = (refl, e)
 
-forgotten_alone : (who other : ℕ) (l : LockValue) → stands other l ≡ false → stands other (forgotten who l) ≡ false
+pub forgotten_alone : (who other : ℕ) (l : LockValue) → stands other l ≡ false → stands other (forgotten who l) ≡ false
 forgotten_alone who other l none = by (is_in other l.queue) (is_in other l.stolen) refl refl none
   where
     by : (a b : Bool) → is_in other l.queue ≡ a → is_in other l.stolen ≡ b → (a || b) ≡ false → stands other (forgotten who l) ≡ false
@@ -194,7 +194,7 @@ forgotten_alone who other l none = by (is_in other l.queue) (is_in other l.stole
     by false true p q e = absurd cc
     by false false p q e = rw (in_dropped who other l.queue p, in_dropped who other l.stolen q) refl
 
-left_alone : (who other : ℕ) (c : Course) (l : LockValue) → stands other l ≡ false → stands other (left who c l) ≡ false
+pub left_alone : (who other : ℕ) (c : Course) (l : LockValue) → stands other l ≡ false → stands other (left who c l) ≡ false
 left_alone who other c l none = by (is_held c)
   where
     by : (b : Bool) → stands other (cond b (without who l) (forgotten who l)) ≡ false

@@ -1,6 +1,9 @@
 pub mod Busy
+pub mod Concerned
 pub mod DeskOwed
 pub mod DeskTables
 pub mod Holding
+pub mod Named
+pub mod Names
 pub mod Sending
 pub mod Silence

@@ -1,10 +1,10 @@
 -- One lock at a relay's desk: who asked for it here, how far the desk has come with its source, and what each event makes of it.
-use Rattle.std.specs.Prelude.{ℕ, Bool, true, false, not, List, [], ◌∷◌, ◌++◌, Option, Some, None, Result, Ok, Err, ◌≡◌, ◌&&◌, if◌then◌else◌}
+use Rattle.std.specs.Prelude.{ℕ, Bool, true, false, not, List, [], ◌∷◌, ◌++◌, Option, Some, None, Result, Ok, Err, ◌≡◌, ◌&&◌, ◌||◌, if◌then◌else◌}
 use Rattle.std.specs.List.{list_any}
 use Rattle.serde_json.specs.Data.{Data}
 use Rattle.ovs_locks.specs.Lock.{LockValue, no_lock, stands, owner, appended, stolen_by, put_first, without, forgotten, granted_first, robbed_first, is_free, is_idle, after_one, after_telling}
 use Rattle.ovs_lock_desk.specs.Course.{is_held, is_sent, is_still, course_locked, course_stolen, course_given_up, course_as_lock, course_sent}
-use Rattle.ovs_lock_desk.specs.LateSteal.{is_open, is_own_open, is_due_late, late_of, settled, without_one, without_due, without_late, open_session, is_empty_late}
+use Rattle.ovs_lock_desk.specs.LateSteal.{is_open, is_of, is_own_open, is_due_late, late_of, settled, without_one, without_due, without_late, open_session, is_empty_late}
 use Rattle.ovs_lock_desk.specs.declared.course.Due.TheVariants as due
 use Rattle.ovs_lock_desk.specs.declared.course.Course.{Course}
 use Rattle.ovs_lock_desk.specs.declared.course.Course.TheVariants.{Idle, Sent, Waiting, Held}
@@ -151,6 +151,10 @@ step (events.AllTold who) l = all_told who l
 abbrev pub desk_owner : DeskLockValue → Option ℕ
 desk_owner l = if is_held l.course then owner l.lock else None
 
+-- a session has to do with the lock: it stands in its lists, or a steal of its own wasn't told
+abbrev pub concerns : ℕ → DeskLockValue → Bool
+concerns who l = list_any (is_of who) l.late || stands who l.lock
+
 -- nobody stands in it, nobody is owed an answer, and nothing is under way
 abbrev pub is_desk_idle : DeskLockValue → Bool
 is_desk_idle l = is_idle l.lock && (is_empty_late l.late && is_still l.course)
@@ -193,3 +197,4 @@ AnswersBy refused verb l (Err errors.AlreadyAsked) = refused ≡ Some errors.Alr
 AnswersBy refused verb l (Err errors.NeverAsked) = refused ≡ Some errors.NeverAsked
 AnswersBy refused verb l (Err errors.SourceLost) = refused ≡ Some errors.SourceLost
 AnswersBy refused verb l (Err errors.StealPending) = refused ≡ Some errors.StealPending
+AnswersBy refused verb l (Err errors.TooMany) = refused ≡ Some errors.TooMany

@@ -1,22 +1,23 @@
 -- The locks of a relay's desk, by name.
-use Rattle.std.specs.Prelude.{◌≡◌, ℕ, Bool, false, not, ◌&&◌, ◌||◌, List, [], ◌∷◌, ◌++◌, map, filter, Option, Some, None, if◌then◌else◌, unwrap_or, option_map}
+use Rattle.std.specs.Prelude.{◌≡◌, ℕ, Bool, false, not, ◌&&◌, ◌||◌, nat_lt, length, List, [], ◌∷◌, ◌++◌, map, filter, Option, Some, None, if◌then◌else◌, unwrap_or, option_map}
 use Rattle.std.specs.List.{list_any}
 use Rattle.serde_json.specs.Data.{Data}
 use Rattle.ovs_locks.specs.ByName.{ByName, Ascends, named, changed, gathered}
 use Rattle.ovs_locks.specs.ByName as by_name
+use Rattle.ovs_locks.specs.BySession.{Sessions, mark_at}
 use Rattle.ovs_locks.specs.declared.notice.LockNotice.{LockNotice}
 use Rattle.ovs_locks.specs.Lock.{owed_for, stands, is_owed}
-use Rattle.ovs_locks.specs.LockTable.{is_lock}
+use Rattle.ovs_locks.specs.LockTable.{is_lock, most_locks}
 use Rattle.ovs_lock_desk.specs.Course.{is_sent, verb_due}
 use Rattle.ovs_lock_desk.specs.LateSteal.{is_due_late, is_own_open}
-use Rattle.ovs_lock_desk.specs.DeskLock.{DeskLockValue, no_desk_lock, is_desk_idle, step, refusal, enters}
+use Rattle.ovs_lock_desk.specs.DeskLock.{DeskLockValue, no_desk_lock, is_desk_idle, concerns, step, refusal, enters}
 use Rattle.ovs_lock_desk.specs.declared.course.Event.{Event}
 use Rattle.ovs_lock_desk.specs.declared.course.Event.TheVariants as events
 use Rattle.ovs_lock_desk.specs.declared.course.LockVerb.{LockVerb}
 use Rattle.ovs_lock_desk.specs.declared.desk_notice.DeskNotice.{DeskNotice}
 use Rattle.ovs_lock_desk.specs.declared.desk_notice.DeskNotice.TheVariants as tells
 use Rattle.ovs_lock_desk.specs.declared.error.DeskError.{DeskError}
-use Rattle.ovs_lock_desk.specs.declared.error.DeskError.TheVariants.{BadLock}
+use Rattle.ovs_lock_desk.specs.declared.error.DeskError.TheVariants.{BadLock, TooMany}
 use Rattle.ovs_lock_desk.specs.declared.late_steal.LateSteal.{LateSteal}
 
 abbrev pub DeskLocks : Type 0
@@ -48,16 +49,25 @@ ChangesAt name f old new = by_name.ChangesAt is_desk_idle no_desk_lock name f ol
 abbrev pub stepped : Event → DeskLocks → DeskLocks
 stepped event locks = changed is_desk_idle (step event) locks
 
--- why a session's asking is refused: only a lock that is asked for needs a name that a lock may have
-abbrev pub refusal_at : Bool → LockVerb → ℕ → List ℕ → DeskLocks → Option DeskError
-refusal_at has_source verb who name locks =
-    if enters verb && not (is_lock name) then Some BadLock else refusal has_source verb who (desk_lock_at name locks)
-
--- ---- what is due upward
-
 abbrev pub or_else : {X : Type 0} → Option X → Option X → Option X
 or_else None y = y
 or_else (Some x) y = Some x
+
+-- the locks in whose lists a session stands
+abbrev pub locks_of : ℕ → DeskLocks → DeskLocks
+locks_of who locks = filter (λ (e : List ℕ × DeskLockValue). stands who e.1.lock) locks
+
+-- whether a session has asked for as many as it may
+abbrev pub is_full : ℕ → DeskLocks → Bool
+is_full who locks = not (nat_lt (length (locks_of who locks)) most_locks)
+
+-- why a session's asking is refused: only a lock that is asked for needs a name that a lock may have, and room for one more
+abbrev pub refusal_at : Bool → LockVerb → ℕ → List ℕ → DeskLocks → Option DeskError
+refusal_at has_source verb who name locks =
+    if enters verb && not (is_lock name) then Some BadLock
+    else or_else (refusal has_source verb who (desk_lock_at name locks)) (if enters verb && is_full who locks then Some TooMany else None)
+
+-- ---- what is due upward
 
 -- of the least name that has something due: its name, and what is due first
 abbrev pub first_due_up : DeskLocks → Option (List ℕ × LockVerb)
@@ -124,6 +134,10 @@ owes_here who l = list_any (is_due_late who) l.late || is_owed who l.lock
 abbrev pub owes_at : ℕ → DeskLocks → Bool
 owes_at who [] = false
 owes_at who (e ∷ es) = owes_here who e.1 || owes_at who es
+
+-- each session has the names of the locks with which it has to do
+abbrev pub AreNamed : DeskLocks → Sessions → Type 0
+AreNamed locks sessions = (who : ℕ) (name : List ℕ) → mark_at who name sessions ≡ None → concerns who (desk_lock_at name locks) ≡ false
 
 -- a session stands nowhere, is owed nothing, and waits for no answer
 pub record IsGone (who : ℕ) (locks : DeskLocks) : Type 0 where

@@ -1,10 +1,10 @@
 //! One lock at a relay's desk.
 
 ghost use Rattle.std.specs.Prelude.{◌≡◌, ◌++◌, not, ◌||◌, is_some, true, false, OnOk, OnErr, IfOk, filter, map, slice_get, option_copied};
-ghost use Rattle.ovs_locks.specs.Lock.{owed_for};
+ghost use Rattle.ovs_locks.specs.Lock.{owed_for, stands};
 ghost use Rattle.ovs_lock_desk.specs.Course.{verb_due, is_sent};
 ghost use Rattle.ovs_lock_desk.specs.LateSteal.{open_session, is_due_late};
-ghost use Rattle.ovs_lock_desk.specs.DeskLock.{no_desk_lock, locked, stolen_here, unlocked, held, answered, granted_at_source, stolen_at_source, forgotten_by, lost, found, ended, sent, sent_once, desk_owner, is_desk_idle, asked_here, answer_here, answer_told, all_told, enters, step, refusal, AnswersBy};
+ghost use Rattle.ovs_lock_desk.specs.DeskLock.{no_desk_lock, locked, stolen_here, unlocked, held, answered, granted_at_source, stolen_at_source, forgotten_by, lost, found, ended, sent, sent_once, desk_owner, is_desk_idle, concerns, asked_here, answer_here, answer_told, all_told, enters, step, refusal, AnswersBy};
 ghost use Rattle.ovs_lock_desk.specs.LockDesk.{owes_here, told_of};
 
 use crate::course::{Course, Due, Event, LockVerb};
@@ -12,7 +12,7 @@ use crate::desk_notice::DeskNotice;
 use crate::error::DeskError;
 use crate::late_steal::{
     LateSteal, add_answers, drop_answer, drop_answers, drop_late, first_answer, is_any_due,
-    is_any_open, is_any_own_open, open_session, settle,
+    is_any_of, is_any_open, is_any_own_open, open_session, settle,
 };
 use ovs_json::{NoMemory, Text};
 use ovs_locks::{Lock, LockNotice};
@@ -77,6 +77,20 @@ impl DeskLock {
         ensures value { result ≡ is_desk_idle self.now }
     {
         self.lock.is_idle() && self.late.is_empty() && self.course.is_still()
+    }
+
+    /// Whether a session stands in one of the lists.
+    pub(crate) fn stands(&self, who: u64) -> bool
+        ensures value { result ≡ stands who self.now.lock }
+    {
+        self.lock.stands(who)
+    }
+
+    /// Whether a session stands in one of the lists, or a steal of its own wasn't told.
+    pub(crate) fn concerns(&self, who: u64) -> bool
+        ensures value { result ≡ concerns who self.now }
+    {
+        is_any_of(&self.late, who) || self.lock.stands(who)
     }
 
     /// What is due upward first.

@@ -1,12 +1,14 @@
 //! The locks of a relay's desk, by name.
 
-ghost use Rattle.std.specs.Prelude.{◌≡◌, ◌++◌, ℕ, [], true, false, OnOk, OnErr, IfOk, slice_get, option_map};
+ghost use Rattle.std.specs.Prelude.{◌≡◌, ◌++◌, ℕ, [], true, false, OnOk, OnErr, IfOk, filter, slice_get, option_copied, option_map};
+ghost use Rattle.ovs_locks.specs.Lock.{stands};
+ghost use Rattle.ovs_lock_desk.specs.LateSteal.{is_due_late};
 ghost use Rattle.std.specs.BTreeMap.{IsOrdered, insert_entry, is_at};
 ghost use Rattle.std.specs.Map.{remove_entry};
 ghost use Rattle.std.specs.Cmp.Lexicographic.{slice_cmp};
 ghost use Rattle.std.specs.Ordering.{nat_cmp};
-ghost use Rattle.ovs_lock_desk.specs.DeskLock.{no_desk_lock, step, refusal, asked_here, is_desk_idle, enters, desk_owner, AnswersBy};
-ghost use Rattle.ovs_lock_desk.specs.LockDesk.{IsDeskTable, desk_lock_at, ChangesAt, stepped, SendsFirst, first_due_up, answers_told, owed_to, answers_to, notices_to, is_sent_at, owes_at};
+ghost use Rattle.ovs_lock_desk.specs.DeskLock.{no_desk_lock, step, refusal, asked_here, concerns, is_desk_idle, enters, desk_owner, AnswersBy};
+ghost use Rattle.ovs_lock_desk.specs.LockDesk.{IsDeskTable, desk_lock_at, ChangesAt, stepped, SendsFirst, first_due_up, answers_told, owed_to, notices_to, notices_here, is_sent_at, owes_here};
 
 use crate::course::{Event, LockVerb};
 use crate::desk_lock::DeskLock;
@@ -88,6 +90,26 @@ impl DeskTable {
         }
     }
 
+    /// Whether a session stands in the lists of the lock of this name.
+    pub(crate) fn stands(&self, who: u64, name: &Text) -> bool
+        ensures value { result ≡ stands who (desk_lock_at name.now self.now).lock }
+    {
+        match self.locks.get(name) {
+            Some(lock) => lock.stands(who),
+            None => false,
+        }
+    }
+
+    /// Whether a session has to do with the lock of this name.
+    pub(crate) fn concerns(&self, who: u64, name: &Text) -> bool
+        ensures value { result ≡ concerns who (desk_lock_at name.now self.now) }
+    {
+        match self.locks.get(name) {
+            Some(lock) => lock.concerns(who),
+            None => false,
+        }
+    }
+
     /// A session asks for the lock of this name, or steals it.
     pub(crate) fn enter(
         &mut self,
@@ -102,6 +124,7 @@ impl DeskTable {
         ensures answer { AnswersBy (refusal has_source verb who (desk_lock_at name.now self.old)) verb (desk_lock_at name.now self.old) result }
         ensures after { OnOk result (ChangesAt name.now (asked_here has_source who verb id.now) self.old self.new) }
         ensures unchanged { OnErr result (self.new ≡ self.old) }
+        ensures table { OnOk result (IsDeskTable self.new) }
     {
         if let Some(lock) = self.locks.get_mut(name) {
             return lock.ask(has_source, verb, who, id);
@@ -119,6 +142,7 @@ impl DeskTable {
         requires busy { is_desk_idle lock ≡ false }
         ensures value { OnOk result (self.new ≡ insert_entry (slice_cmp nat_cmp) self.old name.now lock) }
         ensures unchanged { OnErr result (self.new ≡ self.old) }
+        ensures table { IsDeskTable self.new }
     {
         self.locks.insert(name.copy()?, lock)?;
         Ok(())
@@ -127,6 +151,7 @@ impl DeskTable {
     /// What an event makes of the lock of this name.
     pub(crate) fn at(&mut self, name: &Text, event: Event)
         ensures after { ChangesAt name.now (step event) self.old self.new }
+        ensures table { IsDeskTable self.new }
     {
         if let Some(lock) = self.locks.get_mut(name) {
             lock.step(event);
@@ -139,6 +164,7 @@ impl DeskTable {
     /// What an event makes of all locks.
     pub(crate) fn each(&mut self, event: Event)
         ensures after { self.new ≡ stepped event self.old }
+        ensures table { IsDeskTable self.new }
     {
         self.locks.retain(|_name, lock| {
             lock.step(event);
@@ -149,6 +175,7 @@ impl DeskTable {
     /// What is due first, of the least name that has something due, went up under this number.
     pub(crate) fn send_first(&mut self, number: u64)
         ensures after { SendsFirst number self.old self.new }
+        ensures table { IsDeskTable self.new }
     {
         let mut sent = false;
         self.locks
@@ -180,43 +207,34 @@ impl DeskTable {
         false
     }
 
-    /// Whether a session is owed an answer or a notice.
-    pub(crate) fn owes(&self, who: u64) -> bool
-        ensures value { result ≡ owes_at who self.now }
+    /// Whether a session is owed an answer or a notice for the lock of this name.
+    pub(crate) fn owes(&self, who: u64, name: &Text) -> bool
+        ensures value { result ≡ owes_here who (desk_lock_at name.now self.now) }
     {
-        for (_name, lock) in self.locks.iter() {
-            if lock.owes(who) {
-                return true;
-            }
+        match self.locks.get(name) {
+            Some(lock) => lock.owes(who),
+            None => false,
         }
-        false
     }
 
-    /// The first answer that a session is owed, and the name of its lock.
-    pub(crate) fn first_answer(&self, who: u64) -> Option<(&Text, &LateSteal)>
-        ensures value { option_map (λ d. (d.0.now, d.1.now)) result ≡ slice_get (answers_to who self.now) 0 }
-        ensures table { IsDeskTable self.now }
+    /// The first answer that a session is owed for the lock of this name.
+    pub(crate) fn first_answer(&self, who: u64, name: &Text) -> Option<&LateSteal>
+        ensures value { option_copied result ≡ slice_get (filter (is_due_late who) (desk_lock_at name.now self.now).late) 0 }
     {
-        for (name, lock) in self.locks.iter() {
-            if let Some(late) = lock.first_answer(who) {
-                return Some((name, late));
-            }
+        match self.locks.get(name) {
+            Some(lock) => lock.first_answer(who),
+            None => None,
         }
-        None
     }
 
-    /// The first notice that a session is owed.
-    pub(crate) fn first_notice(&self, who: u64) -> Result<Option<LockNotice>, NoMemory>
-        ensures value { IfOk result (λ notice. notice ≡ slice_get (notices_to who self.now) 0) }
-        ensures table { IsDeskTable self.now }
+    /// The first notice that a session is owed for the lock of this name.
+    pub(crate) fn first_notice(&self, who: u64, name: &Text) -> Result<Option<LockNotice>, NoMemory>
+        ensures value { IfOk result (λ notice. notice ≡ slice_get (notices_here who name.now (desk_lock_at name.now self.now)) 0) }
     {
-        for (name, lock) in self.locks.iter() {
-            let notice = lock.first_notice(who, name)?;
-            if notice.is_some() {
-                return Ok(notice);
-            }
+        match self.locks.get(name) {
+            Some(lock) => lock.first_notice(who, name),
+            None => Ok(None),
         }
-        Ok(None)
     }
 }
 

@@ -21,6 +21,9 @@ pub enum DeskError {
     /// A steal of the lock isn't answered yet.
     #[error("steal pending")]
     StealPending,
+    /// The session stands in the lists of 1,024 locks.
+    #[error("too many requests")]
+    TooMany,
     /// Memory ran out.
     #[error("out of memory")]
     NoMemory,

@@ -2,7 +2,7 @@
 
 ghost use Rattle.std.specs.Prelude.{◌≡◌, ◌++◌, OnOk, IfOk, map, filter, slice_get, option_copied};
 ghost use Rattle.std.specs.List.{list_any};
-ghost use Rattle.ovs_lock_desk.specs.LateSteal.{is_open, is_own_open, late_of, open_session, is_due_late, without_one, without_due, settled_one, settled, without_late};
+ghost use Rattle.ovs_lock_desk.specs.LateSteal.{is_open, is_of, is_own_open, late_of, open_session, is_due_late, without_one, without_due, settled_one, settled, without_late};
 ghost use Rattle.ovs_lock_desk.specs.LockDesk.{told_of};
 
 use crate::desk_notice::DeskNotice;
@@ -74,6 +74,13 @@ pub(crate) fn is_any_open(late: &[LateSteal]) -> bool
     ensures value { result ≡ list_any is_open late.now }
 {
     late.iter().any(|one| one.is_open())
+}
+
+/// Whether one of them is of this session.
+pub(crate) fn is_any_of(late: &[LateSteal], who: u64) -> bool
+    ensures value { result ≡ list_any (is_of who) late.now }
+{
+    late.iter().any(|one| one.who == who)
 }
 
 /// Whether the answer of a steal of this session isn't known yet.

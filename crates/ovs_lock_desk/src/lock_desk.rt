@@ -1,8 +1,9 @@
 //! The locks of a relay's desk, and whether there is a source.
 
 ghost use Rattle.std.specs.Prelude.{◌≡◌, [], true, false, OnOk, OnErr, IfOk, slice_get, option_map, if◌then◌else◌};
-ghost use Rattle.ovs_lock_desk.specs.DeskLock.{step, asked_here, desk_owner, AnswersBy};
-ghost use Rattle.ovs_lock_desk.specs.LockDesk.{IsDeskTable, IsGone, desk_lock_at, ChangesAt, SendsFirst, refusal_at, stepped, first_due_up, answers_to, notices_to, owed_to, is_sent_at, owes_at};
+ghost use Rattle.ovs_locks.specs.LockTable.{is_lock};
+ghost use Rattle.ovs_lock_desk.specs.DeskLock.{step, enters, asked_here, desk_owner, AnswersBy};
+ghost use Rattle.ovs_lock_desk.specs.LockDesk.{IsDeskTable, IsGone, AreNamed, is_full, desk_lock_at, ChangesAt, SendsFirst, refusal_at, stepped, first_due_up, answers_to, notices_to, owed_to, is_sent_at, owes_at};
 
 use crate::course::{Event, LockVerb};
 use crate::desk_notice::DeskNotice;
@@ -10,10 +11,13 @@ use crate::desk_table::DeskTable;
 use crate::error::DeskError;
 use crate::late_steal::LateSteal;
 use ovs_json::{NoMemory, Text};
-use ovs_locks::{LockNotice, is_lock};
+use ovs_locks::{BySession, LockNotice, is_lock};
 use ovs_wire::Id;
 use std::alloc::Global;
 use std::marker::Model;
+
+// A session stands in the lists of so many locks at most.
+const MOST_LOCKS: usize = 1024;
 
 /// The locks that the sessions of a relay ask for. The relay is one session of its source, so it asks for each lock once, and
 /// hands it on to its own sessions in the order in which they asked.
@@ -21,13 +25,15 @@ use std::marker::Model;
 pub struct LockDesk {
     has_source: bool,
     table: DeskTable,
+    // The names of the locks with which each session has to do.
+    sessions: BySession,
 }
 
 impl Model for LockDesk {
     ghost use Rattle.std.specs.Prelude.{Bool, refl};
     ghost use Rattle.std.specs.Coded.{code_by, coded×, coded_bool};
     ghost use Rattle.ovs_lock_desk.specs.contracts.desk_table.DeskTable as table_row;
-    ghost use Rattle.ovs_lock_desk.specs.LockDesk.{DeskLocks, DeskValue};
+    ghost use Rattle.ovs_lock_desk.specs.LockDesk.{DeskLocks, DeskValue, IsDeskTable, AreNamed};
 
     ghost Value = { DeskValue };
 
@@ -35,6 +41,18 @@ impl Model for LockDesk {
         (λ d. (d.has_source, d.locks)) (λ p. record { has_source = p.0; locks = p.1 }) (λ _. refl) };
 
     ghost view = { λ d. record { has_source = d.has_source; locks = d.table } };
+
+    ghost invariant = { λ d. IsDeskTable d.table × AreNamed d.table d.sessions };
+}
+
+// A session that has nothing more to do with this lock has its name no more.
+fn release(table: &DeskTable, sessions: &mut BySession, who: u64, name: &Text)
+    requires named { AreNamed table.now sessions.old }
+    ensures named { AreNamed table.now sessions.new }
+{
+    if !table.concerns(who, name) {
+        sessions.note(who, name, None);
+    }
 }
 
 impl LockDesk {
@@ -45,6 +63,7 @@ impl LockDesk {
         LockDesk {
             has_source: false,
             table: DeskTable::new(alloc),
+            sessions: BySession::new(alloc),
         }
     }
 
@@ -65,6 +84,7 @@ impl LockDesk {
     ///   where it doesn't.
     /// - `SourceLost` for a Steal without a source.
     /// - `StealPending` for a Steal while another steal isn't answered, and for an Unlock while the session's own isn't.
+    /// - `TooMany` for a Lock or Steal where the session stands in the lists of 1,024 locks.
     /// - `NoMemory`, which an Unlock doesn't answer.
     pub fn ask(
         &mut self,
@@ -85,10 +105,64 @@ impl LockDesk {
                 if !is_lock(name.as_str()) {
                     return Err(DeskError::BadLock);
                 }
-                self.table
-                    .enter(alloc, self.has_source, verb, who, name, id)
+                self.enter(alloc, who, verb, name, id)
             }
         }
+    }
+
+    // A session asks for a lock, or steals it.
+    fn enter(
+        &mut self,
+        alloc: Global,
+        who: u64,
+        verb: LockVerb,
+        name: &Text,
+        id: &Id,
+    ) -> Result<Option<bool>, DeskError>
+        requires enters { enters verb ≡ true }
+        requires name { is_lock name.now ≡ true }
+        ensures answer { AnswersBy (refusal_at self.old.has_source verb who name.now self.old.locks) verb (desk_lock_at name.now self.old.locks) result }
+        ensures after { OnOk result (ChangesAt name.now (asked_here self.old.has_source who verb id.now) self.old.locks self.new.locks) }
+        ensures source { self.new.has_source ≡ self.old.has_source }
+        ensures unchanged { OnErr result (self.new ≡ self.old) }
+    {
+        let refused = self.table.refusal(self.has_source, verb, who, name);
+        if let Some(refused) = refused {
+            return Err(refused);
+        }
+        if self.is_full(who) {
+            return Err(DeskError::TooMany);
+        }
+        self.sessions.enter(alloc, who, name)?;
+        match self
+            .table
+            .enter(alloc, self.has_source, verb, who, name, id)
+        {
+            Ok(answer) => Ok(answer),
+            Err(error) => {
+                release(&self.table, &mut self.sessions, who, name);
+                Err(error)
+            }
+        }
+    }
+
+    // Whether a session stands in the lists of as many locks as it may.
+    fn is_full(&self, who: u64) -> bool
+        ensures value { result ≡ is_full who self.now.locks }
+    {
+        let Some(names) = self.sessions.names(who) else {
+            return false;
+        };
+        let mut room = MOST_LOCKS;
+        for (name, _mark) in names.iter() {
+            if self.table.stands(who, name) {
+                room -= 1;
+                if room == 0 {
+                    return true;
+                }
+            }
+        }
+        false
     }
 
     // A session leaves the lists of a lock, with the notices that it was owed for it.
@@ -105,6 +179,7 @@ impl LockDesk {
             return Err(refused);
         }
         self.table.at(name, Event::Unlocked(who));
+        release(&self.table, &mut self.sessions, who, name);
         Ok(Some(true))
     }
 
@@ -193,13 +268,22 @@ impl LockDesk {
         ensures gone { IsGone who self.new.locks }
     {
         self.table.each(Event::Ended(who));
+        let _names = self.sessions.take(who);
     }
 
     /// Whether a session is owed an answer or a notice. No memory is taken.
     pub fn owes(&self, who: u64) -> bool
         ensures value { result ≡ owes_at who self.now.locks }
     {
-        self.table.owes(who)
+        let Some(names) = self.sessions.names(who) else {
+            return false;
+        };
+        for (name, _mark) in names.iter() {
+            if self.table.owes(who, name) {
+                return true;
+            }
+        }
+        false
     }
 
     /// What a session is owed and wasn't told, in this order: the answers to its steals, and then what became of its locks,
@@ -223,7 +307,15 @@ impl LockDesk {
         ensures value { option_map (λ d. (d.0.now, d.1.now)) result ≡ slice_get (answers_to who self.now.locks) 0 }
         ensures table { IsDeskTable self.now.locks }
     {
-        self.table.first_answer(who)
+        let Some(names) = self.sessions.names(who) else {
+            return None;
+        };
+        for (name, _mark) in names.iter() {
+            if let Some(late) = self.table.first_answer(who, name) {
+                return Some((name, late));
+            }
+        }
+        None
     }
 
     /// The session was told the first answer that it is owed for this lock. No memory is taken.
@@ -232,6 +324,7 @@ impl LockDesk {
         ensures source { self.new.has_source ≡ self.old.has_source }
     {
         self.table.at(name, Event::AnswerTold(who));
+        release(&self.table, &mut self.sessions, who, name);
     }
 
     /// The first notice that a session is owed, which it still is then.
@@ -242,7 +335,16 @@ impl LockDesk {
         ensures value { IfOk result (λ notice. notice ≡ slice_get (notices_to who self.now.locks) 0) }
         ensures table { IsDeskTable self.now.locks }
     {
-        self.table.first_notice(who)
+        let Some(names) = self.sessions.names(who) else {
+            return Ok(None);
+        };
+        for (name, _mark) in names.iter() {
+            let notice = self.table.first_notice(who, name)?;
+            if notice.is_some() {
+                return Ok(notice);
+            }
+        }
+        Ok(None)
     }
 
     /// The session was told the first notice that it is owed for this lock. No memory is taken.

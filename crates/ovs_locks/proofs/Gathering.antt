@@ -34,10 +34,10 @@ gathers_nothing (e ∷ es) = gathers_nothing es
 
 -- ---- names
 
-abbrev test : List ℕ → List ℕ → Bool
+abbrev pub test : List ℕ → List ℕ → Bool
 test name = is_at (slice_cmp nat_cmp name)
 
-own_name : (name : List ℕ) → test name name ≡ true
+pub own_name : (name : List ℕ) → test name name ≡ true
 own_name name = ap is_eq (tied_itself nat_list_cmp_total name)
 
 has_key : {L : Type 0} → List ℕ → ByName L → Bool
@@ -81,7 +81,7 @@ stands_once name l (e ∷ xs) ys ascend has = by (test name e.0) refl has (stand
         (none_past_head (eq_by_cmp_equiv nat_list_cmp_total) name e (xs ++ (name, l) ∷ ys) (IsDistinct-from_sorted (slice_cmp nat_cmp) (keys_of (e ∷ (xs ++ (name, l) ∷ ys))) ascend) at))
     by false at h more = more h
 
-by_test : (b : Bool) → (b ≡ true → ⊥) → b ≡ false
+pub by_test : (b : Bool) → (b ≡ true → ⊥) → b ≡ false
 by_test true n = absurd (n refl)
 by_test false n = refl
 

@@ -25,7 +25,7 @@ pub nothing_first : {X : Type 0} (xs : List X) → is_some (slice_get xs 0) ≡ 
 nothing_first [] e = refl
 nothing_first (x ∷ xs) e = absurd cc
 
-first_front : {X : Type 0} (xs ys : List X) → is_some (slice_get xs 0) ≡ true → slice_get (xs ++ ys) 0 ≡ slice_get xs 0
+pub first_front : {X : Type 0} (xs ys : List X) → is_some (slice_get xs 0) ≡ true → slice_get (xs ++ ys) 0 ≡ slice_get xs 0
 first_front [] ys e = absurd cc
 first_front (x ∷ xs) ys e = refl
 

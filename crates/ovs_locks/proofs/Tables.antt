@@ -23,7 +23,7 @@ use Rattle.ovs_locks.proofs.Gathering.{gathered_changed, gathers_nothing}
 use Rattle.ovs_locks.proofs.Idle.{idle_is_none, idle_owes}
 use Rattle.ovs_locks.specs.LockTable.{Locks, lock_at, Becomes, owed_to}
 
-tied : (o : Ordering) → is_eq o ≡ true → o ≡ Equal
+pub tied : (o : Ordering) → is_eq o ≡ true → o ≡ Equal
 tied Less e = absurd cc
 tied Equal e = refl
 tied Greater e = absurd cc
@@ -115,7 +115,7 @@ all_told who (e ∷ es) =
 
 -- ---- a lock that was lent
 
-there : {X : Type 0} (o : Option X) (x : X) → Some x ≡ o → IsSome o
+pub there : {X : Type 0} (o : Option X) (x : X) → Some x ≡ o → IsSome o
 there None x e = absurd cc
 there (Some y) x e = refl
 

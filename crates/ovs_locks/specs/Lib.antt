@@ -1,3 +1,4 @@
 pub mod ByName
+pub mod BySession
 pub mod Lock
 pub mod LockTable

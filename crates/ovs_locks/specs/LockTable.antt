@@ -1,15 +1,16 @@
 -- The locks of a server, by name.
-use Rattle.std.specs.Prelude.{◌≡◌, ◌≢◌, ℕ, Bool, true, false, not, ◌&&◌, List, Result, Ok, Err, codes, nat_eq}
+use Rattle.std.specs.Prelude.{◌≡◌, ◌≢◌, ◌<◌, ◌≤◌, ℕ, Bool, true, false, not, ◌&&◌, List, filter, length, None, Result, Ok, Err, codes, nat_eq}
 use Rattle.std.specs.Cmp.Lexicographic.{pointwise}
 use Rattle.std.specs.List.{list_any}
 use Rattle.ovs_data.specs.Names.{is_id}
 use Rattle.ovs_locks.specs.ByName.{ByName, Ascends, named, gathered}
 use Rattle.ovs_locks.specs.ByName as by_name
-use Rattle.ovs_locks.specs.Lock.{LockValue, no_lock, is_idle, stands, AsksAs, owed_for, SameSessions}
+use Rattle.ovs_locks.specs.BySession.{Names, Sessions, IsListed, mark_in, mark_at}
+use Rattle.ovs_locks.specs.Lock.{LockValue, no_lock, is_idle, stands, mark, without, AsksAs, owed_for, SameSessions}
 use Rattle.ovs_locks.specs.declared.notice.LockNotice.{LockNotice}
 use Rattle.ovs_locks.specs.declared.asker.Asking.{Asking}
 use Rattle.ovs_locks.specs.declared.error.LockError.{LockError}
-use Rattle.ovs_locks.specs.declared.error.LockError.TheVariants.{BadLock, AlreadyAsked, NoMemory}
+use Rattle.ovs_locks.specs.declared.error.LockError.TheVariants.{BadLock, AlreadyAsked, TooMany, NoMemory}
 
 abbrev pub Locks : Type 0
 Locks = ByName LockValue
@@ -43,12 +44,24 @@ Becomes old name lock new =
 abbrev pub AllBecome : Locks → (LockValue → LockValue) → Locks → Type 0
 AllBecome old f new = (name : List ℕ) → lock_at name new ≡ f (lock_at name old)
 
+-- the locks in whose lists a session stands
+abbrev pub locks_of : ℕ → Locks → Locks
+locks_of who locks = filter (λ (e : List ℕ × LockValue). stands who e.1) locks
+
+-- so many a session may have asked for
+abbrev pub most_locks : ℕ
+most_locks = 1024
+
 -- what asking for a lock by its name answers
 abbrev pub AnswersAs : Asking → ℕ → List ℕ → Locks → Result Bool LockError → Type 0
-AnswersAs how who name locks (Ok answer) = (is_lock name ≡ true) × AsksAs how who (lock_at name locks) (Ok answer)
+AnswersAs how who name locks (Ok answer) =
+    (is_lock name ≡ true) × AsksAs how who (lock_at name locks) (Ok answer) × (length (locks_of who locks) < most_locks)
 AnswersAs how who name locks (Err BadLock) = is_lock name ≡ false
 AnswersAs how who name locks (Err AlreadyAsked) = (is_lock name ≡ true) × AsksAs how who (lock_at name locks) (Err AlreadyAsked)
-AnswersAs how who name locks (Err NoMemory) = (is_lock name ≡ true) × AsksAs how who (lock_at name locks) (Err NoMemory)
+AnswersAs how who name locks (Err TooMany) =
+    (is_lock name ≡ true) × (stands who (lock_at name locks) ≡ false) × (most_locks ≤ length (locks_of who locks))
+AnswersAs how who name locks (Err NoMemory) =
+    (is_lock name ≡ true) × AsksAs how who (lock_at name locks) (Err NoMemory) × (length (locks_of who locks) < most_locks)
 
 -- what a session is owed, lock by lock
 abbrev pub owed_to : ℕ → Locks → List LockNotice
@@ -61,3 +74,14 @@ KeepsSessions old new = (name : List ℕ) → SameSessions (lock_at name old) (l
 -- whether a session stands in the lists of some lock
 abbrev pub stands_somewhere : ℕ → Locks → Bool
 stands_somewhere who locks = list_any (λ e. stands who e.1) locks
+
+-- all but this session are listed, and it stands at most in the lists of the locks with these names
+pub record LeavesFrom (who : ℕ) (names : Names) (locks : Locks) (sessions : Sessions) : Type 0 where
+  pub at : (name : List ℕ) → mark_in name names ≡ None → stands who (lock_at name locks) ≡ false
+  pub listed : (other : ℕ) (name : List ℕ) → other ≢ who → mark_at other name sessions ≡ mark other (lock_at name locks)
+  pub gone : (name : List ℕ) → mark_at who name sessions ≡ None
+
+-- this session has left all lists, and each session is listed
+pub record Leaves (who : ℕ) (old new : Locks) (sessions : Sessions) : Type 0 where
+  pub locks : AllBecome old (without who) new
+  pub listed : IsListed mark no_lock new sessions

@@ -12,6 +12,9 @@ pub enum LockError {
     /// The session asked for the lock already, and hasn't unlocked it since.
     #[error("already asked")]
     AlreadyAsked,
+    /// The session stands in the lists of 1,024 locks.
+    #[error("too many requests")]
+    TooMany,
     /// Memory ran out.
     #[error("out of memory")]
     NoMemory,

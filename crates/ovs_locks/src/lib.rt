@@ -3,12 +3,15 @@
 #![tactic(auto)]
 
 mod asker;
+mod by_session;
 mod error;
 mod lock;
+mod lock_map;
 mod lock_table;
 mod notice;
 
 pub use asker::Asking;
+pub use by_session::BySession;
 pub use error::{LockError, NeverAsked};
 pub use lock::Lock;
 pub use lock_table::{LockTable, is_lock};

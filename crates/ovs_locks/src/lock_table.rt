@@ -1,16 +1,14 @@
-//! The locks of a server, by name.
+//! The locks of a server, by name, and the names that each session asked for.
 
-ghost use Rattle.std.specs.Prelude.{◌≡◌, ◌≢◌, ℕ, List, [], true, false, OnOk, OnErr, IfOk, drop, is_some, slice_get};
-ghost use Rattle.std.specs.BTreeMap.{IsOrdered, Updates, is_at};
-ghost use Rattle.std.specs.Map.{remove_entry};
-ghost use Rattle.std.specs.Cmp.Lexicographic.{slice_cmp};
-ghost use Rattle.std.specs.Ordering.{nat_cmp};
-ghost use Rattle.ovs_locks.specs.Lock.{owner, stands, is_idle, asked, without, after_telling, after_one};
-ghost use Rattle.ovs_locks.specs.LockTable.{AscendByName, is_lock, lock_at, Becomes, AllBecome, AnswersAs, owed_to, KeepsSessions, NoneIdle, ChangesAt};
+ghost use Rattle.std.specs.Prelude.{◌≡◌, ◌≢◌, ℕ, List, [], true, false, OnOk, OnErr, IfOk, drop, is_some, slice_get, length, ◌<◌};
+ghost use Rattle.ovs_locks.specs.BySession.{Notes, Remarks, RemarksAny, mark_at, names_at};
+ghost use Rattle.ovs_locks.specs.Lock.{owner, stands, mark, wins, asked, without, after_telling, after_one};
+ghost use Rattle.ovs_locks.specs.LockTable.{AscendByName, is_lock, LeavesFrom, Leaves, lock_at, locks_of, Becomes, AllBecome, AnswersAs, owed_to, KeepsSessions, NoneIdle, ChangesAt};
 
 use crate::asker::Asking;
+use crate::by_session::BySession;
 use crate::error::{LockError, NeverAsked};
-use crate::lock::Lock;
+use crate::lock_map::LockMap;
 use crate::notice::LockNotice;
 use ovs_data::is_id;
 use ovs_json::{NoMemory, Text};
@@ -18,30 +16,34 @@ use std::alloc::Global;
 use std::collections::BTreeMap;
 use std::marker::Model;
 
+// A session stands in the lists of so many locks at most.
+const MOST_LOCKS: usize = 1024;
+
 /// The locks of a server, by name: for each the sessions that asked for it, in two lists. The first of the queue owns the
 /// lock; those from whom it was stolen stand in the other until they unlock it (RFC 7047 section 4.1.8). A name in which no
 /// session stands leaves the table.
 #[derive(Drop)]
 pub struct LockTable {
-    locks: BTreeMap<Text, Lock>,
+    locks: LockMap,
+    // The names of the locks in whose lists each session stands, and for which of them it is owed a notice.
+    sessions: BySession,
 }
 
 impl Model for LockTable {
     ghost use Rattle.std.specs.Prelude.{ℕ, List};
-    ghost use Rattle.std.specs.BTreeMap.{IsOrdered};
-    ghost use Rattle.std.specs.Ordering.{nat_cmp};
-    ghost use Rattle.std.specs.Cmp.Lexicographic.{slice_cmp};
     ghost use Rattle.std.specs.Coded.{coded×, coded_ℕ, coded_list};
     ghost use Rattle.ovs_locks.specs.contracts.lock.Lock as lock_row;
-    ghost use Rattle.ovs_locks.specs.LockTable.{Locks, NoneIdle};
+    ghost use Rattle.ovs_locks.specs.BySession.{IsListed};
+    ghost use Rattle.ovs_locks.specs.Lock.{mark, no_lock};
+    ghost use Rattle.ovs_locks.specs.LockTable.{Locks, AscendByName, NoneIdle};
 
     ghost Value = { Locks };
 
     ghost coded = { coded_list (coded× (coded_list coded_ℕ) lock_row.the_row.coded) };
 
-    ghost view = { λ t. t.locks.entries };
+    ghost view = { λ t. t.locks };
 
-    ghost invariant = { λ t. IsOrdered (slice_cmp nat_cmp) t.locks × NoneIdle t.locks.entries };
+    ghost invariant = { λ t. AscendByName t.locks × NoneIdle t.locks × IsListed mark no_lock t.locks t.sessions };
 }
 
 /// Whether a lock may have this name: an `<id>` (RFC 7047 section 3.1), and not `_none`, which no session holds.
@@ -51,13 +53,36 @@ pub fn is_lock(name: &str) -> bool
     is_id(name) && name != "_none"
 }
 
-// Takes a lock out. A function of its own, since between a write and the taking out a lock may be idle.
-fn take_out(locks: &mut BTreeMap<Text, Lock>, name: &Text)
-    ensures entries { locks.new.entries ≡ remove_entry (is_at (slice_cmp nat_cmp name.now)) locks.old.entries }
-    ensures updates { Updates (slice_cmp nat_cmp) locks.old locks.new name.now None }
-    ensures ordered { IsOrdered (slice_cmp nat_cmp) locks.new }
+// Writes what a session is owed for this lock now, or takes the name out where it stands in it no more.
+fn remark(locks: &LockMap, sessions: &mut BySession, who: u64, name: &Text)
+    ensures marks { Remarks (λ x. mark x (lock_at name.now locks.now)) who name.now sessions.old sessions.new }
 {
-    let _ = locks.remove(name);
+    let mark = locks.mark(who, name);
+    sessions.note(who, name, mark);
+}
+
+fn remark_any(locks: &LockMap, sessions: &mut BySession, who: Option<u64>, name: &Text)
+    ensures marks { RemarksAny (λ x. mark x (lock_at name.now locks.now)) who name.now sessions.old sessions.new }
+{
+    if let Some(who) = who {
+        remark(locks, sessions, who, name);
+    }
+}
+
+// Takes a session out of the lists of these locks, and marks their next owners.
+fn leave_all(locks: &mut LockMap, sessions: &mut BySession, who: u64, names: &BTreeMap<Text, bool>)
+    requires listed { LeavesFrom who names.now.entries locks.old sessions.old }
+    requires ordered { AscendByName locks.old }
+    requires busy { NoneIdle locks.old }
+    ensures left { Leaves who locks.old locks.new sessions.new }
+    ensures ascending { AscendByName locks.new }
+    ensures none_idle { NoneIdle locks.new }
+{
+    for (name, _owed) in names.iter() {
+        locks.leave(who, name);
+        let next = locks.owner(name);
+        remark_any(locks, sessions, next, name);
+    }
 }
 
 impl LockTable {
@@ -66,7 +91,8 @@ impl LockTable {
         ensures value { result ≡ [] }
     {
         LockTable {
-            locks: BTreeMap::new(alloc),
+            locks: LockMap::new(alloc),
+            sessions: BySession::new(alloc),
         }
     }
 
@@ -80,33 +106,52 @@ impl LockTable {
         if !is_lock(name.as_str()) {
             return Err(LockError::BadLock);
         }
-        if let Some(lock) = self.locks.get_mut(name) {
-            return lock.ask(who, how);
+        if self.locks.stands(who, name) {
+            return Err(LockError::AlreadyAsked);
         }
-        let mut lock = Lock::new(alloc);
-        let answer = lock.ask(who, how)?;
-        match self.put(name, lock) {
-            Ok(()) => Ok(answer),
+        if self.count(who) >= MOST_LOCKS {
+            return Err(LockError::TooMany);
+        }
+        match self.enter(alloc, who, name, how) {
+            Ok(answer) => Ok(answer),
             Err(NoMemory) => Err(LockError::NoMemory),
         }
     }
 
-    // Adds a lock that isn't there.
-    fn put(&mut self, name: &Text, lock: Lock) -> Result<(), NoMemory>
-        requires busy { is_idle lock ≡ false }
-        ensures value { OnOk result (Becomes self.old name.now lock self.new) }
-        ensures unchanged { OnErr result (self.new ≡ self.old) }
-        ensures ascending { AscendByName self.new }
+    // In the lists of how many locks a session stands.
+    fn count(&self, who: u64) -> usize
+        ensures value { result ≡ length (locks_of who self.now) }
     {
-        self.locks.insert(name.copy()?, lock)?;
-        Ok(())
+        self.sessions.count(who)
+    }
+
+    // A session that stands in neither list of the lock comes to stand in one.
+    fn enter(&mut self, alloc: Global, who: u64, name: &Text, how: Asking) -> Result<bool, NoMemory>
+        requires apart { stands who (lock_at name.now self.old) ≡ false }
+        ensures answer { IfOk result (λ won. won ≡ wins how (lock_at name.now self.old)) }
+        ensures after { OnOk result (Becomes self.old name.now (asked how who (lock_at name.now self.old)) self.new) }
+        ensures unchanged { OnErr result (self.new ≡ self.old) }
+        ensures ascending { OnOk result (AscendByName self.new) }
+    {
+        let robbed = self.locks.owner(name);
+        self.sessions.enter(alloc, who, name)?;
+        match self.locks.ask(alloc, who, name, how) {
+            Ok(answer) => {
+                remark_any(&self.locks, &mut self.sessions, robbed, name);
+                Ok(answer)
+            }
+            Err(_) => {
+                self.sessions.note(who, name, None);
+                Err(NoMemory)
+            }
+        }
     }
 
     /// Asks for a lock after those that asked before. The answer is whether the session owns it now.
     ///
     /// # Errors
     /// `BadLock` where no lock has such a name, else `AlreadyAsked` where the session stands in one of its lists, else
-    /// `NoMemory`. The table is then as it was.
+    /// `TooMany` where it stands in the lists of 1,024 others, else `NoMemory`. The table is then as it was.
     pub fn lock(&mut self, alloc: Global, who: u64, name: &Text) -> Result<bool, LockError>
         ensures answer { AnswersAs Asking.Lock who name.now self.old result }
         ensures after { OnOk result (Becomes self.old name.now (asked Asking.Lock who (lock_at name.now self.old)) self.new) }
@@ -133,20 +178,7 @@ impl LockTable {
     pub fn owner(&self, name: &Text) -> Option<u64>
         ensures value { result ≡ owner (lock_at name.now self.now) }
     {
-        match self.locks.get(name) {
-            Some(lock) => lock.owner(),
-            None => None,
-        }
-    }
-
-    fn stands(&self, who: u64, name: &Text) -> bool
-        ensures value { result ≡ stands who (lock_at name.now self.now) }
-        ensures by_name { AscendByName self.now }
-    {
-        match self.locks.get(name) {
-            Some(lock) => lock.stands(who),
-            None => false,
-        }
+        self.locks.owner(name)
     }
 
     /// Takes a session out of the lists of a lock, with what it was owed for it. If it was the owner, the next one is, and is
@@ -163,7 +195,7 @@ impl LockTable {
         // Where the last session left, the name is gone.
         ensures none_idle { OnOk result (NoneIdle self.new) }
     {
-        if !self.stands(who, name) {
+        if !self.locks.stands(who, name) {
             return Err(NeverAsked);
         }
         self.leave(who, name);
@@ -176,12 +208,10 @@ impl LockTable {
         ensures ascending { AscendByName self.new }
         ensures none_idle { NoneIdle self.new }
     {
-        if let Some(lock) = self.locks.get_mut(name) {
-            lock.leave(who);
-            if lock.is_idle() {
-                take_out(&mut self.locks, name);
-            }
-        }
+        self.locks.leave(who, name);
+        remark(&self.locks, &mut self.sessions, who, name);
+        let next = self.locks.owner(name);
+        remark_any(&self.locks, &mut self.sessions, next, name);
     }
 
     /// Takes a session out of all lists, with what it was owed; locks that it owned have their next owner.
@@ -192,35 +222,10 @@ impl LockTable {
         ensures ascending { AscendByName self.new }
         ensures none_idle { NoneIdle self.new }
     {
-        self.locks.retain(|_name, lock| {
-            lock.leave(who);
-            !lock.is_idle()
-        });
-    }
-
-    // Notes that a session was told all that it was owed.
-    fn note_told(&mut self, who: u64)
-        ensures after { AllBecome self.old (after_telling who) self.new }
-        ensures nothing { owed_to who self.new ≡ [] }
-        ensures by_name { AscendByName self.old }
-        ensures ascending { AscendByName self.new }
-    {
-        self.locks.retain(|_name, lock| {
-            lock.note_told(who);
-            true
-        });
-    }
-
-    // What a session is owed.
-    fn owed(&self, alloc: Global, who: u64) -> Result<Vec<LockNotice>, NoMemory>
-        ensures value { IfOk result (λ notices. notices.items ≡ owed_to who self.now) }
-        ensures by_name { AscendByName self.now }
-    {
-        let mut notices = Vec::new(alloc);
-        for (name, lock) in self.locks.iter() {
-            lock.add_owed(who, name, &mut notices)?;
-        }
-        Ok(notices)
+        let Some(names) = self.sessions.take(who) else {
+            return;
+        };
+        leave_all(&mut self.locks, &mut self.sessions, who, &names);
     }
 
     /// What a session is owed and wasn't told, by the names of the locks, ascending; of one lock that it had it before that
@@ -237,8 +242,9 @@ impl LockTable {
         ensures nothing { OnOk result (owed_to who self.new ≡ []) }
         ensures unchanged { OnErr result (self.new ≡ self.old) }
     {
-        let notices = self.owed(alloc, who)?;
-        self.note_told(who);
+        let notices = self.locks.owed(alloc, who)?;
+        self.locks.note_told(who);
+        self.sessions.note_told(who);
         Ok(notices)
     }
 
@@ -251,10 +257,15 @@ impl LockTable {
         ensures by_name { AscendByName self.now }
         ensures none_idle { NoneIdle self.now }
     {
-        for (name, lock) in self.locks.iter() {
-            let notice = lock.first_notice(who, name)?;
-            if notice.is_some() {
-                return Ok(notice);
+        let Some(names) = self.sessions.owed(who) else {
+            return Ok(None);
+        };
+        for (name, owed) in names.iter() {
+            if *owed {
+                let notice = self.locks.first_notice(who, name)?;
+                if notice.is_some() {
+                    return Ok(notice);
+                }
             }
         }
         Ok(None)
@@ -264,12 +275,7 @@ impl LockTable {
     pub fn owes(&self, who: u64) -> bool
         ensures value { result ≡ is_some (slice_get (owed_to who self.now) 0) }
     {
-        for (_name, lock) in self.locks.iter() {
-            if lock.owes(who) {
-                return true;
-            }
-        }
-        false
+        self.sessions.is_owed(who)
     }
 
     // Notes that a session was told the first notice that it was owed for a lock.
@@ -277,9 +283,8 @@ impl LockTable {
         ensures after { ChangesAt name.now (after_one who) self.old self.new }
         ensures ascending { AscendByName self.new }
     {
-        if let Some(lock) = self.locks.get_mut(name) {
-            lock.note_one_told(who);
-        }
+        self.locks.note_one_told(who, name);
+        remark(&self.locks, &mut self.sessions, who, name);
     }
 
     /// The first of what `notices` would give, which the session is owed no more then; `None` where it is owed nothing

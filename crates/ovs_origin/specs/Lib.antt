@@ -1,2 +1,3 @@
+pub mod Answering
 pub mod Sent
 pub mod Waiting

@@ -5,10 +5,12 @@
 mod locked_source;
 mod node_source;
 mod origin_desk;
+mod origin_state;
 mod sending;
 mod source_crew;
 mod source_line;
 mod source_threads;
+mod waiting_answers;
 
 pub use locked_source::LockedSource;
 pub use node_source::NodeSource;

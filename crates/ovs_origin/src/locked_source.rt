@@ -5,12 +5,13 @@ ghost use Rattle.ovs_links.specs.Sets.{IsOfTables};
 
 use crate::node_source::NodeSource;
 use crate::origin_desk::OriginDesk;
+use crate::origin_state::OriginState;
 use ovs_authority::Ask;
 use ovs_engine::DeskLock;
 use ovs_hall::Bell;
 use ovs_json::NoMemory;
 use ovs_links::Link;
-use ovs_views::NodeName;
+use ovs_views::{NodeName, View, ViewSession};
 use ovs_wire::Message;
 use std::alloc::Global;
 use std::sync::{Mutex, Wait};
@@ -20,28 +21,38 @@ use std::thread::Parker;
 #[derive(Drop)]
 pub struct LockedSource<'a, K: NodeName, R: Wait> {
     rt: &'a R,
-    desk: Mutex<NodeSource<K>>,
+    desk: Mutex<OriginState<K>>,
     bell: Parker,
 }
 
 impl<'a, K: NodeName, R: Wait> LockedSource<'a, K, R> {
     /// This desk.
-    pub fn new(rt: &'a R, desk: NodeSource<K>) -> LockedSource<'a, K, R> {
+    pub fn new(rt: &'a R, alloc: Global, desk: NodeSource<K>) -> LockedSource<'a, K, R> {
         LockedSource {
             rt,
-            desk: Mutex::new(desk),
+            desk: Mutex::new(OriginState::new(alloc, desk)),
             bell: Parker::new(),
         }
     }
 }
 
-impl<'a, K: NodeName, R: Wait> DeskLock for LockedSource<'a, K, R> {
+impl<'a, K: NodeName, R: Wait> DeskLock<K> for LockedSource<'a, K, R> {
+    ghost owes = { λ _ _ _ _. Unit {0} };
+
     fn ask(&self, alloc: Global, who: u64, ask: Ask) -> Result<Option<Message>, NoMemory> {
         self.desk.lock(self.rt).ask(alloc, who, ask)
     }
 
-    fn collect(&self, alloc: Global, who: u64) -> Result<Option<Message>, NoMemory> {
-        self.desk.lock(self.rt).collect(alloc, who)
+    fn collect(
+        &self,
+        alloc: Global,
+        who: u64,
+        is_held_back: bool,
+        view: &mut View<K>,
+        session: &ViewSession<K>,
+    ) -> Result<Option<Message>, NoMemory> {
+        let mut state = self.desk.lock(self.rt);
+        state.collect(alloc, who, is_held_back, view, session)
     }
 
     fn end_session(&self, who: u64) {

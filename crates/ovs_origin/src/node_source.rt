@@ -8,6 +8,7 @@ use ovs_authority::{Ask, Authority};
 use ovs_json::NoMemory;
 use ovs_links::Link;
 use ovs_source::SourceDesk;
+use ovs_types::TxnId;
 use ovs_views::NodeName;
 use ovs_wire::Message;
 use std::alloc::Global;
@@ -67,6 +68,11 @@ impl<K: NodeName> NodeSource<K> {
         ensures replied { IfOk result (λ r. RepliesTo ask.id r) }
     {
         self.desk.ask(alloc, who, ask)
+    }
+
+    /// The head of the source's chain.
+    pub(crate) fn head(&self) -> TxnId {
+        self.desk.source().store().head()
     }
 
     /// `collect` of the desk.

@@ -10,7 +10,7 @@ use ovs_links::Link;
 use ovs_views::NodeName;
 
 /// The desk of a source, as the thread shares it that sends its links to the node's feed. To ring it is to wake that thread.
-pub trait OriginDesk<K: NodeName>: DeskLock + Bell {
+pub trait OriginDesk<K: NodeName>: DeskLock<K> + Bell {
     // Which links it may give.
     ghost gives: { Link → Type 0 };
 

@@ -193,6 +193,7 @@ pub fn run_source<
         bells: shared.bells,
         watcher: shared.watcher,
         running: shared.counters.running(),
+        progress: shared.counters.progress(),
     };
     let serving = Serving {
         feeds: Sends {
@@ -209,6 +210,7 @@ pub fn run_source<
         bells: shared.bells,
         numbers: shared.counters.numbers(),
         running: shared.counters.running(),
+        progress: shared.counters.progress(),
         limits: shared.limits,
     };
     match beside_source(&folding, crew.jobs, &serving, node) {

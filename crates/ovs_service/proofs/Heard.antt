@@ -15,23 +15,23 @@ use Rattle.ovs_service.specs.declared.due.Due.{Due}
 use Rattle.ovs_service.specs.Calls.{IsAllTold, most_told, shown_to}
 use Rattle.ovs_service.specs.Client.{ClientValue, IsDueOf, Hears}
 
-abbrev client : ViewSessionValue → ℕ → List Due → ClientValue
-client session who due = record { session = session; who = who; due = due }
+abbrev client : ViewSessionValue → ℕ → ℕ → List Due → ClientValue
+client session who unanswered due = record { session = session; who = who; due = due; unanswered = unanswered }
 
-pub hears_at : (schema : SchemaValue) (message : Message) (old : ClientValue) (session now : ViewSessionValue) (shown : List Step) (who : ℕ)
+pub hears_at : (schema : SchemaValue) (message : Message) (old : ClientValue) (session now : ViewSessionValue) (shown : List Step) (who unanswered : ℕ)
     (due room new : List Due) (t : TurnValue)
-    → record { session = session; who = who; due = due } ≡ old → GoesOn schema session.last shown
+    → record { session = session; who = who; due = due; unanswered = unanswered } ≡ old → GoesOn schema session.last shown
     → t ≡ turn session.session (folded_by schema shown) message → now ≡ shown_to shown (after_turn session.session (folded_by schema shown) message)
     → room ≡ due → (added : List Due) × IsDueOf t added × (new ≡ room ++ added)
-    → Hears schema message old (record { session = now; who = who; due = new })
-hears_at schema message old session now shown who due room new t is goes_on turned after same (added, due_of, e) =
-    subst (λ (o : ClientValue). Hears schema message o (record { session = now; who = who; due = new })) is (record {
+    → Hears schema message old (record { session = now; who = who; due = new; unanswered = unanswered })
+hears_at schema message old session now shown who unanswered due room new t is goes_on turned after same (added, due_of, e) =
+    subst (λ (o : ClientValue). Hears schema message o (record { session = now; who = who; due = new; unanswered = unanswered })) is (record {
       shown = shown;
       goes_on = goes_on;
       added = added;
       due = subst (λ (made : TurnValue). IsDueOf made added) turned due_of;
-      after = ap (λ (s : ViewSessionValue). client s who new) after
-          ∙ ap (λ (d : List Due). client (shown_to shown (after_turn session.session (folded_by schema shown) message)) who d)
+      after = ap (λ (s : ViewSessionValue). client s who unanswered new) after
+          ∙ ap (λ (d : List Due). client (shown_to shown (after_turn session.session (folded_by schema shown) message)) who unanswered d)
           (e ∙ ap (λ (l : List Due). l ++ added) same);
     })
 

@@ -1,5 +1,5 @@
 -- What users are promised follows from what a session does.
-use Rattle.std.proofs.Common.{inl, inr, ◌≡◌, ℕ, List, [], ◌++◌, Option, length, ap, sym, ◌∙◌, subst, refl}
+use Rattle.std.proofs.Common.{inl, inr, ◌≡◌, ℕ, Bool, List, [], ◌++◌, Option, length, ap, sym, ◌∙◌, subst, refl}
 use Rattle.ovs_types.specs.Schema.{SchemaValue}
 use Rattle.ovs_links.specs.declared.step.Step.{Step}
 use Rattle.ovs_authority.specs.declared.ask.Ask.{Ask}
@@ -23,12 +23,12 @@ use Rattle.ovs_service.proofs.Runs.{run_of}
 bad_of : (now : SessionValue ClientValue) → IsBad {C = ClientValue} (λ client text. SaysNothing text) now
     → IsBadInput now.framing.ending now.framing.waiting now.held
 bad_of now (inl (fault, none, no_held, written)) = inl (fault, none, no_held)
-bad_of now (inr held) = inr held
+bad_of now (inr (m, held, refused, written)) = inr (m, held, refused)
 
-module _ (schema : SchemaValue) (replies : ℕ → Ask → Option Message → Type 0) (owes : ℕ → Message → Type 0) where
+module _ (schema : SchemaValue) (replies : ℕ → Ask → Option Message → Type 0) (owes : Bool → ℕ → List Step → Message → Type 0) where
   beginning_of : (who : ℕ) (last : List Step) (came went : List ℕ) (now : SessionValue ClientValue) (ended : Ended)
       → (ended ≡ BadInput → IsBad {C = ClientValue} (λ client text. SaysNothing text) now) → Answers (AnswersTo schema replies owes) (TellsNew schema replies owes) (new_client who last) came went now
-      → WritesBeginning schema (replies who) (owes who) (new_view last) now.counts ended came went
+      → WritesBeginning schema (replies who) (λ held. owes held who) (new_view last) now.counts ended came went
   beginning_of who last came went now ended bad a =
       let run = run_of schema replies owes a.said (new_client who last) now.core a.runs in
       let serves = run.serves in
@@ -56,7 +56,7 @@ module _ (schema : SchemaValue) (replies : ℕ → Ask → Option Message → Ty
 
   all_of : (who : ℕ) (last : List Step) (came went : List ℕ) (now : SessionValue ClientValue)
       → AnswersAll (AnswersTo schema replies owes) (TellsNew schema replies owes) (new_client who last) came went now
-      → now.core.due ≡ [] → WritesAll schema (replies who) (owes who) (new_view last) came went
+      → now.core.due ≡ [] → WritesAll schema (replies who) (λ held. owes held who) (new_view last) came went
   all_of who last came went now a settled =
       let run = run_of schema replies owes a.said (new_client who last) now.core a.runs in
       let serves = run.serves in
@@ -67,7 +67,7 @@ module _ (schema : SchemaValue) (replies : ℕ → Ask → Option Message → Ty
         given = serves.settles.given;
         texts = subst (λ (t : List ℕ). AreTextsOf serves.settles.given t) (sym a.written) serves.settles.texts;
         now = now.core.session;
-        gives = subst (λ (l : List Message). Give schema (replies who) (owes who) run.calls (new_view last) l now.core.session)
+        gives = subst (λ (l : List Message). Give schema (replies who) (λ held. owes held who) run.calls (new_view last) l now.core.session)
             (append_nil serves.settles.given)
             (serves.gives (serves.settles.given ++ []) (serves.settles.comes []
             (subst (λ (due : _). Comes (replies who) due []) (sym settled) refl)));
@@ -77,7 +77,7 @@ module _ (schema : SchemaValue) (replies : ℕ → Ask → Option Message → Ty
       → Moved (AnswersTo schema replies owes) (TellsNew schema replies owes) limit input unread output written old now
       → old ≡ fresh (new_client who last) → (ended ≡ Closed → IsDone now × (now.core.due ≡ []))
       → (ended ≡ BadInput → IsBad {C = ClientValue} (λ client text. SaysNothing text) now)
-      → Kept schema (replies who) (owes who) (new_view last) input unread output written now.counts ended
+      → Kept schema (replies who) (λ held. owes held who) (new_view last) input unread output written now.counts ended
   kept_by limit who last input unread output written old now ended moved began closed bad =
       let served = subst (λ (s : SessionValue ClientValue).
       Served (AnswersTo schema replies owes) (TellsNew schema replies owes) s moved.came moved.went now) began moved.served in

@@ -4,6 +4,7 @@ use Rattle.std.specs.Option.{option_to_list}
 use Rattle.std.specs.List.{AllByRecursion}
 use Rattle.ovs_types.specs.Schema.{SchemaValue}
 use Rattle.ovs_links.specs.Absorbing.{folded_by}
+use Rattle.ovs_links.specs.declared.step.Step.{Step}
 use Rattle.ovs_authority.specs.declared.ask.Ask.{Ask}
 use Rattle.ovs_wire.specs.Message.{Says}
 use Rattle.ovs_wire.specs.declared.message.Message.{Message}
@@ -53,7 +54,7 @@ module _ (replies : Ask → Option Message → Type 0) where
   collected_gives [] given h = h
   collected_gives (m ∷ ms) given (more, e, h) = e ∙ ap (λ (l : List Message). m ∷ l) (collected_gives ms more h)
 
-module _ (schema : SchemaValue) (replies : Ask → Option Message → Type 0) (owes : Message → Type 0) where
+module _ (schema : SchemaValue) (replies : Ask → Option Message → Type 0) (owes : Bool → List Step → Message → Type 0) where
   give_one : (call : Call) (old new : ViewSessionValue) (given : List Message) → CallGives schema replies owes call old given new
       → Give schema replies owes (call ∷ []) old given new
   give_one call old new given h = (new, given, [], h, (refl, refl), sym (append_nil given))
@@ -77,9 +78,9 @@ heard_both : (calls more : List Call) → heard (calls ++ more) ≡ heard calls 
 heard_both [] more = refl
 heard_both (Answer text shown ∷ calls) more = ap (λ (l : List (List ℕ)). text ∷ l) (heard_both calls more)
 heard_both (Pump shown ∷ calls) more = heard_both calls more
-heard_both (Collect ms ∷ calls) more = heard_both calls more
+heard_both (Collect held ms ∷ calls) more = heard_both calls more
 
-module _ (schema : SchemaValue) (replies : ℕ → Ask → Option Message → Type 0) (owes : ℕ → Message → Type 0) where
+module _ (schema : SchemaValue) (replies : ℕ → Ask → Option Message → Type 0) (owes : Bool → ℕ → List Step → Message → Type 0) where
   serves_nothing : (a : ClientValue) → Serves schema replies owes [] a [] a
   serves_nothing a = record {
     who = refl;
@@ -89,7 +90,7 @@ module _ (schema : SchemaValue) (replies : ℕ → Ask → Option Message → Ty
   }
 
   -- what is due is done
-  serves_due : (a b : ClientValue) (said : List ℕ) → Settles (replies a.who) a.due said b.due → b ≡ record a { due = b.due }
+  serves_due : (a b : ClientValue) (said : List ℕ) → Settles (replies a.who) a.due said b.due → b ≡ record a { due = b.due; unanswered = b.unanswered }
       → Serves schema replies owes [] a said b
   serves_due a b said p e = record {
     who = ap (λ (c : ClientValue). c.who) e;
@@ -111,7 +112,7 @@ module _ (schema : SchemaValue) (replies : ℕ → Ask → Option Message → Ty
       who = ap (λ (c : ClientValue). c.who) p.after;
       added = p.added;
       gives = λ (given : List Message) (h : Comes (replies a.who) p.added given).
-          give_one schema (replies a.who) (owes a.who) (Answer text p.shown) a.session b.session given
+          give_one schema (replies a.who) (λ held. owes held a.who) (Answer text p.shown) a.session b.session given
           (record {
             message = message;
             says = says;
@@ -128,7 +129,7 @@ module _ (schema : SchemaValue) (replies : ℕ → Ask → Option Message → Ty
     who = ap (λ (c : ClientValue). c.who) p.after;
     added = p.added;
     gives = λ (given : List Message) (h : Comes (replies a.who) p.added given).
-        give_one schema (replies a.who) (owes a.who) (Pump p.shown) a.session b.session given
+        give_one schema (replies a.who) (λ held. owes held a.who) (Pump p.shown) a.session b.session given
         (record {
           goes_on = p.goes_on;
           gives = told_gives (replies a.who) (told_some most_told a.session.session.monitors (folded_by schema p.shown).steps) p.added given p.due h;
@@ -137,13 +138,13 @@ module _ (schema : SchemaValue) (replies : ℕ → Ask → Option Message → Ty
     settles = still_due a b p.added (ap (λ (c : ClientValue). c.due) p.after);
   }
 
-  serves_collected : (a b : ClientValue) (ms : List Message) → IsAllTold a.session → AllByRecursion (IsOwed (owes a.who)) ms
-      → b ≡ record a { due = a.due ++ map Say ms } → Serves schema replies owes (Collect ms ∷ []) a [] b
-  serves_collected a b ms all owed e = record {
+  serves_collected : (held : Bool) (a b : ClientValue) (ms : List Message) → IsAllTold a.session → AllByRecursion (IsOwed (owes held a.who a.session.last)) ms
+      → b ≡ record a { due = a.due ++ map Say ms; unanswered = b.unanswered } → Serves schema replies owes (Collect held ms ∷ []) a [] b
+  serves_collected held a b ms all owed e = record {
     who = ap (λ (c : ClientValue). c.who) e;
     added = map Say ms;
     gives = λ (given : List Message) (h : Comes (replies a.who) (map Say ms) given).
-        give_one schema (replies a.who) (owes a.who) (Collect ms) a.session b.session given
+        give_one schema (replies a.who) (λ held. owes held a.who) (Collect held ms) a.session b.session given
         (all, owed, collected_gives (replies a.who) ms given h, ap (λ (c : ClientValue). c.session) e);
     settles = still_due a b (map Say ms) (ap (λ (c : ClientValue). c.due) e);
   }
@@ -154,15 +155,15 @@ module _ (schema : SchemaValue) (replies : ℕ → Ask → Option Message → Ty
   serves_more calls more a b c s t p q =
       let R = replies a.who in
       let rest_comes = subst (λ (w : ℕ). (given : List Message) → Comes (replies w) q.added given
-      → Give schema (replies w) (owes w) more b.session given c.session) p.who q.gives in
+      → Give schema (replies w) (λ held. owes held w) more b.session given c.session) p.who q.gives in
       let rest_settles = subst (λ (w : ℕ). Settles (replies w) (b.due ++ q.added) t c.due) p.who q.settles in
       record {
         who = q.who ∙ p.who;
         added = p.added ++ q.added;
         gives = λ (given : List Message) (h : Comes R (p.added ++ q.added) given).
             let parts = comes_apart R p.added q.added given h in
-            subst (λ (l : List Message). Give schema R (owes a.who) (calls ++ more) a.session l c.session) (sym parts.whole)
-            (give_both schema R (owes a.who) calls more a.session b.session c.session parts.first parts.rest
+            subst (λ (l : List Message). Give schema R (λ held. owes held a.who) (calls ++ more) a.session l c.session) (sym parts.whole)
+            (give_both schema R (λ held. owes held a.who) calls more a.session b.session c.session parts.first parts.rest
             (p.gives parts.first parts.of_first) (rest_comes parts.rest parts.of_rest));
         settles = subst (λ (l : List Due). Settles R l (s ++ t) c.due) (append_assoc a.due p.added q.added)
             (settles_more R ((a.due ++ p.added) ++ q.added) (b.due ++ q.added) c.due s t
@@ -171,13 +172,13 @@ module _ (schema : SchemaValue) (replies : ℕ → Ask → Option Message → Ty
 
   -- what is said to a message and behind it is the answer to it
   answers_more : (a b c : ClientValue) (message s : List ℕ) → AnswersTo schema replies owes a message [] b
-      → Settles (replies b.who) b.due s c.due → c ≡ record b { due = c.due } → AnswersTo schema replies owes a message s c
+      → Settles (replies b.who) b.due s c.due → c ≡ record b { due = c.due; unanswered = c.unanswered } → AnswersTo schema replies owes a message s c
   answers_more a b c message s (shown, p) q e =
       (shown, serves_more (Answer message shown ∷ []) [] a b c [] s p (serves_due b c s q e))
 
   -- all that is due is done, and then what is new is told
   pub told_then : (a b c : ClientValue) (o p q : List ℕ) → (s : List ℕ) × Settles (replies a.who) a.due s b.due × (p ≡ o ++ s)
-      → b ≡ record a { due = b.due } → b.due ≡ [] → (t : List ℕ) × TellsNew schema replies owes b t c × (q ≡ p ++ t)
+      → b ≡ record a { due = b.due; unanswered = b.unanswered } → b.due ≡ [] → (t : List ℕ) × TellsNew schema replies owes b t c × (q ≡ p ++ t)
       → (t : List ℕ) × TellsNew schema replies owes a t c × (q ≡ o ++ t)
   told_then a b c o p q (s, settles, e) same all (t, (calls, none, first, serves), f) = (
     s ++ t,
@@ -187,7 +188,7 @@ module _ (schema : SchemaValue) (replies : ℕ → Ask → Option Message → Ty
 
   -- something was due, and of it is done what can be, and nothing more
   pub told_due : (a b c : ClientValue) (o p q : List ℕ) → (s : List ℕ) × Settles (replies a.who) a.due s b.due × (p ≡ o ++ s)
-      → b ≡ record a { due = b.due } → c ≡ b → q ≡ p → (a.due ≡ [] → ⊥) → (t : List ℕ) × TellsNew schema replies owes a t c × (q ≡ o ++ t)
+      → b ≡ record a { due = b.due; unanswered = b.unanswered } → c ≡ b → q ≡ p → (a.due ≡ [] → ⊥) → (t : List ℕ) × TellsNew schema replies owes a t c × (q ≡ o ++ t)
   told_due a b c o p q (s, settles, e) same still f some = (
     s,
     subst (λ (n : ClientValue). TellsNew schema replies owes a s n) (sym still)
@@ -197,17 +198,17 @@ module _ (schema : SchemaValue) (replies : ℕ → Ask → Option Message → Ty
 
   -- what is new is told: what monitors tell, what is collected where that is all, and what is due then
   pub told_new : (is_all : Bool) (a b c d : ClientValue) (o q : List ℕ) → IsTold schema a b → (is_all ≡ true → IsAllTold b.session)
-      → (ms : List Message) × AllByRecursion (IsOwed (owes b.who)) ms × (c ≡ record b { due = b.due ++ map Say ms }) → (is_all ≡ false → c ≡ b)
-      → (s : List ℕ) × Settles (replies c.who) c.due s d.due × (q ≡ o ++ s) → d ≡ record c { due = d.due }
+      → (held : Bool) × (ms : List Message) × AllByRecursion (IsOwed (owes held b.who b.session.last)) ms × (c ≡ record b { due = b.due ++ map Say ms; unanswered = c.unanswered }) → (is_all ≡ false → c ≡ b)
+      → (s : List ℕ) × Settles (replies c.who) c.due s d.due × (q ≡ o ++ s) → d ≡ record c { due = d.due; unanswered = d.unanswered }
       → (t : List ℕ) × TellsNew schema replies owes a t d × (q ≡ o ++ t)
-  told_new true a b c d o q told all (ms, owed, e) none (s, settles, f) same = (
+  told_new true a b c d o q told all (held, ms, owed, e) none (s, settles, f) same = (
     s,
     (
-      Pump told.shown ∷ Collect ms ∷ [],
+      Pump told.shown ∷ Collect held ms ∷ [],
       refl,
       (λ (nothing : a.due ≡ []). tt),
-      serves_more (Pump told.shown ∷ []) (Collect ms ∷ []) a b d [] s (serves_told a b told)
-          (serves_more (Collect ms ∷ []) [] b c d [] s (serves_collected b c ms (all refl) owed e) (serves_due c d s settles same)),
+      serves_more (Pump told.shown ∷ []) (Collect held ms ∷ []) a b d [] s (serves_told a b told)
+          (serves_more (Collect held ms ∷ []) [] b c d [] s (serves_collected held b c ms (all refl) owed e) (serves_due c d s settles same)),
     ),
     f,
   )
@@ -225,7 +226,7 @@ module _ (schema : SchemaValue) (replies : ℕ → Ask → Option Message → Ty
 
   -- a message is heard, and what is due is done
   pub heard_then : (a b c : ClientValue) (o q text : List ℕ) (message : Message) → Says text message → Hears schema message a b
-      → (s : List ℕ) × Settles (replies b.who) b.due s c.due × (q ≡ o ++ s) → c ≡ record b { due = c.due }
+      → (s : List ℕ) × Settles (replies b.who) b.due s c.due × (q ≡ o ++ s) → c ≡ record b { due = c.due; unanswered = c.unanswered }
       → (t : List ℕ) × AnswersTo schema replies owes a text t c × (q ≡ o ++ t)
   heard_then a b c o q text message says heard (s, settles, f) same =
       (s, answers_more a b c text s (serves_heard a b text message says heard) settles same, f)

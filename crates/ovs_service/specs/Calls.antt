@@ -1,5 +1,5 @@
 -- What a reader's session is given, a call after another.
-use Rattle.std.specs.Prelude.{◌≡◌, ◌≤◌, ℕ, List, [], ◌∷◌, ◌++◌, Option, Some, None, length}
+use Rattle.std.specs.Prelude.{◌≡◌, ◌≤◌, ℕ, List, [], ◌∷◌, ◌++◌, Bool, Option, Some, None, length}
 use Rattle.std.specs.List.{AllByRecursion}
 use Rattle.std.specs.Option.{option_to_list}
 use Rattle.serde_json.specs.Data.{Data}
@@ -22,25 +22,25 @@ abbrev pub most_told : ℕ
 most_told = 256
 
 -- a call for a session: a text is answered from these steps; of what is new in these steps as much is told as one call tells; or
--- these messages of the authority are collected
+-- these messages of the authority are collected, whose answers are held back until what they stand for is shown, or aren't
 pub data Call : Type 0 where
   Answer : List ℕ → List Step → Call
   Pump : List Step → Call
-  Collect : List Message → Call
+  Collect : Bool → List Message → Call
 
 -- the texts that are heard
 abbrev pub heard : List Call → List (List ℕ)
 heard [] = []
 heard (Answer text shown ∷ calls) = text ∷ heard calls
 heard (Pump shown ∷ calls) = heard calls
-heard (Collect messages ∷ calls) = heard calls
+heard (Collect held messages ∷ calls) = heard calls
 
 -- first of all what is new is told
 abbrev pub TellsFirst : List Call → Type 0
 TellsFirst [] = ⊥
 TellsFirst (Answer text shown ∷ calls) = ⊥
 TellsFirst (Pump shown ∷ calls) = Unit {0}
-TellsFirst (Collect messages ∷ calls) = ⊥
+TellsFirst (Collect held messages ∷ calls) = ⊥
 
 -- the session after these steps were shown, and this came of it
 abbrev pub shown_to : List Step → SessionValue → ViewSessionValue
@@ -61,7 +61,7 @@ module _ (replies : Ask → Option Message → Type 0) where
   abbrev pub TurnGives : TurnValue → List Message → Type 0
   TurnGives t given = (asked : List Message) × AskGives t.ask asked × (given ≡ option_to_list t.out ++ asked)
 
-module _ (schema : SchemaValue) (replies : Ask → Option Message → Type 0) (owes : Message → Type 0) where
+module _ (schema : SchemaValue) (replies : Ask → Option Message → Type 0) (owes : Bool → List Step → Message → Type 0) where
   -- The text says a message, which is answered from steps that go on from those that were shown before.
   pub record Answers (text : List ℕ) (shown : List Step) (old : ViewSessionValue) (given : List Message) (new : ViewSessionValue) : Type 0 where
     pub message : Message
@@ -80,10 +80,22 @@ module _ (schema : SchemaValue) (replies : Ask → Option Message → Type 0) (o
   abbrev pub CallGives : Call → ViewSessionValue → List Message → ViewSessionValue → Type 0
   CallGives (Answer text shown) old given new = Answers text shown old given new
   CallGives (Pump shown) old given new = Pumps shown old given new
-  CallGives (Collect messages) old given new = IsAllTold old × AllByRecursion (IsOwed owes) messages × (given ≡ messages) × (new ≡ old)
+  CallGives (Collect held messages) old given new =
+      IsAllTold old × AllByRecursion (IsOwed (owes held old.last)) messages × (given ≡ messages) × (new ≡ old)
 
   -- calls give these messages, one call after another
   abbrev pub Give : List Call → ViewSessionValue → List Message → ViewSessionValue → Type 0
   Give [] old given new = (given ≡ []) × (new ≡ old)
   Give (call ∷ calls) old given new = (mid : ViewSessionValue) × (first : List Message) × (rest : List Message)
       × CallGives call old first mid × Give calls mid rest new × (given ≡ first ++ rest)
+
+  -- In what calls gave, what was collected at one of them stands behind all that monitors tell of the steps that were shown then, and
+  -- each message of it is owed to who was shown these steps.
+  pub record IsCollectedBehind (before : List Call) (held : Bool) (messages : List Message) (start : ViewSessionValue) (given : List Message) : Type 0 where
+    pub first : List Message
+    pub rest : List Message
+    pub whole : given ≡ first ++ (messages ++ rest)
+    pub at : ViewSessionValue
+    pub shown : Give before start first at
+    pub told : IsAllTold at
+    pub owed : AllByRecursion (IsOwed (owes held at.last)) messages

@@ -1,5 +1,5 @@
 -- What a node knows of one reader, and what it says to it.
-use Rattle.std.specs.Prelude.{◌≡◌, ℕ, List, [], ◌∷◌, ◌++◌, ◌⊎◌, Option, option_map}
+use Rattle.std.specs.Prelude.{◌≡◌, ◌<◌, ◌+◌, ◌-◌, ℕ, Bool, List, [], ◌∷◌, ◌++◌, ◌⊎◌, Option, Some, None, option_map}
 use Rattle.std.specs.Option.{option_to_list}
 use Rattle.ovs_types.specs.Schema.{SchemaValue}
 use Rattle.ovs_links.specs.Absorbing.{folded_by}
@@ -7,6 +7,7 @@ use Rattle.ovs_links.specs.declared.step.Step.{Step}
 use Rattle.ovs_authority.specs.declared.ask.Ask.{Ask}
 use Rattle.ovs_wire.specs.Message.{Says}
 use Rattle.ovs_wire.specs.declared.message.Message.{Message}
+use Rattle.ovs_wire.specs.declared.message.Message.TheVariants.{Request, Reply, Notice}
 use Rattle.ovs_reader.specs.Session.{new_session}
 use Rattle.ovs_reader.specs.Turns.{TurnValue, turn, after_turn}
 use Rattle.ovs_reader.specs.Telling.{told_some, after_some}
@@ -17,11 +18,35 @@ use Rattle.ovs_service.specs.Replies.{seen_ask}
 use Rattle.ovs_service.specs.declared.due.Due.{Due}
 use Rattle.ovs_service.specs.declared.due.Due.TheVariants.{Say, Tell, Put}
 
--- its session, its number, and what is due to it
+-- its session, its number, what is due to it, and how many of its asks have no reply yet
 pub record ClientValue : Type 0 where
   pub session : ViewSessionValue
   pub who : ℕ
   pub due : List Due
+  pub unanswered : ℕ
+
+-- so many asks of a reader at most have no reply yet
+abbrev pub most_unanswered : ℕ
+most_unanswered = 128
+
+-- one more where an ask got no reply at once
+abbrev pub asked_on : Option Message → ℕ → ℕ
+asked_on None n = n + 1
+asked_on (Some reply) n = n
+
+-- one fewer where a reply was collected
+abbrev pub collected_on : Message → ℕ → ℕ
+collected_on (Reply result error id) n = n - 1
+collected_on (Request method params id) n = n
+collected_on (Notice method params) n = n
+
+-- nothing is due, and one more may be asked
+abbrev pub MayAsk : ClientValue → Type 0
+MayAsk c = (c.due ≡ []) × (c.unanswered < most_unanswered)
+
+-- nothing is due, and all that was asked has its reply
+abbrev pub IsAnswered : ClientValue → Type 0
+IsAnswered c = (c.due ≡ []) × (c.unanswered ≡ 0)
 
 -- a session to which nothing was shown beyond these steps
 abbrev pub new_view : List Step → ViewSessionValue
@@ -29,7 +54,7 @@ new_view last = record { session = new_session; last = last }
 
 -- nothing was heard of it yet
 abbrev pub new_client : ℕ → List Step → ClientValue
-new_client who last = record { session = new_view last; who = who; due = [] }
+new_client who last = record { session = new_view last; who = who; due = []; unanswered = 0 }
 
 -- this is due after a turn
 abbrev pub IsDueOf : TurnValue → List Due → Type 0
@@ -51,6 +76,7 @@ pub record Hears (schema : SchemaValue) (message : Message) (old new : ClientVal
     session = shown_to shown (after_turn old.session.session (folded_by schema shown) message);
     who = old.who;
     due = old.due ++ added;
+    unanswered = old.unanswered;
   }
 
 -- what its monitors tell in one call of steps that go on from those that were shown before is due behind what was
@@ -63,19 +89,20 @@ pub record IsTold (schema : SchemaValue) (old new : ClientValue) : Type 0 where
     session = shown_to shown (after_some most_told old.session.session (folded_by schema shown));
     who = old.who;
     due = old.due ++ added;
+    unanswered = old.unanswered;
   }
 
 -- the text says no message
 abbrev pub SaysNothing : List ℕ → Type 0
 SaysNothing text = (m : Message) → Says text m → ⊥
 
-module _ (schema : SchemaValue) (replies : ℕ → Ask → Option Message → Type 0) (owes : ℕ → Message → Type 0) where
+module _ (schema : SchemaValue) (replies : ℕ → Ask → Option Message → Type 0) (owes : Bool → ℕ → List Step → Message → Type 0) where
   -- Calls are made for a client. What comes of them stands behind what was due; its first is said, and the rest is due.
   pub record Serves (calls : List Call) (old : ClientValue) (said : List ℕ) (new : ClientValue) : Type 0 where
     pub who : new.who ≡ old.who
     pub added : List Due
     pub gives : (given : List Message) → Comes (replies old.who) added given
-        → Give schema (replies old.who) (owes old.who) calls old.session given new.session
+        → Give schema (replies old.who) (λ held. owes held old.who) calls old.session given new.session
     pub settles : Settles (replies old.who) (old.due ++ added) said new.due
 
   -- the text is answered

@@ -1,9 +1,10 @@
 -- What users are promised of a reader's session.
-use Rattle.std.specs.Prelude.{◌≡◌, ◌⊎◌, ℕ, List, [], ◌++◌, Option, Some, None, true, length}
+use Rattle.std.specs.Prelude.{◌≡◌, ◌⊎◌, ℕ, List, [], ◌++◌, Bool, Option, Some, None, true, length}
 use Rattle.std.specs.Io.KnownBytes.{Consumes, Appends}
 use mathlib.Core.List.{IsPrefix}
 use Rattle.ovs_types.specs.Schema.{SchemaValue}
 use Rattle.ovs_authority.specs.declared.ask.Ask.{Ask}
+use Rattle.ovs_links.specs.declared.step.Step.{Step}
 use Rattle.ovs_wire.specs.Frames.{AreFrames, Ending}
 use Rattle.ovs_wire.specs.declared.message.Message.{Message}
 use Rattle.ovs_session.specs.Counting.{IsAfter}
@@ -23,7 +24,7 @@ use Rattle.ovs_service.specs.declared.due.Due.{Due}
 abbrev pub IsBadInput : Ending → List (List ℕ) → Option (List ℕ) → Type 0
 IsBadInput ending waiting held = (is_fault ending ≡ true) × (waiting ≡ []) × (held ≡ None) ⊎ ((m : List ℕ) × (held ≡ Some m) × SaysNothing m)
 
-module _ (schema : SchemaValue) (replies : Ask → Option Message → Type 0) (owes : Message → Type 0) where
+module _ (schema : SchemaValue) (replies : Ask → Option Message → Type 0) (owes : Bool → List Step → Message → Type 0) where
   -- Of the stream that came, the first whole messages were answered, in order, with what was told in between. What was written is
   -- a beginning of the text of what those calls gave. What came of what is still due would stand behind it.
   pub record WritesBeginning (start : ViewSessionValue) (counts : Counts) (ended : Ended) (came went : List ℕ) : Type 0 where

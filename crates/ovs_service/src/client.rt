@@ -1,5 +1,5 @@
 //! What a node knows of one reader.
-ghost use Rattle.std.specs.Prelude.{◌≡◌, ◌++◌, ◌↔◌, ℕ, List, [], true, false, IsTrue, Err, IfOk, OnOk, OnErr, map};
+ghost use Rattle.std.specs.Prelude.{◌≡◌, ◌++◌, ◌↔◌, ℕ, Bool, List, [], true, false, IsTrue, Err, IfOk, OnOk, OnErr, map};
 ghost use Rattle.std.specs.List.{AllByRecursion};
 ghost use Rattle.ovs_links.specs.Absorbing.{folded_by};
 ghost use Rattle.ovs_wire.specs.declared.message.Message.{Message};
@@ -9,7 +9,7 @@ ghost use Rattle.ovs_views.specs.Published.{GoesOn};
 ghost use Rattle.ovs_service.specs.declared.due.Due.TheVariants.{Say};
 ghost use Rattle.ovs_service.specs.Replies.{IsOwed};
 ghost use Rattle.ovs_service.specs.Calls.{most_told, shown_to, IsAllTold};
-ghost use Rattle.ovs_service.specs.Client.{new_client, Hears, IsTold};
+ghost use Rattle.ovs_service.specs.Client.{new_client, Hears, IsTold, MayAsk, IsAnswered};
 ghost use Rattle.ovs_service.specs.Dues.{Settles};
 
 use crate::adding::{add, add_turn, make_room, several};
@@ -54,12 +54,12 @@ impl<K: NodeName> Model for Client<K> {
 
     ghost Value = { ClientValue };
 
-    ghost coded = { code_by (SessionValue × (List Step × (ℕ × List Due)))
-        (coded× session_row.the_row.coded (coded× (coded_list step_row.the_row.coded) (coded× coded_ℕ (coded_list due_row.the_row.coded))))
-        (λ c. (c.session.session, (c.session.last, (c.who, c.due))))
-        (λ p. record { session = record { session = p.0; last = p.1.0 }; who = p.1.1.0; due = p.1.1.1 }) (λ _. refl) };
+    ghost coded = { code_by (SessionValue × (List Step × (ℕ × (List Due × ℕ))))
+        (coded× session_row.the_row.coded (coded× (coded_list step_row.the_row.coded) (coded× coded_ℕ (coded× (coded_list due_row.the_row.coded) coded_ℕ))))
+        (λ c. (c.session.session, (c.session.last, (c.who, (c.due, c.unanswered)))))
+        (λ p. record { session = record { session = p.0; last = p.1.0 }; who = p.1.1.0; due = p.1.1.1.0; unanswered = p.1.1.1.1 }) (λ _. refl) };
 
-    ghost view = { λ c. record { session = c.session; who = c.who; due = c.dues.items } };
+    ghost view = { λ c. record { session = c.session; who = c.who; due = c.dues.items; unanswered = c.expecting } };
 }
 
 // A view refuses so.
@@ -136,6 +136,22 @@ impl<K: NodeName> Client<K> {
         self.dues.is_empty()
     }
 
+    /// Whether its next message may be heard: nothing is due, and fewer than 128 of its asks have no reply yet. So a reader that
+    /// asks and doesn't read, or asks faster than the source answers, waits for itself.
+    pub fn takes(&self) -> bool
+        ensures value { IsTrue result ↔ MayAsk self.now }
+    {
+        self.dues.is_empty() && self.expecting.has_room()
+    }
+
+    /// Whether something that it asked for is still to come.
+    pub fn awaits(&self) -> bool
+        ensures answered { result ≡ false → IsAnswered self.now }
+        ensures awaited { result ≡ true → IsAnswered self.now → ⊥ }
+    {
+        !(self.dues.is_empty() && self.expecting.is_answered())
+    }
+
     /// Hears a message; what comes of it is due then.
     ///
     /// # Errors
@@ -173,22 +189,44 @@ impl<K: NodeName> Client<K> {
         Ok(is_all_told)
     }
 
-    /// What the authority owes it is due then, as far as memory allows, where all that is new was told before: so a reply stands
-    /// behind what was published before it.
-    pub(crate) fn collect<D: Desk>(&mut self, alloc: Global, is_all_told: bool, desk: &mut D)
-        ensures collected { (given : List Message) × AllByRecursion (IsOwed (D.owes self.old.who)) given
-            × (self.new ≡ record self.old { due = self.old.due ++ map Say given }) }
+    /// What the authority owes it is due then, as far as memory allows, where all that is new was told before: so an answer stands
+    /// behind what its monitors tell of the steps that it was shown, and where answers are held back it stands on these.
+    pub(crate) fn collect<D: Desk<K>>(
+        &mut self,
+        alloc: Global,
+        is_all_told: bool,
+        view: &mut View<K>,
+        desk: &mut D,
+    )
+        ensures collected { (held : Bool) × (given : List Message)
+            × AllByRecursion (IsOwed (D.owes held self.old.who self.old.session.last)) given
+            × (self.new ≡ record self.old { due = self.old.due ++ map Say given; unanswered = self.new.unanswered }) }
         ensures none { is_all_told ≡ false → self.new ≡ self.old }
     {
         if is_all_told {
-            collect(alloc, self.who, &mut self.dues, &mut self.expecting, desk);
+            let is_held_back = desk.holds_back();
+            collect(
+                alloc,
+                self.who,
+                is_held_back,
+                view,
+                &self.session,
+                &mut self.dues,
+                &mut self.expecting,
+                desk,
+            );
         }
     }
 
     /// Does what is due, in its order, until memory runs out. Whether something was done.
-    pub(crate) fn settle<D: Desk>(&mut self, alloc: Global, desk: &mut D, out: &mut Outbox) -> bool
+    pub(crate) fn settle<D: Desk<K>>(
+        &mut self,
+        alloc: Global,
+        desk: &mut D,
+        out: &mut Outbox,
+    ) -> bool
         ensures settled { (said : List ℕ) × Settles (D.replies self.old.who) self.old.due said self.new.due × (out.new ≡ out.old ++ said) }
-        ensures same { self.new ≡ record self.old { due = self.new.due } }
+        ensures same { self.new ≡ record self.old { due = self.new.due; unanswered = self.new.unanswered } }
         ensures unchanged { result ≡ false → (self.new ≡ self.old) × (out.new ≡ out.old) }
         ensures none { self.old.due ≡ [] → result ≡ false }
     {

@@ -17,7 +17,7 @@ mod sole;
 
 pub use client::Client;
 pub use desk::Desk;
-pub use laws::reader_laws;
+pub use laws::{answers_come_behind_what_they_stand_for, reader_laws};
 pub use service::NodeService;
 pub use serving::{Served, serve_reader};
 pub use sole::{Sole, copy_ask};

@@ -2,7 +2,7 @@
 ghost use Rattle.std.specs.Prelude.{◌≡◌, ◌++◌, ℕ, List, IfOk, OnOk, OnErr, Err};
 ghost use mathlib.Core.List.{IsPrefix};
 ghost use Rattle.ovs_wire.specs.Message.{Says};
-ghost use Rattle.ovs_service.specs.Client.{new_client, SaysNothing, AnswersTo, TellsNew};
+ghost use Rattle.ovs_service.specs.Client.{new_client, SaysNothing, AnswersTo, TellsNew, MayAsk, IsAnswered};
 
 use crate::client::Client;
 use crate::desk::Desk;
@@ -26,13 +26,13 @@ fn read(alloc: Global, text: &[u8]) -> Result<Message, Refusal>
 
 /// A node's service of its readers: each message is answered from a view of what is published, or by the authority where only
 /// the source can answer, and each reader is told what its monitors show and what the authority owes it.
-pub struct NodeService<K: NodeName, D: Desk> {
+pub struct NodeService<K: NodeName, D: Desk<K>> {
     alloc: Global,
     view: View<K>,
     desk: D,
 }
 
-impl<K: NodeName, D: Desk> NodeService<K, D> {
+impl<K: NodeName, D: Desk<K>> NodeService<K, D> {
     /// The service by this view and this authority.
     pub fn new(alloc: Global, view: View<K>, desk: D) -> NodeService<K, D>
         ensures view { result.view ≡ view }
@@ -78,13 +78,13 @@ impl<K: NodeName, D: Desk> NodeService<K, D> {
         ensures never_bad { result ≡ Err Refusal.BadInput → ⊥ }
     {
         let is_all_told = client.pump(self.alloc, &mut self.view)?;
-        client.collect(self.alloc, is_all_told, &mut self.desk);
+        client.collect(self.alloc, is_all_told, &mut self.view, &mut self.desk);
         client.settle(self.alloc, &mut self.desk, out);
         Ok(())
     }
 }
 
-impl<K: NodeName, D: Desk> Service for NodeService<K, D> {
+impl<K: NodeName, D: Desk<K>> Service for NodeService<K, D> {
     type Session = Client<K>;
 
     ghost answers = { λ old text said new. AnswersTo K.schema D.replies D.owes old text said new };
@@ -92,6 +92,19 @@ impl<K: NodeName, D: Desk> Service for NodeService<K, D> {
     ghost tells = { λ old said new. TellsNew K.schema D.replies D.owes old said new };
 
     ghost refuses = { λ _ text. SaysNothing text };
+
+    ghost may_answer = { λ _ client. MayAsk client };
+
+    ghost is_answered = { λ _ client. IsAnswered client };
+
+    // A message is taken where nothing is due and fewer than 128 asks wait for their replies.
+    fn takes(&self, client: &Client<K>) -> bool {
+        client.takes()
+    }
+
+    fn awaits(&self, client: &Client<K>) -> bool {
+        client.awaits()
+    }
 
     /// Answers a message. What can't be said for want of memory stays due, and is said before all that comes after it.
     ///
@@ -125,7 +138,7 @@ impl<K: NodeName, D: Desk> Service for NodeService<K, D> {
     }
 }
 
-impl<K: NodeName, D: Desk> Host for NodeService<K, D> {
+impl<K: NodeName, D: Desk<K>> Host for NodeService<K, D> {
     ghost is_silent = { λ service client. D.is_silent service.desk client.who };
 
     fn end(&mut self, client: Client<K>) {

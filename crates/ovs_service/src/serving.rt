@@ -22,7 +22,7 @@ pub struct Served {
 }
 
 // Ends a session at its authority. One that is closed while something is due to its reader ended for want of memory.
-fn finish<K: NodeName, D: Desk>(
+fn finish<K: NodeName, D: Desk<K>>(
     session: Session<Client<K>>,
     service: &mut NodeService<K, D>,
     ended: Ended,
@@ -49,7 +49,7 @@ fn finish<K: NodeName, D: Desk>(
 /// Whatever the end, it has written a beginning of the text of what its calls gave for the whole messages of its input, in
 /// order; and all of it where it ended `Closed`. `BadInput` comes only where the stream has a fault behind the messages that were
 /// answered, or where the message that was taken says nothing.
-pub fn serve_reader<K: NodeName, D: Desk, R: Read, W: Write>(
+pub fn serve_reader<K: NodeName, D: Desk<K>, R: Read, W: Write>(
     alloc: Global,
     service: &mut NodeService<K, D>,
     who: u64,
@@ -58,7 +58,7 @@ pub fn serve_reader<K: NodeName, D: Desk, R: Read, W: Write>(
     limits: Limits,
     most_turns: u32,
 ) -> Served
-    ensures kept { Kept K.schema (D.replies who) (D.owes who) (new_view service.old.view) (R.remaining reader.old) (R.remaining reader.new)
+    ensures kept { Kept K.schema (D.replies who) (λ held. D.owes held who) (new_view service.old.view) (R.remaining reader.old) (R.remaining reader.new)
         (W.contents writer.old) (W.contents writer.new) result.counts result.ended }
     ensures silent { D.is_silent service.new.desk who }
     ensures spent { result.counts.turns ≤ most_turns }

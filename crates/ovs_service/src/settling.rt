@@ -1,8 +1,9 @@
 //! What is due is done, in its order.
-ghost use Rattle.std.specs.Prelude.{◌≡◌, ◌++◌, ℕ, List, [], Option, None, false, option_map, IfOk, IfErr, OnOk, OnErr};
+ghost use Rattle.std.specs.Prelude.{◌≡◌, ◌<◌, ◌++◌, ℕ, List, [], Option, None, false, option_map, IfOk, IfErr, OnOk, OnErr};
 ghost use Rattle.ovs_wire.specs.declared.message.Message.{Message};
 ghost use Rattle.ovs_service.specs.declared.due.Due.TheVariants.{Say};
 ghost use Rattle.ovs_service.specs.Texts.{IsTextOf};
+ghost use Rattle.ovs_service.specs.Client.{most_unanswered, asked_on};
 ghost use Rattle.ovs_service.specs.Dues.{Does, IsToldOf, Replies, Settles};
 
 use crate::desk::Desk;
@@ -12,12 +13,14 @@ use crate::saying::say_or_keep;
 use ovs_authority::Ask;
 use ovs_json::NoMemory;
 use ovs_session::Outbox;
+use ovs_views::NodeName;
 use ovs_wire::Message;
 use std::alloc::Global;
 use std::collections::VecDeque;
 
-// Asks for a session, and keeps what it waits for. After `NoMemory` nothing was asked.
-fn put<D: Desk>(
+// Asks for a session, and keeps what it waits for. After `NoMemory` nothing was asked: so it is also where as many asks wait for
+// their replies as may, which `Client::takes` rules out for whoever asks it before.
+fn put<K: NodeName, D: Desk<K>>(
     alloc: Global,
     who: u64,
     ask: &Ask,
@@ -25,7 +28,12 @@ fn put<D: Desk>(
     desk: &mut D,
 ) -> Result<Option<Message>, NoMemory>
     ensures replied { IfOk result (Replies (D.replies who) ask.now) }
+    ensures asked { IfOk result (λ r. (expecting.old < most_unanswered) × (expecting.new ≡ asked_on r expecting.old)) }
+    ensures unchanged { OnErr result (expecting.new ≡ expecting.old) }
 {
+    if !expecting.has_room() {
+        return Err(NoMemory);
+    }
     let reply = desk.ask(alloc, who, ask)?;
     expecting.note_asked(ask, &reply);
     Ok(reply)
@@ -58,7 +66,7 @@ fn done_telling(alloc: Global, several: Several, out: &mut Outbox) -> Result<Opt
 }
 
 // Asks, and what is replied is to be said next; or gives the ask back.
-fn done_asking<D: Desk>(
+fn done_asking<K: NodeName, D: Desk<K>>(
     alloc: Global,
     who: u64,
     ask: Ask,
@@ -66,7 +74,7 @@ fn done_asking<D: Desk>(
     desk: &mut D,
 ) -> Result<Option<Due>, Due>
     ensures done { IfOk result (λ next. (reply : Option Message) × Replies (D.replies who) ask reply × (next ≡ option_map Say reply)) }
-    ensures back { IfErr result (λ kept. kept ≡ Due.Put ask) }
+    ensures back { IfErr result (λ kept. (kept ≡ Due.Put ask) × (expecting.new ≡ expecting.old)) }
 {
     match put(alloc, who, &ask, expecting, desk) {
         Ok(Some(reply)) => Ok(Some(Due::Say(reply))),
@@ -76,7 +84,7 @@ fn done_asking<D: Desk>(
 }
 
 // Does what is due, and gives what is due in its place then, if anything; gives it back where memory runs out.
-fn done<D: Desk>(
+fn done<K: NodeName, D: Desk<K>>(
     alloc: Global,
     who: u64,
     due: Due,
@@ -86,7 +94,7 @@ fn done<D: Desk>(
 ) -> Result<Option<Due>, Due>
     ensures done { IfOk result (λ next. (said : List ℕ) × Does (D.replies who) due said next × (out.new ≡ out.old ++ said)) }
     ensures back { IfErr result (λ kept. kept ≡ due) }
-    ensures unchanged { OnErr result (out.new ≡ out.old) }
+    ensures unchanged { OnErr result ((out.new ≡ out.old) × (expecting.new ≡ expecting.old)) }
 {
     match due {
         Due::Say(message) => done_saying(alloc, message, out),
@@ -96,7 +104,7 @@ fn done<D: Desk>(
 }
 
 // Does what is due first. After `NoMemory` it is still due.
-fn do_first<D: Desk>(
+fn do_first<K: NodeName, D: Desk<K>>(
     alloc: Global,
     who: u64,
     dues: &mut VecDeque<Due>,
@@ -105,7 +113,7 @@ fn do_first<D: Desk>(
     out: &mut Outbox,
 ) -> Result<(), NoMemory>
     ensures done { OnOk result ((said : List ℕ) × Settles (D.replies who) dues.old.items said dues.new.items × (out.new ≡ out.old ++ said)) }
-    ensures unchanged { OnErr result ((dues.new.items ≡ dues.old.items) × (out.new ≡ out.old)) }
+    ensures unchanged { OnErr result ((dues.new.items ≡ dues.old.items) × (out.new ≡ out.old) × (expecting.new ≡ expecting.old)) }
 {
     let Some(due) = dues.pop_front() else {
         return Ok(());
@@ -124,7 +132,7 @@ fn do_first<D: Desk>(
 }
 
 /// Does what is due, in its order, until memory runs out. Whether something was done.
-pub(crate) fn settle<D: Desk>(
+pub(crate) fn settle<K: NodeName, D: Desk<K>>(
     alloc: Global,
     who: u64,
     dues: &mut VecDeque<Due>,
@@ -133,7 +141,7 @@ pub(crate) fn settle<D: Desk>(
     out: &mut Outbox,
 ) -> bool
     ensures settled { (said : List ℕ) × Settles (D.replies who) dues.old.items said dues.new.items × (out.new ≡ out.old ++ said) }
-    ensures unchanged { result ≡ false → (dues.new.items ≡ dues.old.items) × (out.new ≡ out.old) }
+    ensures unchanged { result ≡ false → (dues.new.items ≡ dues.old.items) × (out.new ≡ out.old) × (expecting.new ≡ expecting.old) }
     ensures none { dues.old.items ≡ [] → result ≡ false }
 {
     let mut is_changed = false;

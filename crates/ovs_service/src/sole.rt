@@ -7,6 +7,7 @@ ghost use Rattle.ovs_service.specs.Replies.{RepliesTo, IsAnswer, seen_ask};
 use crate::desk::Desk;
 use ovs_authority::{Ask, Authority, Verb};
 use ovs_json::NoMemory;
+use ovs_views::{NodeName, View, ViewSession};
 use ovs_wire::Message;
 use std::alloc::Global;
 
@@ -57,10 +58,10 @@ impl<A: Authority> Sole<A> {
     }
 }
 
-impl<A: Authority> Desk for Sole<A> {
+impl<K: NodeName, A: Authority> Desk<K> for Sole<A> {
     ghost replies = { λ _ ask reply. RepliesTo ask.id reply };
 
-    ghost owes = { λ _ message. IsAnswer message };
+    ghost owes = { λ _ _ _ message. IsAnswer message };
 
     ghost is_silent = { λ sole who. A.owing sole.authority who ≡ silent };
 
@@ -73,7 +74,19 @@ impl<A: Authority> Desk for Sole<A> {
         self.authority.ask(alloc, who, ask)
     }
 
-    fn collect(&mut self, alloc: Global, who: u64) -> Result<Option<Message>, NoMemory>
+    // What it gives it gives at once: an authority that nobody else calls says what stands behind its answers.
+    fn holds_back(&self) -> bool {
+        false
+    }
+
+    fn collect(
+        &mut self,
+        alloc: Global,
+        who: u64,
+        _is_held_back: bool,
+        _view: &mut View<K>,
+        _session: &ViewSession<K>,
+    ) -> Result<Option<Message>, NoMemory>
         ensures given { IfOk result (λ r. IfSome r (λ m. IsAnswer m × IsAnswer m)) }
         ensures collected { IfOk result (λ r. CollectsTo (A.owing self.old.authority who) r (A.owing self.new.authority who)) }
         ensures unchanged { OnErr result (IsSame (A.owing self.old.authority) (A.owing self.new.authority)) }

@@ -1,8 +1,8 @@
 -- How a turn ends.
-use Rattle.std.proofs.Common.{◌≡◌, ℕ, List, Option, Ok, Err, sym, subst}
+use Rattle.std.proofs.Common.{◌≡◌, ⊎_elim, ℕ, List, [], Option, Ok, Err, sym, subst}
 use Rattle.std.specs.Prelude.{Result}
 use Rattle.ovs_session.specs.declared.ended.Ended.{Ended}
-use Rattle.ovs_session.specs.declared.ended.Ended.TheVariants.{Closed, BadInput}
+use Rattle.ovs_session.specs.declared.ended.Ended.TheVariants.{Closed, BadInput, WriteFault}
 use Rattle.ovs_session.specs.declared.limits.Pace.{Pace}
 use Rattle.ovs_session.specs.declared.limits.Pace.TheVariants.{Idle}
 use Rattle.ovs_session.specs.Moving.{IsAnswer, IsBad}
@@ -16,11 +16,15 @@ pub no_error : {X E : Type 0} (x : X) (e : E) → ◌≡◌ {A = Result X E} (Ok
 no_error {X} {E} x e is = subst (λ (r : Result X E). OnlyOk r) is tt
 
 -- why a session has ended may be noted
-pub answer_noted : {C : Type 0} (refuses : C → List ℕ → Type 0) (r : Result Pace Ended) (a b : SessionValue C) (e : Option Ended) → b ≡ record a { ended = e }
-    → (r ≡ Err Closed → IsDone a) → (r ≡ Err BadInput → IsBad refuses a) → (r ≡ Ok Idle → IsIdle a) → IsAnswer refuses r b
-answer_noted refuses r a b e is closed bad idle = subst (λ (z : SessionValue _). IsAnswer refuses r z) (sym is) (record {
-  closed = λ h. let done = closed h in
+pub answer_noted : {C : Type 0} (refuses : C → List ℕ → Type 0) (may_answer is_answered : C → Type 0) (r : Result Pace Ended) (a b : SessionValue C) (e : Option Ended)
+    → b ≡ record a { ended = e } → (r ≡ Err Closed → IsDone a × is_answered a.core) → (r ≡ Err BadInput → IsBad refuses a × is_answered a.core)
+    → ((x : Ended) → r ≡ Err x → (x ≡ WriteFault → ⊥) → a.unsent ≡ []) → (r ≡ Ok Idle → IsIdle may_answer is_answered a) → IsAnswer refuses may_answer is_answered r b
+answer_noted refuses may_answer is_answered r a b e is closed bad written idle = subst (λ (z : SessionValue _). IsAnswer refuses may_answer is_answered r z) (sym is) (record {
+  closed = λ h. let done = (closed h).0 in
       record { unfed = done.unfed; waiting = done.waiting; held = done.held; unsent = done.unsent; is_at_end = done.is_at_end };
-  bad = bad;
+  answered = λ x h which. ⊎_elim (λ (c : x ≡ Closed). (closed (subst (λ (y : Ended). r ≡ Err y) c h)).1)
+      (λ (b : x ≡ BadInput). (bad (subst (λ (y : Ended). r ≡ Err y) b h)).1) which;
+  bad = λ h. (bad h).0;
+  written = written;
   idle = idle;
 })

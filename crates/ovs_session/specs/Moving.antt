@@ -3,7 +3,7 @@ use Rattle.std.specs.Prelude.{◌≡◌, ℕ, ◌⊎◌, List, [], Option, Some,
 use Rattle.std.specs.Io.KnownBytes.{Consumes, Appends, IsAtEnd}
 use Rattle.ovs_wire.specs.Frames.{Ending, Rest, Fault}
 use Rattle.ovs_session.specs.declared.limits.Pace.{Pace}
-use Rattle.ovs_session.specs.declared.limits.Pace.TheVariants.{Idle, Busy}
+use Rattle.ovs_session.specs.declared.limits.Pace.TheVariants.{Idle}
 use Rattle.ovs_session.specs.declared.came.Came.{Came}
 use Rattle.ovs_session.specs.declared.came.Came.TheVariants as cames
 use Rattle.ovs_session.specs.declared.ended.Ended.{Ended}
@@ -19,8 +19,10 @@ is_fault (Fault fault) = true
 
 -- a read found the reader's end
 abbrev pub is_end : Came → Bool
-is_end cames.Bytes = false
+is_end cames.Whole = false
+is_end cames.Part = false
 is_end cames.Nothing = false
+is_end cames.Interrupted = false
 is_end cames.End = true
 
 -- nothing more comes of a session that ended so
@@ -56,15 +58,19 @@ IsRefusal ended = (refusal : Refusal) × IsRefusedFor refusal ended
 abbrev pub IsFaulty : {C : Type 0} → SessionValue C → Type 0
 IsFaulty s = (is_fault s.framing.ending ≡ true) × (s.framing.waiting ≡ []) × (s.held ≡ None) × (s.unsent ≡ [])
 
--- the stream has a fault, or the service refuses the held message
+-- the stream has a fault, or the service refuses the held message; all that was said is written
 abbrev pub IsBad : {C : Type 0} → (C → List ℕ → Type 0) → SessionValue C → Type 0
-IsBad refuses s = IsFaulty s ⊎ ((m : List ℕ) × (s.held ≡ Some m) × refuses s.core m)
+IsBad refuses s = IsFaulty s ⊎ ((m : List ℕ) × (s.held ≡ Some m) × refuses s.core m × (s.unsent ≡ []))
 
--- the session has ended only where all is done, or its input is bad, and is idle only where it can do nothing by itself
-pub record IsAnswer {C : Type 0} (refuses : C → List ℕ → Type 0) (result : Result Pace Ended) (s : SessionValue C) : Type 0 where
+-- The session has ended only where all is done and all that it asked for has come, or its input is bad; it stops only where
+-- all that was said is written, or a write failed; and it is idle only where it can do nothing by itself.
+pub record IsAnswer {C : Type 0} (refuses : C → List ℕ → Type 0) (may_answer is_answered : C → Type 0)
+    (result : Result Pace Ended) (s : SessionValue C) : Type 0 where
   pub closed : result ≡ Err Closed → IsDone s
+  pub answered : (e : Ended) → result ≡ Err e → (e ≡ Closed) ⊎ (e ≡ BadInput) → is_answered s.core
   pub bad : result ≡ Err BadInput → IsBad refuses s
-  pub idle : result ≡ Ok Idle → IsIdle s
+  pub written : (e : Ended) → result ≡ Err e → (e ≡ WriteFault → ⊥) → s.unsent ≡ []
+  pub idle : result ≡ Ok Idle → IsIdle may_answer is_answered s
 
 -- The session moved bytes from its reader, of which the first is left and then the second, to its writer, which has the
 -- third and then the fourth: what it read and what it wrote belong together, what is unsent stays within the bound, it is

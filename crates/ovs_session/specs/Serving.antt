@@ -74,9 +74,18 @@ pub record IsDone {C : Type 0} (s : SessionValue C) : Type 0 where
   pub unsent : s.unsent ≡ []
   pub is_at_end : s.is_at_end ≡ true
 
--- something is still to be written, or all that was read is answered
-abbrev pub IsIdle : {C : Type 0} → SessionValue C → Type 0
-IsIdle s = (0 < length s.unsent) ⊎ ((s.unfed ≡ []) × (s.framing.waiting ≡ []) × (s.held ≡ None))
+-- all that was read is answered; at the reader's end something that the session asked for is still to come
+abbrev pub Waits : {C : Type 0} → (C → Type 0) → SessionValue C → Type 0
+Waits is_answered s = (s.unfed ≡ []) × (s.framing.waiting ≡ []) × (s.held ≡ None) × (s.is_at_end ≡ true → is_answered s.core → ⊥)
+
+-- a message is held, and something that was asked before it is still to come
+abbrev pub HoldsBack : {C : Type 0} → (C → Type 0) → SessionValue C → Type 0
+HoldsBack is_answered s = ((m : List ℕ) × (s.held ≡ Some m)) × (is_answered s.core → ⊥)
+
+-- something is still to be written, or the next message may not be answered now, or waits for what is still to come, or all that was
+-- read is answered
+abbrev pub IsIdle : {C : Type 0} → (C → Type 0) → (C → Type 0) → SessionValue C → Type 0
+IsIdle may_answer is_answered s = (0 < length s.unsent) ⊎ (may_answer s.core → ⊥) ⊎ HoldsBack is_answered s ⊎ Waits is_answered s
 
 module _ {C : Type 0} (answers : C → List ℕ → List ℕ → C → Type 0) (tells : C → List ℕ → C → Type 0) where
   -- this is said in the first state, and leaves the second

@@ -5,10 +5,14 @@ ghost use Rattle.ovs_session.specs.Moving.{is_end};
 /// What came by a read.
 #[derive(Debug, Clone, Copy, PartialEq, Eq)]
 pub(crate) enum Came {
-    /// Bytes.
-    Bytes,
+    /// As many bytes as it asked for.
+    Whole,
+    /// Fewer bytes.
+    Part,
     /// Nothing for now.
     Nothing,
+    /// Nothing, since it was interrupted.
+    Interrupted,
     /// The reader's end.
     End,
 }

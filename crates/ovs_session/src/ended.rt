@@ -8,7 +8,8 @@ use thiserror::Error;
 /// Why a session ended, or a call on it stopped.
 #[derive(Clone, Copy, Debug, PartialEq, Eq, Error)]
 pub enum Ended {
-    /// Its reader is at its end, every message is answered, and all that was said is written.
+    /// Its reader is at its end, every message is answered, nothing that it asked for is still to come, and all that was
+    /// said is written.
     #[error("closed")]
     Closed,
     /// A read failed.
@@ -26,7 +27,7 @@ pub enum Ended {
     /// What it is answered from is gone.
     #[error("gone")]
     Gone,
-    /// Memory ran out. Nothing is lost, so that it may go on.
+    /// Memory ran out, and all that was said is written. Nothing is lost, so that it may go on.
     #[error("out of memory")]
     NoMemory,
 }

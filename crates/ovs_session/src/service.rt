@@ -1,5 +1,5 @@
 //! What answers sessions.
-ghost use Rattle.std.specs.Prelude.{◌≡◌, ◌++◌, ℕ, List, Err, OnOk, OnErr};
+ghost use Rattle.std.specs.Prelude.{◌≡◌, ◌++◌, ◌↔◌, ℕ, List, Err, true, false, IsTrue, OnOk, OnErr};
 
 use crate::ended::Refusal;
 use crate::outbox::Outbox;
@@ -19,6 +19,22 @@ pub trait Service {
     // A message is none that is answered.
     ghost refuses: { Self.Session → List ℕ → Type 0 };
 
+    // The session's next message may be answered now.
+    ghost may_answer: { Self → Self.Session → Type 0 };
+
+    // Nothing that the session asked for is still to come.
+    ghost is_answered: { Self → Self.Session → Type 0 };
+
+    /// Whether the session's next message may be answered now. Else it waits, and nothing more is read. It is no only while
+    /// something is still to come that the session asked for.
+    fn takes(&self, session: &Self::Session) -> bool
+        ensures value { IsTrue result ↔ may_answer self.now session.now };
+
+    /// Whether something that the session asked for is still to come. Its end waits for that.
+    fn awaits(&self, session: &Self::Session) -> bool
+        ensures answered { result ≡ false → is_answered self.now session.now }
+        ensures awaited { result ≡ true → is_answered self.now session.now → ⊥ };
+
     /// Answers a message: its bytes are one JSON object, of which nothing was read yet. The answer, which may be empty,
     /// is put behind what is to be written. After a refusal nothing has changed.
     fn answer(
@@ -27,6 +43,7 @@ pub trait Service {
         message: &[u8],
         out: &mut Outbox,
     ) -> Result<(), Refusal>
+        requires taken { may_answer self.old session.old }
         ensures ok { OnOk result ((said : List ℕ) × answers session.old message.now said session.new × (out.new ≡ out.old ++ said)) }
         ensures err { OnErr result ((session.new ≡ session.old) × (out.new ≡ out.old)) }
         ensures bad { result ≡ Err Refusal.BadInput → refuses session.old message.now };

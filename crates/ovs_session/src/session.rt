@@ -13,12 +13,13 @@ use crate::counts::Counts;
 use crate::ended::Ended;
 use crate::inbox::{Inbox, MessageBytes};
 use crate::outbox::Outbox;
+use crate::reading::Reading;
 use crate::reserved::append_reserved;
 pub(crate) use answering::{answer_held, tell_new};
 use ovs_json::NoMemory;
 use ovs_wire::is_passing;
 use std::alloc::Global;
-use std::io::{Read, Write};
+use std::io::{ErrorKind, Read, Write};
 use std::marker::Model;
 
 /// How many bytes a read asks for.
@@ -38,8 +39,13 @@ fn read_behind<R: Read>(bytes: &mut Vec<u8>, reader: &mut R) -> Result<Came, End
         Ok(0) => Ok(Came::End),
         Ok(count) => {
             append_reserved(bytes, &piece[..count]);
-            Ok(Came::Bytes)
+            Ok(if count < READ_BYTES {
+                Came::Part
+            } else {
+                Came::Whole
+            })
         }
+        Err(error) if error.kind() == ErrorKind::Interrupted => Ok(Came::Interrupted),
         Err(error) if is_passing(&error) => Ok(Came::Nothing),
         Err(_) => Err(Ended::ReadFault),
     }
@@ -55,6 +61,8 @@ pub struct Session<C> {
     core: C,
     outbox: Outbox,
     is_at_end: bool,
+    // No contract sees it, since a reader that passes nothing for now says the same.
+    reading: Reading,
     counts: Counts,
     ended: Option<Ended>,
 }
@@ -88,6 +96,7 @@ impl<C> Session<C> {
             core,
             outbox: Outbox::new(alloc),
             is_at_end: false,
+            reading: Reading::Always,
             counts: Counts {
                 turns: 0,
                 messages: 0,
@@ -95,6 +104,26 @@ impl<C> Session<C> {
             },
             ended: None,
         }
+    }
+
+    /// From now on it reads only where it is told that something came (`note_ready`), and until it has read that. This is for
+    /// a reader that doesn't wait, and gets fewer bytes than it asks for only where it has no more.
+    pub fn read_when_told(&mut self)
+        ensures same { self.new ≡ self.old }
+    {
+        self.reading = Reading::UntilPart;
+    }
+
+    /// Something may have come: bytes, or behind them the reader's end or its failure.
+    pub fn note_ready(&mut self, is_read_closed: bool)
+        ensures same { self.new ≡ self.old }
+    {
+        self.reading = self.reading.when_told(is_read_closed);
+    }
+
+    /// Whether something may have come that isn't read yet.
+    pub(crate) fn may_read(&self) -> bool {
+        self.reading.is_now()
     }
 
     /// What its service knows of it.
@@ -172,11 +201,12 @@ impl<C> Session<C> {
         read_behind(&mut self.unfed, reader)
     }
 
-    /// Keeps that a read found the end, where it did.
-    pub(crate) fn note_end(&mut self, came: Came)
+    /// Keeps that a read found the end, where it did, and whether there may be more to read.
+    pub(crate) fn note_read(&mut self, came: Came)
         ensures value { self.new ≡ record self.old { is_at_end = self.old.is_at_end || is_end came } }
     {
         self.is_at_end = self.is_at_end || came.is_end();
+        self.reading = self.reading.after(came);
     }
 
     /// Feeds the framer what was read, where no message waits. After `NoMemory` nothing has changed.

@@ -1,8 +1,8 @@
 //! The steps of a turn.
-ghost use Rattle.std.specs.Prelude.{◌≡◌, ◌<◌, ◌⊎◌, ℕ, List, [], Option, Some, None, Ok, Err, true, false, IfErr, length};
+ghost use Rattle.std.specs.Prelude.{◌≡◌, ◌<◌, ◌⊎◌, ℕ, List, [], Option, Some, None, Ok, Err, true, false, IfErr, OnOk, length};
 ghost use Rattle.ovs_session.specs.Counting.{SpendsAtMost};
-ghost use Rattle.ovs_session.specs.Moving.{Moved, IsFaulty, IsRefusal, is_fault};
-ghost use Rattle.ovs_session.specs.Serving.{Worked, IsDone, IsIdle};
+ghost use Rattle.ovs_session.specs.Moving.{Moved, IsBad, IsRefusal, is_fault};
+ghost use Rattle.ovs_session.specs.Serving.{Worked, Waits, IsDone, IsIdle};
 
 use crate::came::Came;
 use crate::ended::Ended;
@@ -11,32 +11,49 @@ use crate::service::Service;
 use crate::session::{Session, answer_held, tell_new};
 use std::io::{Read, Write};
 
-/// Answers messages, while what waits to be written is below the limit. Whether none is left.
+/// What is left of the messages at hand once a turn has answered those that it may.
+#[derive(Debug, Clone, Copy, PartialEq, Eq)]
+pub(crate) enum Left {
+    /// None.
+    Nothing,
+    /// Maybe some, before which the turn's limits stopped it.
+    More,
+    /// Maybe some, and the service takes none now.
+    Untaken,
+    /// One that the service refuses, before which something was asked that is still to come.
+    Refused,
+}
+
+/// Answers messages, while the service takes them and what waits to be written is below the limit.
 pub(crate) fn answer_all<S: Service>(
     session: &mut Session<S::Session>,
     service: &mut S,
     limits: Limits,
-) -> Result<bool, Ended>
+) -> Result<Left, Ended>
     ensures worked { Worked S.answers S.tells limits.most_unsent session.old session.new }
-    ensures none { result ≡ Ok true → (session.new.held ≡ None) × (session.new.framing.waiting ≡ []) }
+    ensures none { result ≡ Ok Left.Nothing → (session.new.held ≡ None) × (session.new.framing.waiting ≡ []) }
     ensures spent { SpendsAtMost 0 limits.messages session.old.counts session.new.counts }
     ensures refused { IfErr result (λ e. IsRefusal e) }
     ensures bad { result ≡ Err Ended.BadInput → (m : List ℕ) × (session.new.held ≡ Some m) × S.refuses session.new.core m }
+    ensures never_refused { result ≡ Ok Left.Refused → ⊥ }
 {
     for _answered in 0..limits.messages {
         if session.unsent() >= limits.most_unsent {
-            return Ok(false);
+            return Ok(Left::More);
+        }
+        if !service.takes(session.core()) {
+            return Ok(Left::Untaken);
         }
         if !session.hold()? {
-            return Ok(true);
+            return Ok(Left::Nothing);
         }
         answer_held(session, service)?;
     }
-    Ok(false)
+    Ok(Left::More)
 }
 
-/// Tells what is new, where what waits to be written is below the limit.
-pub(crate) fn tell_below<S: Service>(
+// Tells what is new, where what waits to be written is below the limit.
+fn tell_below<S: Service>(
     session: &mut Session<S::Session>,
     service: &mut S,
     limits: Limits,
@@ -49,6 +66,35 @@ pub(crate) fn tell_below<S: Service>(
         return Ok(());
     }
     tell_new(session, service)
+}
+
+/// Answers the messages at hand, and tells what is new, each as far as the limits and the service let it. Nothing is told
+/// where no answer could be given, but for what was asked before a message that is refused.
+pub(crate) fn answer_and_tell<S: Service>(
+    session: &mut Session<S::Session>,
+    service: &mut S,
+    limits: Limits,
+) -> Result<Left, Ended>
+    ensures worked { Worked S.answers S.tells limits.most_unsent session.old session.new }
+    ensures none { result ≡ Ok Left.Nothing → (session.new.held ≡ None) × (session.new.framing.waiting ≡ []) }
+    ensures spent { SpendsAtMost 0 limits.messages session.old.counts session.new.counts }
+    ensures refused { IfErr result (λ e. IsRefusal e) }
+    ensures bad { result ≡ Err Ended.BadInput → (m : List ℕ) × (session.new.held ≡ Some m) × S.refuses session.new.core m }
+    ensures quiet { result ≡ Err Ended.BadInput → S.is_answered service.new session.new.core }
+    ensures held { result ≡ Ok Left.Refused → (m : List ℕ) × (session.new.held ≡ Some m) }
+{
+    match answer_all(session, service, limits) {
+        Ok(left) => {
+            tell_below(session, service, limits)?;
+            Ok(left)
+        }
+        // What it asked before is answered first.
+        Err(Ended::BadInput) if service.awaits(session.core()) => {
+            tell_below(session, service, limits)?;
+            Ok(Left::Refused)
+        }
+        Err(ended) => Err(ended),
+    }
 }
 
 // Writes once.
@@ -81,17 +127,36 @@ fn refill<S: Service, R: Read>(
     ensures moved { (limit : ℕ) (output : Option (List ℕ)) → session.old.is_at_end ≡ false → Moved S.answers S.tells limit
         (R.remaining reader.old) (R.remaining reader.new) output output session.old session.new }
     ensures idle { result ≡ Ok Pace.Idle → (session.new.unfed ≡ session.old.unfed) × (session.new.framing ≡ session.old.framing)
-        × (session.new.held ≡ session.old.held) }
+        × (session.new.held ≡ session.old.held) × (session.new.is_at_end ≡ session.old.is_at_end) }
+    ensures same { (session.new.core ≡ session.old.core) × (session.new.unsent ≡ session.old.unsent) }
     ensures spent { SpendsAtMost 1 0 session.old.counts session.new.counts }
     ensures fault { IfErr result (λ e. (e ≡ Ended.ReadFault) ⊎ (e ≡ Ended.NoMemory)) }
 {
     let came = session.read_once(reader)?;
-    session.note_end(came);
+    session.note_read(came);
     if came == Came::Nothing {
         return Ok(Pace::Idle);
     }
     session.feed()?;
     Ok(Pace::Busy)
+}
+
+// Why the input is over, once nothing is still to come that was asked before.
+fn end_of_input<S: Service>(session: &Session<S::Session>, service: &S) -> Result<Pace, Ended>
+    requires over { (is_fault session.now.framing.ending ≡ true) ⊎ (session.now.is_at_end ≡ true) }
+    ensures closed { result ≡ Err Ended.Closed → (session.now.is_at_end ≡ true) × S.is_answered service.now session.now.core }
+    ensures bad { result ≡ Err Ended.BadInput → (is_fault session.now.framing.ending ≡ true) × S.is_answered service.now session.now.core }
+    ensures idle { OnOk result (S.is_answered service.now session.now.core → ⊥) }
+    ensures ends { IfErr result (λ e. (e ≡ Ended.Closed) ⊎ (e ≡ Ended.BadInput)) }
+{
+    let is_awaited = service.awaits(session.core());
+    if is_awaited {
+        Ok(Pace::Idle)
+    } else if session.has_fault() {
+        Err(Ended::BadInput)
+    } else {
+        Err(Ended::Closed)
+    }
 }
 
 // Feeds what was read before, says why the input is over, or reads, where no message is left and nothing is to be written.
@@ -100,48 +165,84 @@ fn take_in<S: Service, R: Read>(
     service: &S,
     reader: &mut R,
 ) -> Result<Pace, Ended>
-    requires none { session.old.framing.waiting ≡ [] }
+    requires none { (session.old.held ≡ None) × (session.old.framing.waiting ≡ []) }
     ensures moved { (limit : ℕ) (output : Option (List ℕ)) → Moved S.answers S.tells limit
         (R.remaining reader.old) (R.remaining reader.new) output output session.old session.new }
-    ensures closed { result ≡ Err Ended.Closed → (session.new ≡ session.old) × (session.old.unfed ≡ []) × (session.old.is_at_end ≡ true) }
-    ensures idle { result ≡ Ok Pace.Idle → (session.new.unfed ≡ []) × (session.new.framing.waiting ≡ []) × (session.new.held ≡ session.old.held) }
-    ensures bad { result ≡ Err Ended.BadInput → (session.new ≡ session.old) × (is_fault session.old.framing.ending ≡ true) }
+    ensures closed { result ≡ Err Ended.Closed → (session.new ≡ session.old) × (session.old.unfed ≡ []) × (session.old.is_at_end ≡ true)
+        × S.is_answered service.now session.old.core }
+    ensures idle { result ≡ Ok Pace.Idle → Waits (S.is_answered service.now) session.new }
+    ensures bad { result ≡ Err Ended.BadInput → (session.new ≡ session.old) × (is_fault session.old.framing.ending ≡ true)
+        × S.is_answered service.now session.old.core }
+    ensures same { session.new.unsent ≡ session.old.unsent }
     ensures spent { SpendsAtMost 1 0 session.old.counts session.new.counts }
 {
     if !session.is_fed() {
         session.feed()?;
         return Ok(Pace::Busy);
     }
-    if session.has_fault() {
-        return Err(Ended::BadInput);
+    if session.has_fault() || session.is_at_end() {
+        return end_of_input(session, service);
     }
-    if session.is_at_end() {
-        return Err(Ended::Closed);
+    if !session.may_read() {
+        return Ok(Pace::Idle);
     }
     refill(session, service, reader)
 }
 
-/// Calls one device at most: the writer where something is to be written, else the reader where no message is left.
+// Whether the service takes messages again, which took none before it told what is new.
+fn pace_of<S: Service>(session: &Session<S::Session>, service: &S) -> Pace
+    ensures idle { result ≡ Pace.Idle → S.may_answer service.now session.now.core → ⊥ }
+    ensures busy { result ≡ Pace.Busy → S.may_answer service.now session.now.core }
+{
+    if service.takes(session.core()) {
+        Pace::Busy
+    } else {
+        Pace::Idle
+    }
+}
+
+// Whether nothing is still to come that was asked before a message that the service refuses.
+fn pace_of_refused<S: Service>(session: &Session<S::Session>, service: &S) -> Pace
+    ensures idle { result ≡ Pace.Idle → S.is_answered service.now session.now.core → ⊥ }
+    ensures busy { result ≡ Pace.Busy → S.is_answered service.now session.now.core }
+{
+    if service.awaits(session.core()) {
+        Pace::Idle
+    } else {
+        Pace::Busy
+    }
+}
+
+/// Calls one device at most: the writer where something is to be written, whatever stopped the session; else the reader, where
+/// nothing did and no message is left.
 pub(crate) fn exchange<S: Service, R: Read, W: Write>(
     session: &mut Session<S::Session>,
     service: &S,
     reader: &mut R,
     writer: &mut W,
-    is_done: bool,
+    left: Result<Left, Ended>,
 ) -> Result<Pace, Ended>
-    requires { is_done ≡ true → (session.old.held ≡ None) × (session.old.framing.waiting ≡ []) }
+    requires none { left ≡ Ok Left.Nothing → (session.old.held ≡ None) × (session.old.framing.waiting ≡ []) }
+    requires refused { IfErr left (λ e. IsRefusal e) }
+    requires bad { left ≡ Err Ended.BadInput → (m : List ℕ) × (session.old.held ≡ Some m) × S.refuses session.old.core m }
+    requires quiet { left ≡ Err Ended.BadInput → S.is_answered service.now session.old.core }
+    requires held { left ≡ Ok Left.Refused → (m : List ℕ) × (session.old.held ≡ Some m) }
     ensures moved { (limit : ℕ) → Moved S.answers S.tells limit (R.remaining reader.old) (R.remaining reader.new)
         (W.contents writer.old) (W.contents writer.new) session.old session.new }
-    ensures closed { result ≡ Err Ended.Closed → IsDone session.new }
-    ensures idle { result ≡ Ok Pace.Idle → IsIdle session.new }
-    ensures bad { result ≡ Err Ended.BadInput → IsFaulty session.new }
+    ensures closed { result ≡ Err Ended.Closed → IsDone session.new × S.is_answered service.now session.new.core }
+    ensures idle { result ≡ Ok Pace.Idle → IsIdle (S.may_answer service.now) (S.is_answered service.now) session.new }
+    ensures bad { result ≡ Err Ended.BadInput → IsBad S.refuses session.new × S.is_answered service.now session.new.core }
+    ensures written { (e : _) → result ≡ Err e → (e ≡ Ended.WriteFault → ⊥) → session.new.unsent ≡ [] }
     ensures spent { SpendsAtMost 1 0 session.old.counts session.new.counts }
 {
     if session.unsent() > 0 {
         return send(session, service, writer);
     }
-    if !is_done {
-        return Ok(Pace::Busy);
+    match left {
+        Err(ended) => Err(ended),
+        Ok(Left::More) => Ok(Pace::Busy),
+        Ok(Left::Untaken) => Ok(pace_of(session, service)),
+        Ok(Left::Refused) => Ok(pace_of_refused(session, service)),
+        Ok(Left::Nothing) => take_in(session, service, reader),
     }
-    take_in(session, service, reader)
 }

@@ -1,5 +1,5 @@
 //! A session's turn.
-ghost use Rattle.std.specs.Prelude.{◌≡◌, Some, None, Ok, Err};
+ghost use Rattle.std.specs.Prelude.{◌≡◌, [], Some, None, Ok, Err};
 ghost use Rattle.ovs_session.specs.Counting.{SpendsAtMost};
 ghost use Rattle.ovs_session.specs.Moving.{Moved, IsAnswer, IsBad, ended_by};
 ghost use Rattle.ovs_session.specs.Serving.{IsDone, IsIdle};
@@ -8,7 +8,7 @@ use crate::ended::Ended;
 use crate::limits::{Limits, Pace};
 use crate::service::Service;
 use crate::session::Session;
-use crate::steps::{answer_all, exchange, tell_below};
+use crate::steps::{answer_and_tell, exchange};
 use std::io::{Read, Write};
 
 // A turn of a session that hasn't ended.
@@ -21,26 +21,29 @@ fn go_on<S: Service, R: Read, W: Write>(
 ) -> Result<Pace, Ended>
     ensures moved { Moved S.answers S.tells limits.most_unsent (R.remaining reader.old) (R.remaining reader.new)
         (W.contents writer.old) (W.contents writer.new) session.old session.new }
-    ensures closed { result ≡ Err Ended.Closed → IsDone session.new }
-    ensures idle { result ≡ Ok Pace.Idle → IsIdle session.new }
-    ensures bad { result ≡ Err Ended.BadInput → IsBad S.refuses session.new }
+    ensures closed { result ≡ Err Ended.Closed → IsDone session.new × S.is_answered service.new session.new.core }
+    ensures idle { result ≡ Ok Pace.Idle → IsIdle (S.may_answer service.new) (S.is_answered service.new) session.new }
+    ensures bad { result ≡ Err Ended.BadInput → IsBad S.refuses session.new × S.is_answered service.new session.new.core }
+    ensures written { (e : _) → result ≡ Err e → (e ≡ Ended.WriteFault → ⊥) → session.new.unsent ≡ [] }
     ensures spent { SpendsAtMost 1 limits.messages session.old.counts session.new.counts }
 {
-    let is_done = answer_all(session, service, limits)?;
-    tell_below(session, service, limits)?;
-    exchange(session, service, reader, writer, is_done)
+    let left = answer_and_tell(session, service, limits);
+    exchange(session, service, reader, writer, left)
 }
 
-/// One turn of a session: it answers the messages that are whole, tells what is new, and then calls one device at most. It
-/// writes where something is to be written, and else it reads where no message is left to be answered. While the limit of
-/// bytes or more wait to be written, it only writes.
+/// One turn of a session: it answers the messages that are whole, as long as the service takes them, tells what is new, and then
+/// calls one device at most. It writes where something is to be written, and else it reads where no message is left to be
+/// answered and something may have come. While the limit of bytes or more wait to be written, it only writes.
 ///
-/// What it reads, answers, tells and writes belongs together, and so do several turns: see `Moved`. An error that is final
-/// is kept: every later turn answers it again, and nothing more is read or written.
+/// What it reads, answers, tells and writes belongs together, and so do several turns: see `Moved`. An error comes only once
+/// all that was said is written, or a write failed: whatever stops the session, a turn with something to write writes, and a
+/// later one finds the same again; nothing is told where an answer was refused, but what was asked before. An error that is final is kept:
+/// every later turn answers it again, and nothing more is read or written.
 ///
-/// - `Closed`: the reader is at its end, every message was answered, and all that was said is written.
-/// - `BadInput`: the stream has a fault, and the messages before it are answered and all that was said is written; or the
-///   service refuses the message that is held.
+/// - `Closed`: the reader is at its end, every message was answered, and nothing that the session asked for is still to come.
+///   While something is, the turn is idle.
+/// - `BadInput`: the stream has a fault, and the messages before it are answered; or the service refuses the message that is
+///   held; and nothing that the session asked for is still to come. While something is, the turn is idle.
 /// - `ReadFault`, `WriteFault`: the call of the device failed. That nothing passed for now is no failure.
 /// - `Gone`: the service answers so.
 /// - `NoMemory`: nothing is lost. What was read is kept, a message that was taken stays held, and the turn may be made again.
@@ -56,7 +59,7 @@ pub fn turn<S: Service, R: Read, W: Write>(
     ensures over { (e : _) → session.old.ended ≡ Some e
         → (result ≡ Err e) × (session.new ≡ session.old) × (reader.new ≡ reader.old) × (writer.new ≡ writer.old) }
     ensures ends { session.old.ended ≡ None → session.new.ended ≡ ended_by result }
-    ensures answer { session.old.ended ≡ None → IsAnswer S.refuses result session.new }
+    ensures answer { session.old.ended ≡ None → IsAnswer S.refuses (S.may_answer service.new) (S.is_answered service.new) result session.new }
     ensures spent { SpendsAtMost 1 limits.messages session.old.counts session.new.counts }
 {
     if let Some(ended) = session.ended() {

@@ -2,13 +2,14 @@
 
 ghost use Rattle.std.specs.Prelude.{◌≡◌, ◌+◌, ◌<◌, ◌≤◌, true, false, None, IfSome, IfOk};
 
-use crate::bell::SocketBell;
+use crate::bell::{Hearing, SocketBell};
 use crate::client::Half;
+use crate::crowd::Crowd;
 use crate::ending::IsEnding;
 use log::{Log, info};
 use mio::net::{TcpListener, TcpStream};
 use mio::{Events, Interest, Poll, Token, Waker};
-use ovs_hall::{Doors, Woken};
+use ovs_hall::{Doors, Ready, Timeout, Woken};
 use ovs_session::Ended;
 use std::alloc::Global;
 use std::collections::VecDeque;
@@ -29,6 +30,23 @@ const BELL: Token = Token(usize::MAX - 1);
 // After so many milliseconds it is tried again to take a connection for which the system had no room.
 const SHORTAGE: u64 = 200;
 
+// So many milliseconds a short wait takes.
+const SHORT: u64 = 10;
+
+// So often a connection is left to the other workers, with so many milliseconds' wait where nothing else comes.
+const MOST_LEFT: u32 = 16;
+
+const LEFT: u64 = 1;
+
+// What the events of a wait told.
+#[derive(Clone, Copy)]
+struct Told {
+    // The bell was rung.
+    is_rung: bool,
+    // That some session may go on couldn't be noted.
+    is_lost: bool,
+}
+
 /// Doors over sockets: several workers may have some at one address, each of which takes a part of what comes.
 #[derive(Drop)]
 pub struct SocketDoors<R: Log + Drop> {
@@ -39,14 +57,17 @@ pub struct SocketDoors<R: Log + Drop> {
     poll: Poll,
     events: Events<Global>,
     // The sessions that may go on.
-    ready: VecDeque<usize>,
+    ready: VecDeque<Ready>,
     listener: TcpListener,
     bell: Arc<Waker>,
+    hearing: Arc<Hearing>,
     accepts_left: u32,
     // A connection may wait to be taken.
     may_accept: bool,
     // The system had no room for the connection that waits.
     is_short: bool,
+    // So often the connection that waits was left to the other workers.
+    was_left: u32,
     is_ending: IsEnding,
 }
 
@@ -56,6 +77,7 @@ impl<R: Net + Log + Drop> SocketDoors<R> {
         alloc: Global,
         worker: usize,
         listener: net::TcpListener,
+        crowd: Arc<Crowd>,
         accepts: u32,
         is_ending: IsEnding,
     ) -> io::Result<SocketDoors<R>>
@@ -75,9 +97,11 @@ impl<R: Net + Log + Drop> SocketDoors<R> {
             ready: VecDeque::with_capacity(alloc, EVENTS)?,
             listener,
             bell,
+            hearing: Arc::new(alloc, Hearing::new(crowd))?,
             accepts_left: accepts,
             may_accept: true,
             is_short: false,
+            was_left: 0,
             is_ending,
         })
     }
@@ -89,7 +113,8 @@ impl<R: Log + Drop> SocketDoors<R> {
     /// # Errors
     /// No more can be counted.
     pub fn bell(&self) -> io::Result<SocketBell> {
-        Ok(SocketBell::new(self.bell.clone()?))
+        let waker = self.bell.clone()?;
+        Ok(SocketBell::of_worker(waker, self.hearing.clone()?))
     }
 
     // Whether no connection is taken any more.
@@ -101,31 +126,44 @@ impl<R: Log + Drop> SocketDoors<R> {
     }
 
     // How long to wait at most.
-    fn patience(&self, is_busy: bool) -> Option<Duration> {
-        if is_busy || !self.ready.is_empty() {
+    fn patience(&self, timeout: Timeout) -> Option<Duration> {
+        if timeout == Timeout::Zero || !self.ready.is_empty() {
             Some(Duration::ZERO)
+        } else if timeout == Timeout::Short {
+            Some(Duration::from_millis(SHORT))
         } else if self.is_short && !self.is_closed() {
             Some(Duration::from_millis(SHORTAGE))
         } else if self.may_accept && !self.is_closed() {
-            Some(Duration::ZERO)
+            let wait = if self.was_left > 0 { LEFT } else { 0 };
+            Some(Duration::from_millis(wait))
         } else {
             None
         }
     }
 
-    // Notes what came. Whether the bell rang, or what came could not be noted, so that any session may go on.
-    fn note_events(&mut self) -> bool
+    // Notes what came.
+    fn note_events(&mut self) -> Told
         ensures same { self.new.accepts_left ≡ self.old.accepts_left }
     {
-        let mut is_rung = false;
+        let mut told = Told {
+            is_rung: false,
+            is_lost: false,
+        };
         for event in &self.events {
             match event.token() {
                 LISTENER => self.may_accept = true,
-                BELL => is_rung = true,
-                Token(key) => is_rung |= self.ready.push_back(key).is_err(),
+                BELL => told.is_rung = true,
+                Token(key) => {
+                    let is_read_closed = event.is_read_closed() || event.is_error();
+                    let ready = Ready {
+                        key,
+                        is_read_closed,
+                    };
+                    told.is_lost |= self.ready.push_back(ready).is_err();
+                }
             }
         }
-        is_rung
+        told
     }
 
     // The next connection that waits, without waiting for one.
@@ -142,6 +180,16 @@ impl<R: Log + Drop> SocketDoors<R> {
                 None
             }
         }
+    }
+
+    // Whether the connection that waits is left to workers that serve fewer sessions, for a while: all are woken by it, and the
+    // same ones would mostly be the first.
+    fn leaves_it(&mut self) -> bool
+        ensures same { self.new.accepts_left ≡ self.old.accepts_left }
+    {
+        let leaves = self.was_left < MOST_LEFT && self.hearing.is_above_part();
+        self.was_left = if leaves { self.was_left + 1 } else { 0 };
+        leaves
     }
 
     // None waits, or the one that waits can't be had now, which is no reason to take no others.
@@ -175,24 +223,35 @@ impl<R: Log + Drop> Doors for SocketDoors<R> {
 
     type Out = Half;
 
+    fn worker(&self) -> usize {
+        self.worker
+    }
+
     // Once all connections are taken that may be, none is taken any more.
-    fn wait(&mut self, is_busy: bool) -> Woken
+    fn wait(&mut self, timeout: Timeout) -> Woken
         ensures closed { self.old.accepts_left ≡ 0 → (result.is_closed ≡ true) × (result.may_accept ≡ false) }
         ensures same { self.new.accepts_left ≡ self.old.accepts_left }
     {
-        let patience = self.patience(is_busy);
+        let patience = self.patience(timeout);
         // Where the system refuses to tell, each session looks for itself whether something came.
-        let is_lost = self.poll.poll(&mut self.events, patience).is_err();
-        let is_rung = self.note_events();
+        let is_refused = self.poll.poll(&mut self.events, patience).is_err();
+        let told = self.note_events();
+        if told.is_rung {
+            // Before the sessions look at what is new, so that nothing is new behind it that no ring tells.
+            self.hearing.hear();
+        }
+        let is_any_ready = is_refused || told.is_lost;
         let is_closed = self.is_closed();
         Woken {
-            is_rung: is_rung || is_lost || self.is_ending.is_asked(),
+            is_rung: told.is_rung || is_any_ready,
+            is_any_ready,
             may_accept: (self.may_accept || self.is_short) && !is_closed,
             is_closed,
+            is_over: self.is_ending.is_asked(),
         }
     }
 
-    fn next_ready(&mut self) -> Option<usize>
+    fn next_ready(&mut self) -> Option<Ready>
         ensures same { self.new.accepts_left ≡ self.old.accepts_left }
     {
         self.ready.pop_front()
@@ -204,12 +263,13 @@ impl<R: Log + Drop> Doors for SocketDoors<R> {
         ensures no_more { self.new.accepts_left ≤ self.old.accepts_left }
         ensures over { self.old.accepts_left ≡ 0 → result ≡ None }
     {
-        if self.is_closed() {
+        if self.is_closed() || self.leaves_it() {
             return None;
         }
         let (stream, peer) = self.next_stream()?;
         self.accepts_left -= 1;
         let halves = self.seat(key, stream).ok()?;
+        self.hearing.add_session();
         let worker = self.worker;
         info!(self.rt; "worker {worker} session {key} opened by {peer}");
         Some(halves)
@@ -219,6 +279,7 @@ impl<R: Log + Drop> Doors for SocketDoors<R> {
     fn left(&mut self, key: usize, ended: Ended)
         ensures same { self.new.accepts_left ≡ self.old.accepts_left }
     {
+        self.hearing.remove_session();
         self.may_accept |= self.is_short;
         let worker = self.worker;
         info!(self.rt; "worker {worker} session {key} ended: {ended}");

@@ -4,6 +4,7 @@
 mod bell;
 mod channel;
 mod client;
+mod crowd;
 mod doors;
 mod ending;
 mod listening;

@@ -2,29 +2,33 @@
 
 ghost use Rattle.std.specs.Prelude.{◌≡◌, IfOk};
 
+use crate::crowd::Crowd;
 use crate::doors::SocketDoors;
 use crate::ending::IsEnding;
 use log::Log;
 use std::alloc::Global;
 use std::io;
 use std::net::{Net, SocketAddr, TcpListener};
+use std::sync::Arc;
 
 /// An address at which connections are taken.
 #[derive(Drop)]
 pub struct Listening {
     listener: TcpListener,
+    crowd: Arc<Crowd>,
 }
 
 impl Listening {
     /// Takes connections at this address.
     ///
     /// # Errors
-    /// The system's, as where the address is in use.
-    pub fn at<N: Net>(net: &N, address: SocketAddr) -> io::Result<Listening> {
+    /// The system's, as where the address is in use; memory ran out.
+    pub fn at<N: Net>(net: &N, alloc: Global, address: SocketAddr) -> io::Result<Listening> {
         // This one's queue of those that wait is as long as the system allows.
         let listener = mio::net::TcpListener::bind(net, address)?;
         Ok(Listening {
             listener: TcpListener::from(listener),
+            crowd: Arc::new(alloc, Crowd::new())?,
         })
     }
 
@@ -55,6 +59,7 @@ impl Listening {
             alloc,
             worker,
             self.listener.try_clone()?,
+            self.crowd.clone()?,
             accepts,
             is_ending.again()?,
         )

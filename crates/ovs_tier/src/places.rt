@@ -33,7 +33,7 @@ impl<R: Net + Log + Copy + Drop> Places<R> {
         accepts: u32,
         is_ending: &IsEnding,
     ) -> Result<Places<R>, TierError> {
-        let listening = match Listening::at(&rt, listen) {
+        let listening = match Listening::at(&rt, alloc, listen) {
             Ok(listening) => listening,
             Err(error) => return Err(TierError::Listening(error)),
         };

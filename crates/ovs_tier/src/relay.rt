@@ -239,9 +239,15 @@ fn add_upstreams<'a, 'x, K: NodeName, Q: FeedName, R: Wait + Net + Log + Drop>(
     views: Vec<View<K>>,
 ) -> Result<RelayCrew<'a, 'x, K, Q, R>, TierError> {
     let mut crew = crew;
+    let progress = if connectors.len() == 1 {
+        Some(stage.counters.progress())
+    } else {
+        None
+    };
     let mut source = Some(SourceDesk {
         desk: &stage.desk,
         bells: &stage.bells,
+        progress,
     });
     for ((line, connector), view) in lines.into_iter().zip(connectors).zip(views) {
         let upstream = UpstreamParts {

@@ -241,7 +241,11 @@ fn run<
         ..
     } = source;
     let Places { doors, bells, .. } = places;
-    let desk = LockedSource::new(rt, desk_of::<K>(alloc, schema, first_commit, first_row)?);
+    let desk = LockedSource::new(
+        rt,
+        alloc,
+        desk_of::<K>(alloc, schema, first_commit, first_row)?,
+    );
     let stage = Stage {
         desk,
         bells,

@@ -1,5 +1,6 @@
 -- The steps that a node publishes, and the database after them.
-use Rattle.std.specs.Prelude.{List, [], ◌∷◌, ◌++◌, ◌≡◌, fold, Option, Some, None}
+use Rattle.std.specs.Prelude.{ℕ, List, [], ◌∷◌, ◌++◌, ◌≡◌, ◌==◌, ◌||◌, Bool, fold, Option, Some, None}
+use Rattle.std.specs.List.{list_any}
 use mathlib.Core.List.{IsPrefix}
 use Rattle.ovs_types.specs.Schema.{SchemaValue}
 use Rattle.ovs_links.specs.Absorbing.{IsStepChain}
@@ -20,6 +21,10 @@ pub record GoesOn (schema : SchemaValue) (known steps : List Step) : Type 0 wher
 pub record ViewSessionValue : Type 0 where
   pub session : SessionValue
   pub last : List Step
+
+-- the id is 0, or that of one of the steps
+abbrev pub is_shown : List Step → ℕ → Bool
+is_shown steps id = (id == 0) || list_any (λ (s : Step). s.id == id) steps
 
 -- what readers see now, with what is handed on to them, each of which names all steps up to its own, is what was handed on
 abbrev pub AreHandedOn : List Step → List (List Step) → List Step → Type 0

@@ -3,12 +3,12 @@
 ghost use Rattle.std.specs.Prelude.{◌≡◌, ◌<◌, [], IfSome, IfNone, length};
 ghost use Rattle.ovs_links.specs.Steps.{folded_of};
 ghost use Rattle.ovs_links.specs.Absorbing.{folded_by};
-ghost use Rattle.ovs_views.specs.Published.{GoesOn};
+ghost use Rattle.ovs_views.specs.Published.{GoesOn, is_shown};
 
 use crate::name::{Front, NodeName};
 use left_right::Absorb;
 use ovs_links::{Folded, Step};
-use ovs_types::NoMemory;
+use ovs_types::{NoMemory, TxnId};
 use std::alloc::{AllocError, Global};
 use std::marker::Model;
 
@@ -74,6 +74,17 @@ impl<K: NodeName> Shown<K> {
             return None;
         }
         Some(known.longer(&self.front))
+    }
+
+    /// Whether the id is 0 or that of one of the steps that are known; `None` where fewer are shown.
+    pub(crate) fn has_by(&self, known: &Front<K>, id: TxnId) -> Option<bool>
+        ensures value { IfSome result (λ has. has ≡ is_shown known.now id) }
+    {
+        let _all = self.since(known)?;
+        match self.folded.position_of(id) {
+            Some(position) => Some(position as u64 <= known.len()),
+            None => Some(false),
+        }
     }
 }
 

@@ -11,7 +11,7 @@ ghost use Rattle.ovs_links.specs.StepChains.{head_after_steps, position_in};
 ghost use Rattle.ovs_links.specs.Absorbing.{folded_by};
 ghost use Rattle.ovs_reader.specs.Turns.{seen_turn, turn, after_turn};
 ghost use Rattle.ovs_reader.specs.Telling.{told_some, after_some};
-ghost use Rattle.ovs_views.specs.Published.{GoesOn};
+ghost use Rattle.ovs_views.specs.Published.{GoesOn, is_shown};
 
 use crate::name::{Front, NodeName, Told};
 use crate::shown::Shown;
@@ -115,6 +115,20 @@ impl<K: NodeName> View<K> {
         };
         self.known = front;
         Ok(known)
+    }
+
+    /// Whether the id is 0 or that of a step that the session was shown.
+    ///
+    /// # Errors
+    /// `Gone`.
+    pub fn has_shown(&mut self, session: &ViewSession<K>, id: TxnId) -> Result<bool, Gone>
+        ensures value { IfOk result (λ has. has ≡ is_shown session.now.last id) }
+        ensures same { self.new ≡ self.old }
+    {
+        match self.handle.enter() {
+            None => Err(Gone),
+            Some(shown) => shown.has_by(session.last(), id).ok_or(Gone),
+        }
     }
 
     /// The rows that a select shows (RFC 7047 section 5.2.2).

@@ -101,6 +101,13 @@ impl<K: NodeName> ViewSession<K> {
         Ok(messages)
     }
 
+    /// The front of what it was shown last.
+    pub(crate) fn last(&self) -> &Front<K>
+        ensures value { result.now ≡ self.now.last }
+    {
+        &self.last
+    }
+
     /// Ends the session: its monitors are gone, and from now on nothing is answered or told.
     pub fn end(&mut self)
         ensures value { self.new ≡ record { session = record { monitors = []; shown = self.old.session.shown; head = self.old.session.head; is_ended = true }; last = self.old.last } }

@@ -12,6 +12,7 @@ pub(crate) fn answer_held<S: Service>(
     session: &mut Session<S::Session>,
     service: &mut S,
 ) -> Result<(), Ended>
+    requires taken { S.may_answer service.old session.old.core }
     ensures worked { (limit : ℕ) → length session.old.unsent < limit → Worked S.answers S.tells limit session.old session.new }
     ensures none { OnOk result (session.new.held ≡ None) }
     ensures rest { session.new ≡ record session.old { held = session.new.held; core = session.new.core; unsent = session.new.unsent } }

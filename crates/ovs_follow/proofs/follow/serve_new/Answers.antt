@@ -14,6 +14,6 @@ returns-clause-followed g c =
           (g.W.Write.contents c.args.writer.now) (g.W.Write.contents c.serve-ended.new.writer) s c.serve-ended.new.session) began serve.moved;
       counted = c.counts-counts.ensures.value;
       sends = c.into_sink.ensures.sent ∙ ap (λ f. f.sent) c.into_core.ensures.value;
-      closed = λ is. serve.closed (ap (λ s. s.ended) began) (ap (λ s. s.is_at_end) began) is;
+      closed = λ is. let done = serve.closed (ap (λ s. s.ended) began) (ap (λ s. s.is_at_end) began) is in (done.0, done.1);
       bad = λ is. serve.bad (ap (λ s. s.ended) began) is;
     }

@@ -7,4 +7,4 @@ use Rattle.ovs_service.proofs.collecting.collect.Given as goal
 
 abbrev pub invariant-loop-collected : goal.invariant-loop-collected
 invariant-loop-collected g l =
-    (given : List Message) × AllByRecursion (IsOwed (g.D.Desk.owes l.who)) given × (l.dues.items ≡ l.initial.dues.items ++ map Say given)
+    (given : List Message) × AllByRecursion (IsOwed (g.D.Desk.owes l.is_held_back l.who l.session.last)) given × (l.dues.items ≡ l.initial.dues.items ++ map Say given)

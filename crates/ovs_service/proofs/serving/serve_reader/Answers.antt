@@ -21,7 +21,7 @@ returns-clause-kept g c =
     let began = c.new-session.ensures.fresh ∙ ap (λ (core : ClientValue). fresh core) c.client.ensures.value in
     let open_yet : c.new-session.result.ended ≡ None = ap (λ (s : SessionValue ClientValue). s.ended) began in
     let before_end : c.new-session.result.is_at_end ≡ false = ap (λ (s : SessionValue ClientValue). s.is_at_end) began in
-    subst (λ (n : Counts). Kept g.K.NodeName.schema (g.D.Desk.replies c.args.who) (g.D.Desk.owes c.args.who) (new_view c.args.service.now.view)
+    subst (λ (n : Counts). Kept g.K.NodeName.schema (g.D.Desk.replies c.args.who) (λ held. g.D.Desk.owes held c.args.who) (new_view c.args.service.now.view)
     (g.R.Read.remaining c.args.reader.now) (g.R.Read.remaining c.serve-ended.new.reader) (g.W.Write.contents c.args.writer.now)
     (g.W.Write.contents c.serve-ended.new.writer) n c.finish.result.ended) (sym c.finish.ensures.counts)
     (kept_by g.K.NodeName.schema g.D.Desk.replies g.D.Desk.owes c.args.limits.most_unsent c.args.who c.args.service.now.view _ _ _ _

@@ -11,7 +11,7 @@ returns-in_err-feed-clause-moved g c limit output was =
     let aa = g.S.Service.answers in
     let ts = g.S.Service.tells in
     let read = moved_read aa ts limit _ _ output _ _ was c.read_once.ensures.counted c.read_once.ensures.read in
-    let noted = moved_end aa ts limit _ output _ _ _ c.in_ok-came.ensures.end c.note_end.ensures.value in
+    let noted = moved_end aa ts limit _ output _ _ _ c.in_ok-came.ensures.end c.note_read.ensures.value in
     moved_more aa ts limit _ _ _ _ _ _ _ _ _ (moved_more aa ts limit _ _ _ _ _ _ _ _ _ read noted)
     (moved_worked aa ts limit _ output _ _ (worked_still aa ts limit _ _ c.in_err-feed.ensures.unchanged))
 
@@ -20,7 +20,7 @@ returns-then-eq-clause-moved g c limit output was =
     let aa = g.S.Service.answers in
     let ts = g.S.Service.tells in
     let read = moved_read aa ts limit _ _ output _ _ was c.read_once.ensures.counted c.read_once.ensures.read in
-    let noted = moved_end aa ts limit _ output _ _ _ c.in_ok-came.ensures.end c.note_end.ensures.value in
+    let noted = moved_end aa ts limit _ output _ _ _ c.in_ok-came.ensures.end c.note_read.ensures.value in
     moved_more aa ts limit _ _ _ _ _ _ _ _ _ read noted
 
 pub returns-clause-moved : goal.returns-clause-moved
@@ -28,6 +28,6 @@ returns-clause-moved g c limit output was =
     let aa = g.S.Service.answers in
     let ts = g.S.Service.tells in
     let read = moved_read aa ts limit _ _ output _ _ was c.read_once.ensures.counted c.read_once.ensures.read in
-    let noted = moved_end aa ts limit _ output _ _ _ c.in_ok-came.ensures.end c.note_end.ensures.value in
+    let noted = moved_end aa ts limit _ output _ _ _ c.in_ok-came.ensures.end c.note_read.ensures.value in
     moved_more aa ts limit _ _ _ _ _ _ _ _ _ (moved_more aa ts limit _ _ _ _ _ _ _ _ _ read noted)
     (moved_fed aa ts limit _ output _ _ c.in_ok-feed.ensures.fed)

@@ -14,5 +14,5 @@ returns-then-not-is_fed-clause-moved g c limit output =
 pub returns-then-has_fault-clause-moved : goal.returns-then-has_fault-clause-moved
 returns-then-has_fault-clause-moved g c limit output = moved_still g.S.Service.answers g.S.Service.tells limit _ output _
 
-pub returns-then-is_at_end-clause-moved : goal.returns-then-is_at_end-clause-moved
-returns-then-is_at_end-clause-moved g c limit output = moved_still g.S.Service.answers g.S.Service.tells limit _ output _
+pub returns-then-not-may_read-clause-moved : goal.returns-then-not-may_read-clause-moved
+returns-then-not-may_read-clause-moved g c limit output = moved_still g.S.Service.answers g.S.Service.tells limit _ output _

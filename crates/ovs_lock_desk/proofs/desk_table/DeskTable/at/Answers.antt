@@ -39,9 +39,10 @@ returns-then-is_idle c =
     let f = step c.args.event in
     let tree = c.get_mut.follows.lender c.step.new.self in
     let idle : is_desk_idle (f c.in-Some.lock.now) ≡ true = ap is_desk_idle (sym c.step.ensures.value) ∙ sym c.if-is_idle.ensures.value in
+    let change : ChangesAt name f es c.take_out.new.locks.entries = gone_by f es tree.entries c.take_out.new.locks.entries c.in-Some.lock.now c.step.new.self c.self.invariant.1 (sym c.in-Some.ensures.value) c.step.ensures.value idle (c.get_mut.follows.holds c.step.new.self).0 c.take_out.ensures.entries in
     rw (← c.self.view_is) (record {
-      after = gone_by f es tree.entries c.take_out.new.locks.entries c.in-Some.lock.now c.step.new.self c.self.invariant.1 (sym c.in-Some.ensures.value) c.step.ensures.value idle
-          (c.get_mut.follows.holds c.step.new.self).0 c.take_out.ensures.entries;
+      after = change;
+      table = record { ascend = c.take_out.ensures.ordered; none_idle = change_none_idle is_desk_idle no_desk_lock name f es c.take_out.new.locks.entries c.self.invariant.1 change };
     })
 
 pub invariant_of-self-else-is_idle : goal.invariant_of-self-else-is_idle
@@ -63,9 +64,10 @@ returns-else-is_idle c =
     let f = step c.args.event in
     let tree = c.get_mut.follows.lender c.step.new.self in
     let busy : is_desk_idle (f c.in-Some.lock.now) ≡ false = ap is_desk_idle (sym c.step.ensures.value) ∙ sym c.is_idle.ensures.value ∙ c.if-is_idle.false in
+    let change : ChangesAt name f es tree.entries = written_by f es tree.entries c.in-Some.lock.now c.step.new.self c.self.invariant.1 (sym c.in-Some.ensures.value) c.step.ensures.value busy (c.get_mut.follows.holds c.step.new.self).0 in
     rw (← c.self.view_is) (record {
-      after = written_by f es tree.entries c.in-Some.lock.now c.step.new.self c.self.invariant.1 (sym c.in-Some.ensures.value) c.step.ensures.value busy
-          (c.get_mut.follows.holds c.step.new.self).0;
+      after = change;
+      table = record { ascend = (c.get_mut.follows.holds c.step.new.self).4; none_idle = change_none_idle is_desk_idle no_desk_lock name f es tree.entries c.self.invariant.1 change };
     })
 
 pub returns-in_default : goal.returns-in_default
@@ -76,4 +78,5 @@ returns-in_default c =
     let none : lookup (is_at (slice_cmp nat_cmp name)) es ≡ None = sym c.in_default.ensures.value in
     rw (← c.self.view_is) (record {
       after = subst (ChangesAt name f es) (sym (ap (λ m. m.entries) c.get_mut.follows.holds-at-none)) (change_none is_desk_idle no_desk_lock name f es c.self.invariant.1 none refl (still_idle c.args.event));
+      table = rw c.get_mut.follows.holds-at-none (record { ascend = c.self.invariant.0; none_idle = c.self.invariant.1 });
     })

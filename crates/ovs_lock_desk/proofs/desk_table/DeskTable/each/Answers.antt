@@ -12,4 +12,7 @@ invariant_of-self c =
 pub returns : goal.returns
 returns c =
     let kept = changed_pairs is_desk_idle _ (step c.args.event) _ (λ k v b w f' t. search rules) _ _ c.retain.ensures.filtered in
-    rw (← c.self.view_is) (record { after = kept })
+    rw (← c.self.view_is) (record {
+      after = kept;
+      table = record { ascend = c.retain.ensures.ordered; none_idle = subst NoneIdle (sym kept) (changed_none_idle is_desk_idle (step c.args.event) c.self.inside.locks.entries) };
+    })

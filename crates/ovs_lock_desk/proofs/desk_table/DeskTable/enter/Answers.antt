@@ -6,7 +6,8 @@ use Rattle.std.specs.Map.{lookup, set_value}
 use Rattle.std.specs.Ordering.{nat_cmp}
 use Rattle.std.proofs.lemmas.Map.Steps.{set_value_same}
 use Rattle.ovs_lock_desk.specs.DeskLock.{DeskLockValue, no_desk_lock, is_desk_idle, asked_here}
-use Rattle.ovs_lock_desk.specs.LockDesk.{DeskLocks, ChangesAt, NoneIdle}
+use Rattle.ovs_lock_desk.specs.LockDesk.{DeskLocks, ChangesAt, NoneIdle, IsDeskTable}
+use Rattle.ovs_locks.specs.ByName.{Ascends}
 use Rattle.ovs_locks.proofs.ByName.{change_written, change_put, change_none_idle}
 use Rattle.ovs_lock_desk.proofs.desk_table.DeskTable.enter.Goals as goal
 
@@ -26,6 +27,10 @@ module _ (name : List ℕ) (f : DeskLockValue → DeskLockValue) (es written : D
   still : {T E : Type 0} (r : Result T E) → OnOk r (w ≡ f l) → OnOk r (is_desk_idle w ≡ false) → OnErr r (w ≡ l) → NoneIdle written
   still (Ok x) is busy un = change_none_idle is_desk_idle no_desk_lock name f es written none (subst (ChangesAt name f es) (sym wrote) (change_written is_desk_idle no_desk_lock name f es none l w there is (ap is_desk_idle (sym is) ∙ busy)))
   still (Err e) is busy un = subst NoneIdle (sym (same un)) none
+
+  table_of : {T E : Type 0} (r : Result T E) → Ascends written → OnOk r (w ≡ f l) → OnOk r (is_desk_idle w ≡ false) → OnErr r (w ≡ l) → OnOk r (IsDeskTable written)
+  table_of {T} {E} (Ok x) ascend is busy un = record { ascend = ascend; none_idle = still {T = T} {E = E} (Ok x) is busy un }
+  table_of (Err e) ascend is busy un = tt
 
 pub invariant_of-self : goal.invariant_of-self
 invariant_of-self c =
@@ -57,3 +62,12 @@ returns-in-Ok-clause-after c =
     let busy : is_desk_idle (f no_desk_lock) ≡ false = ap is_desk_idle (sym is) ∙ c.in_ok-answer.ensures.busy c.requires.enters in
     rw (← c.self.view_is) (subst (ChangesAt name f es) (sym (c.in-Ok.ensures.value ∙ ap (λ m. insert_entry (slice_cmp nat_cmp) m.entries name c.ask-2.new.self) c.get_mut.follows.holds-at-none))
     (change_put is_desk_idle no_desk_lock name f es c.self.invariant.1 c.ask-2.new.self none is refl busy))
+
+pub returns-in-Some-clause-table : goal.returns-in-Some-clause-table
+returns-in-Some-clause-table c =
+    let tree = c.get_mut.follows.lender c.ask.new.self in
+    table_of c.args.name.now (asked_here c.args.has_source c.args.who c.args.verb c.args.id.now) c.self.inside.locks.entries tree.entries c.in-Some.lock.now c.ask.new.self
+    c.self.invariant.1 (sym c.in-Some.ensures.value) (c.get_mut.follows.holds c.ask.new.self).0 c.ask.result (c.get_mut.follows.holds c.ask.new.self).4 c.ask.ensures.after (c.ask.ensures.busy c.requires.enters) c.ask.ensures.unchanged
+
+pub returns-in-Ok-clause-table : goal.returns-in-Ok-clause-table
+returns-in-Ok-clause-table c = c.in-Ok.ensures.table

@@ -13,4 +13,5 @@ returns c =
     let left = sends_pairs _ (λ f. f.0) (λ f. f.1) c.args.number (λ g k v b w g' t. search rules) _ refl refl _ _ c.self.invariant.1 c.retain.ensures.filtered in
     rw (← c.self.view_is) (record {
       after = subst (SendsFirst c.args.number c.self.inside.locks.entries) (sym left) (sends_first c.args.number c.self.inside.locks.entries c.retain.ensures.was_ordered c.self.invariant.1);
+      table = record { ascend = c.retain.ensures.ordered; none_idle = subst NoneIdle (sym left) (sent_none_idle c.args.number c.self.inside.locks.entries c.self.invariant.1) };
     })

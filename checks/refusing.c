@@ -1,0 +1,143 @@
+/* Stands between a program and its allocator: counts the calls that ask for memory, and refuses some of them.
+
+   It is preloaded (LD_PRELOAD); memory.py builds it and says what is refused. OVS_REFUSALS names a file of at least the size of a struct
+   rules, which this program maps and the check maps too: so what the check writes there holds from the next call on, and what it reads
+   there is how far the program is. Without that file nothing is counted or refused.
+
+   Calls are numbered from 1, over all threads, in the order in which they come. A refused call gives what malloc(3) says of want of memory:
+   null and ENOMEM, and what was to grow is left as it was. Giving memory back isn't a call for it. */
+#define _GNU_SOURCE
+#include <errno.h>
+#include <fcntl.h>
+#include <stdatomic.h>
+#include <stdbool.h>
+#include <stdint.h>
+#include <stdlib.h>
+#include <string.h>
+#include <sys/mman.h>
+#include <sys/stat.h>
+#include <unistd.h>
+
+enum kind { MALLOC, CALLOC, REALLOC, ALIGNED, KINDS };
+
+struct rules {
+    /* What is refused: the calls from the first to the last of these numbers, and those for more bytes than `most`. */
+    _Atomic uint64_t first, last, most;
+    /* What was seen: calls, those that were refused, the most bytes that one call asked for, and the calls of each kind. */
+    _Atomic uint64_t calls, refused, largest, of_kind[KINDS];
+};
+
+/* The C library's own functions, by the names that it keeps for those who stand before them. */
+void *__libc_malloc(size_t);
+void *__libc_calloc(size_t, size_t);
+void *__libc_realloc(void *, size_t);
+void *__libc_memalign(size_t, size_t);
+
+static struct rules *rules;
+
+/* A program may be started by a shell, which looks at the same environment; it isn't the one that is meant. */
+static bool is_shell(void)
+{
+    const char *name = program_invocation_short_name;
+    return strcmp(name, "sh") == 0 || strcmp(name, "dash") == 0 || strcmp(name, "bash") == 0;
+}
+
+__attribute__((constructor)) static void begin(void)
+{
+    const char *path = getenv("OVS_REFUSALS");
+    struct stat found;
+    if (path == NULL || is_shell())
+        return;
+    int file = open(path, O_RDWR | O_CLOEXEC);
+    if (file < 0)
+        return;
+    if (fstat(file, &found) == 0 && (size_t)found.st_size >= sizeof *rules) {
+        void *mapped = mmap(NULL, sizeof *rules, PROT_READ | PROT_WRITE, MAP_SHARED, file, 0);
+        rules = mapped == MAP_FAILED ? NULL : mapped;
+    }
+    close(file);
+}
+
+static void note_size(size_t size)
+{
+    uint64_t largest = atomic_load(&rules->largest);
+    while (size > largest && !atomic_compare_exchange_weak(&rules->largest, &largest, size))
+        ;
+}
+
+/* Counts a call, and says whether it is given what it asks for. */
+static bool is_given(enum kind kind, size_t size)
+{
+    if (rules == NULL)
+        return true;
+    uint64_t number = atomic_fetch_add(&rules->calls, 1) + 1;
+    atomic_fetch_add(&rules->of_kind[kind], 1);
+    note_size(size);
+    bool is_named = number >= atomic_load(&rules->first) && number <= atomic_load(&rules->last);
+    if (!is_named && size <= atomic_load(&rules->most))
+        return true;
+    atomic_fetch_add(&rules->refused, 1);
+    errno = ENOMEM;
+    return false;
+}
+
+/* The product of a count and a size, or the greatest size where it is none. */
+static size_t product(size_t count, size_t size)
+{
+    size_t all;
+    return __builtin_mul_overflow(count, size, &all) ? SIZE_MAX : all;
+}
+
+void *malloc(size_t size)
+{
+    return is_given(MALLOC, size) ? __libc_malloc(size) : NULL;
+}
+
+void *calloc(size_t count, size_t size)
+{
+    return is_given(CALLOC, product(count, size)) ? __libc_calloc(count, size) : NULL;
+}
+
+void *realloc(void *old, size_t size)
+{
+    return is_given(REALLOC, size) ? __libc_realloc(old, size) : NULL;
+}
+
+void *reallocarray(void *old, size_t count, size_t size)
+{
+    return is_given(REALLOC, product(count, size)) ? __libc_realloc(old, product(count, size)) : NULL;
+}
+
+void *memalign(size_t alignment, size_t size)
+{
+    return is_given(ALIGNED, size) ? __libc_memalign(alignment, size) : NULL;
+}
+
+void *aligned_alloc(size_t alignment, size_t size)
+{
+    return memalign(alignment, size);
+}
+
+int posix_memalign(void **given, size_t alignment, size_t size)
+{
+    if (alignment % sizeof(void *) != 0 || (alignment & (alignment - 1)) != 0 || alignment == 0)
+        return EINVAL;
+    int before = errno;
+    void *made = memalign(alignment, size);
+    errno = before;
+    if (made == NULL)
+        return ENOMEM;
+    *given = made;
+    return 0;
+}
+
+void *valloc(size_t size)
+{
+    return memalign((size_t)sysconf(_SC_PAGESIZE), size);
+}
+
+void *pvalloc(size_t size)
+{
+    size_t page = (size_t)sysconf(_SC_PAGESIZE);
+    return memalign(page, (size + page - 1) & ~(page - 1));
+}

@@ -1,0 +1,36 @@
+-- What a desk gives to a session that was shown where the first answer stands.
+use Rattle.std.proofs.Common.{◌≡◌, ◌∙◌, ℕ, Bool, true, List, Option, Some, None, Ok, Err, ap}
+use Rattle.std.specs.Prelude.{Result, IfOk, IfSome, option_map}
+use Rattle.std.specs.Option.{ForSome}
+use Rattle.ovs_authority.specs.Owing.{Owing, CollectsTo}
+use Rattle.ovs_desk.specs.Ledger.{standing_of}
+use Rattle.ovs_desk.specs.RelayDesk.{RelayValue, owing_of}
+use Rattle.ovs_desk.specs.Relaying.{Collects}
+use Rattle.ovs_desk.specs.ShownRuns.{IsShownFirst}
+use Rattle.ovs_desk.specs.declared.pending.Pending.{Pending}
+use Rattle.ovs_json.specs.declared.no_memory.NoMemory.{NoMemory}
+use Rattle.ovs_links.specs.declared.step.Step.{Step}
+use Rattle.ovs_service.specs.Replies.{IsAnswer}
+use Rattle.ovs_views.specs.Published.{is_shown}
+use Rattle.ovs_wire.specs.declared.message.Message.{Message}
+use Rattle.ovs_wire.specs.declared.message.Message.TheVariants.{Request, Reply, Notice}
+use Rattle.ovs_engine.specs.Collecting.{IsCollected}
+
+answer : (old new : Owing) (m : Message) → CollectsTo old (Some m) new → IsAnswer m
+answer old new (Reply result error id) h = tt
+answer old new (Notice method params) h = tt
+answer old new (Request method params id) h = h
+
+-- where the standing of the first is shown, the first is shown
+pub first_shown : (steps : List Step) (first : Option Pending) (standing : Option ℕ) → standing ≡ option_map standing_of first
+    → ForSome standing (λ id. is_shown steps id ≡ true) → ForSome first (λ e. is_shown steps (standing_of e) ≡ true)
+first_shown steps first standing same shown = λ e is. shown (standing_of e) (same ∙ ap (λ (o : Option Pending). option_map standing_of o) is)
+
+pub collected : (held : Bool) (who : ℕ) (steps : List Step) (d e : RelayValue) (r : Result (Option Message) NoMemory)
+    → (held ≡ true → IsShownFirst who (is_shown steps) d.forwards.ledger)
+    → IfOk r (λ m. CollectsTo (owing_of d who) m (owing_of e who)) → IfOk r (λ m. Collects who d m e)
+    → IfOk r (λ o. IfSome o (λ m. IsCollected held who steps m × IsAnswer m))
+collected held who steps d e (Ok None) shown given does = tt
+collected held who steps d e (Ok (Some m)) shown given does =
+    (record { desk = d; left = e; shown = shown; collects = does }, answer (owing_of d who) (owing_of e who) m given)
+collected held who steps d e (Err x) shown given does = tt

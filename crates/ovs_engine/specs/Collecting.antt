@@ -1,0 +1,16 @@
+-- What a relay's desk gives a session of a running node.
+use Rattle.std.specs.Prelude.{◌≡◌, ℕ, Bool, true, List, Some}
+use Rattle.ovs_links.specs.declared.step.Step.{Step}
+use Rattle.ovs_wire.specs.declared.message.Message.{Message}
+use Rattle.ovs_desk.specs.RelayDesk.{RelayValue}
+use Rattle.ovs_desk.specs.Relaying.{Collects}
+use Rattle.ovs_desk.specs.ShownRuns.{IsShownFirst}
+use Rattle.ovs_views.specs.Published.{is_shown}
+
+-- A desk gave the message to the session, as it gives what it owes. Where answers are held back, the session was shown these steps, and
+-- where the first answer stood that was due to it is 0 or one of them.
+pub record IsCollected (held : Bool) (who : ℕ) (steps : List Step) (m : Message) : Type 0 where
+  pub desk : RelayValue
+  pub left : RelayValue
+  pub shown : held ≡ true → IsShownFirst who (is_shown steps) desk.forwards.ledger
+  pub collects : Collects who desk (Some m) left

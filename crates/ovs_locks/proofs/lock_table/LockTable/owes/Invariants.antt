@@ -1,6 +1,0 @@
-use Rattle.std.proofs.Common.{◌≡◌}
-use Rattle.ovs_locks.specs.LockTable.{owed_to}
-use Rattle.ovs_locks.proofs.lock_table.LockTable.owes.Given as goal
-
-abbrev pub invariant-loop-name : goal.invariant-loop-name
-invariant-loop-name l = owed_to l.who l._name-iterator ≡ owed_to l.who l.self

@@ -1,0 +1,8 @@
+use Rattle.ovs_service.proofs.Behind.{behind}
+use Rattle.ovs_service.proofs.laws.answers_come_behind_what_they_stand_for.Goals as goal
+
+pub returns : goal.returns
+returns g c = record {
+  behind = λ who before after held messages start now given gives.
+      behind g.K.NodeName.schema (g.D.Desk.replies who) (λ held. g.D.Desk.owes held who) before after held messages start now given gives;
+}

@@ -1,0 +1,41 @@
+//! How sessions spread over the workers at one address.
+
+use std::sync::atomic::{AtomicU64, Ordering};
+
+/// The workers that take connections at one address, and how many sessions they serve in all.
+#[derive(Drop)]
+pub(crate) struct Crowd {
+    workers: AtomicU64,
+    sessions: AtomicU64,
+}
+
+impl Crowd {
+    /// No worker.
+    pub(crate) fn new() -> Crowd {
+        Crowd {
+            workers: AtomicU64::new(0),
+            sessions: AtomicU64::new(0),
+        }
+    }
+
+    /// One worker more.
+    pub(crate) fn add_worker(&self) {
+        self.workers.fetch_add(1, Ordering::SeqCst);
+    }
+
+    /// One session more.
+    pub(crate) fn add_session(&self) {
+        self.sessions.fetch_add(1, Ordering::SeqCst);
+    }
+
+    /// One session less.
+    pub(crate) fn remove_session(&self) {
+        self.sessions.fetch_sub(1, Ordering::SeqCst);
+    }
+
+    /// Whether so many sessions are more than a worker's part of all.
+    pub(crate) fn is_above_part(&self, sessions: u64) -> bool {
+        let workers = self.workers.load(Ordering::SeqCst);
+        sessions.saturating_mul(workers) > self.sessions.load(Ordering::SeqCst)
+    }
+}
