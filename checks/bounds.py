@@ -261,9 +261,9 @@ def clients_with_many_names_at_a_source(lab):
 
 
 @check(280)
-def a_client_with_many_names_at_a_relay(lab):
-    """Beside a session of a relay with as many names of locks as it may have another's small write takes what it takes elsewhere."""
-    names_beside([lab.tier()[1], lab.tier()[1]], 1)
+def clients_with_many_names_at_a_relay(lab):
+    """Beside sessions of a relay with as many names of locks as they may have another's small write takes what it takes elsewhere."""
+    names_beside([lab.tier()[1], lab.tier()[1]], CLIENTS)
 
 
 @check(240)

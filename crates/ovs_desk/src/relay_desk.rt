@@ -234,12 +234,12 @@ impl RelayDesk {
         };
         let request = lock_request(alloc, method_of(verb), name)?;
         let number = FIRST_LOCK + self.asked;
-        self.locks.sent(number);
+        self.locks.sent(alloc, number)?;
         self.asked += 1;
         Ok(Some(request.into_message(Id::from_number(number))))
     }
 
-    /// What the source says. An answer to a request that isn't open is ignored. No memory is taken.
+    /// What the source says. An answer to a request that isn't open is ignored. No memory is needed.
     ///
     /// # Errors
     /// `BadReply` where a Lock or Steal that is open was answered by neither `{"locked": BOOL}` nor an error; nothing is
@@ -319,7 +319,7 @@ impl RelayDesk {
         self.locks.lost_source();
     }
 
-    /// There is a source again, which is to be asked for each lock that a session waits for. No memory is taken.
+    /// There is a source again, which is to be asked for each lock that a session waits for. No memory is needed.
     pub fn found_source(&mut self)
         ensures after { FindsSource self.old self.new }
     {

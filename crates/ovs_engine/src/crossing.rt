@@ -5,7 +5,7 @@ ghost use denote.Param.Send.{IsSend};
 ghost use Rattle.ovs_desk.specs.contracts.relay_desk.RelayDesk as relay_desk;
 
 use ovs_desk::{Forwards, RelayDesk};
-use ovs_lock_desk::LockDesk;
+use ovs_lock_desk::lock_desk_sends;
 
 // What is known of the type is a fact from here on.
 fn sends<T: Send>()
@@ -17,6 +17,6 @@ pub fn relay_desk_sends()
     ensures { IsSend relay_desk.the_row }
 {
     sends::<Forwards>();
-    sends::<LockDesk>();
+    lock_desk_sends();
     sends::<RelayDesk>();
 }

@@ -7,6 +7,8 @@ use Rattle.std.proofs.lemmas.Bool.Decides.{nat_tests}
 use Rattle.serde_json.specs.Data.{Data}
 use Rattle.ovs_locks.specs.declared.asker.Asker.{Asker}
 use Rattle.ovs_lock_desk.specs.declared.course.Course.{Course}
+use Rattle.ovs_lock_desk.specs.declared.course.Course.TheVariants.{Idle, Sent, Waiting, Held}
+use Rattle.ovs_lock_desk.specs.declared.course.Due.TheVariants as due
 use Rattle.ovs_lock_desk.specs.declared.course.Event.TheVariants as events
 use Rattle.ovs_lock_desk.specs.declared.course.LockVerb.{LockVerb}
 use Rattle.ovs_lock_desk.specs.declared.course.LockVerb.TheVariants as verbs
@@ -15,7 +17,7 @@ use Rattle.ovs_locks.specs.declared.notice.LockNotice.{LockNotice}
 use Rattle.ovs_locks.specs.Lock.{LockValue, is_in, is_free, is_idle, stands, put_first, without, forgotten, name_told}
 use Rattle.ovs_lock_desk.specs.Course.{is_held, is_still, course_as_lock}
 use Rattle.ovs_lock_desk.specs.LateSteal.{is_open, is_of, is_own_open, is_due_late, late_of, without_one, is_empty_late}
-use Rattle.ovs_lock_desk.specs.DeskLock.{DeskLockValue, is_desk_idle, own_steal_open, left, stolen_here, asked_here, answer_here, step}
+use Rattle.ovs_lock_desk.specs.DeskLock.{DeskLockValue, no_desk_lock, is_desk_idle, own_steal_open, left, stolen_here, asked_here, answer_here, step}
 use Rattle.ovs_lock_desk.specs.LockDesk.{answers_here, notices_here, open_here}
 use Rattle.ovs_locks.proofs.NextNotice.{lock_heard, lock_apart, one_heard, named_for}
 use Rattle.ovs_locks.proofs.Standing.{appended_alone, stolen_alone, without_alone, in_dropped, not_owed_for}
@@ -48,6 +50,24 @@ idles l e =
     let b = both (is_free l.lock.queue) (is_free l.lock.stolen) a.0 in
     let c = both (is_empty_late l.late) (is_still l.course) a.1 in
     record { queue = no_askers l.lock.queue b.0; stolen = no_askers l.lock.stolen b.1; late = no_late l.late c.0 }
+
+still_course : (c : Course) → is_still c ≡ true → c ≡ Idle due.Nothing
+still_course (Idle due.Nothing) e = refl
+still_course (Idle due.Lock) e = absurd cc
+still_course (Idle due.Steal) e = absurd cc
+still_course (Idle due.Unlock) e = absurd cc
+still_course (Idle due.UnlockLock) e = absurd cc
+still_course (Idle due.UnlockSteal) e = absurd cc
+still_course (Sent n) e = absurd cc
+still_course Waiting e = absurd cc
+still_course Held e = absurd cc
+
+-- there is but one
+pub idle_is_none : (l : DeskLockValue) → is_desk_idle l ≡ true → l ≡ no_desk_lock
+idle_is_none l e =
+    let i = idles l e in
+    let course : l.course ≡ Idle due.Nothing = still_course l.course (both (is_empty_late l.late) (is_still l.course) (both (is_idle l.lock) (is_empty_late l.late && is_still l.course) e).1).1 in
+    λ j. record { lock = record { queue = i.queue j; stolen = i.stolen j }; late = i.late j; course = course j }
 
 pub open_idle : (who : ℕ) (name : List ℕ) (l : DeskLockValue) → is_desk_idle l ≡ true → open_here who name l ≡ []
 open_idle who name l e = let i = idles l e in rw i.late refl

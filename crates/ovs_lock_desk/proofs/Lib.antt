@@ -2,8 +2,14 @@ pub mod Busy
 pub mod Concerned
 pub mod DeskOwed
 pub mod DeskTables
+pub mod DueUp
 pub mod Holding
 pub mod Named
 pub mod Names
-pub mod Sending
+pub mod Requests
+pub mod OwedMarks
+pub mod Settled
 pub mod Silence
+pub mod Stepping
+pub mod Telling
+pub mod Unowed

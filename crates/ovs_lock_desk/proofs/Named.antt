@@ -17,7 +17,7 @@ use Rattle.ovs_locks.proofs.ByName.{same_name}
 use Rattle.ovs_locks.proofs.Gathering.{test}
 use Rattle.ovs_locks.proofs.Listed.{reads}
 
-past : {X : Type 0} (q : List ℕ) (e : List ℕ × X) (es : ByName X) → Ascends (e ∷ es) → test q e.0 ≡ true → lookup (test q) es ≡ None
+pub past : {X : Type 0} (q : List ℕ) (e : List ℕ × X) (es : ByName X) → Ascends (e ∷ es) → test q e.0 ≡ true → lookup (test q) es ≡ None
 past q e es s at = lookup-none (test q) es (none_past_head (eq_by_cmp_equiv nat_list_cmp_total) q e es (IsDistinct-from_sorted (slice_cmp nat_cmp) (keys_of (e ∷ es)) s) at)
 
 -- ---- what holds of the lock of a name after a change

@@ -1,8 +1,9 @@
 -- The names of the sessions after each call on a desk, and what they tell.
-use Rattle.std.proofs.Common.{◌≡◌, ℕ, List, [], ◌∷◌, ◌++◌, Bool, true, false, cond, ◌||◌, Option, Some, None, refl, sym, ap, subst, ◌∙◌}
-use Rattle.std.specs.Prelude.{◌==◌, not, ◌&&◌, filter, map, is_some, slice_get}
+use Rattle.std.proofs.Common.{◌≡◌, ℕ, List, [], ◌∷◌, ◌++◌, Bool, true, false, cond, ◌||◌, Option, Some, None, refl, sym, ap, subst, ◌∙◌, length, ◌≤◌, arith}
+use Rattle.std.specs.Prelude.{◌==◌, not, ◌&&◌, is_some, slice_get}
 use Rattle.std.specs.List.{list_any}
 use Rattle.std.proofs.lemmas.Bool.{eqb-true, eqb-false}
+use Rattle.std.proofs.lemmas.List.{length-append}
 use Rattle.serde_json.specs.Data.{Data}
 use Rattle.ovs_locks.specs.declared.notice.LockNotice.{LockNotice}
 use Rattle.ovs_locks.specs.ByName.{Ascends, gathered}
@@ -19,24 +20,76 @@ use Rattle.ovs_lock_desk.specs.declared.course.LockVerb.{LockVerb}
 use Rattle.ovs_lock_desk.specs.declared.late_steal.LateSteal.{LateSteal}
 use Rattle.ovs_lock_desk.specs.LateSteal.{is_of, is_open, is_due_late}
 use Rattle.ovs_lock_desk.specs.DeskLock.{DeskLockValue, no_desk_lock, is_desk_idle, concerns, asked_here, step}
-use Rattle.ovs_lock_desk.specs.LockDesk.{DeskLocks, ChangesAt, SendsFirst, SendsOf, AreNamed, desk_lock_at, stepped, first_due_up, locks_of, owes_here, owes_at, answers_here, notices_here}
+use Rattle.ovs_lock_desk.specs.LockDesk.{DeskLocks, ChangesAt, SendsFirst, SendsOf, AreListed, AreNamed, desk_lock_at, stepped, first_due_up, locks_of, owes_here, owes_at}
 use Rattle.ovs_lock_desk.proofs.Concerned.{none_stepped, none_asked, none_ended, neither}
 use Rattle.ovs_lock_desk.proofs.Named.{after_change, after_changes, names_tell}
 
-abbrev IsFree : ℕ → DeskLockValue → Type 0
-IsFree x l = concerns x l ≡ false
+-- ---- lists of names, by a number
 
--- ---- after each call
+module _ (test_of : ℕ → DeskLockValue → Bool) where
+  abbrev pub Fails : ℕ → DeskLockValue → Type 0
+  Fails x l = test_of x l ≡ false
+
+  -- one lock changed, and all that fail for it fail still
+  pub listed_at : ((x : ℕ) → Fails x no_desk_lock) → (name : List ℕ) (f : DeskLockValue → DeskLockValue) (old new : DeskLocks) (s : Sessions) → Ascends old → AreListed test_of old s → ChangesAt name f old new
+      → ((x : ℕ) → mark_at x name s ≡ None → Fails x (desk_lock_at name old) → Fails x (f (desk_lock_at name old))) → AreListed test_of new s
+  listed_at nothing name f old new s ascend listed change keeps x n none =
+      after_change is_desk_idle no_desk_lock (Fails x) (nothing x) n name f old new change ascend
+      (λ same. let here = subst (λ (k : List ℕ). mark_at x k s ≡ None) same none in keeps x here (listed x name here)) (listed x n none)
+
+  -- all locks changed
+  pub listed_each : ((x : ℕ) → Fails x no_desk_lock) → (event : Event) (old new : DeskLocks) (s : Sessions) → Ascends old → AreListed test_of old s → new ≡ stepped event old
+      → ((x : ℕ) (l : DeskLockValue) → Fails x l → Fails x (step event l)) → AreListed test_of new s
+  listed_each nothing event old new s ascend listed change keeps x n none =
+      subst (λ (es : DeskLocks). Fails x (desk_lock_at n es)) (sym change)
+      (after_changes is_desk_idle no_desk_lock (Fails x) (nothing x) n (step event) old ascend (keeps x (desk_lock_at n old) (listed x n none)))
+
+  -- all locks changed, none passes for one number any more, and its names were taken out
+  pub listed_without : ((x : ℕ) → Fails x no_desk_lock) → (who : ℕ) (event : Event) (old new : DeskLocks) (s t : Sessions) → Ascends old → AreListed test_of old s → new ≡ stepped event old → Forgets who s t
+      → ((x : ℕ) (l : DeskLockValue) → Fails x l → Fails x (step event l)) → ((l : DeskLockValue) → Fails who (step event l)) → AreListed test_of new t
+  listed_without nothing who event old new s t ascend listed change forgets keeps gone x n none = by (x == who) refl
+    where
+      by : (b : Bool) → (x == who) ≡ b → Fails x (desk_lock_at n new)
+      by true e =
+          subst (λ (y : ℕ). Fails y (desk_lock_at n new)) (sym (eqb-true x who e))
+          (subst (λ (es : DeskLocks). Fails who (desk_lock_at n es)) (sym change)
+          (after_changes is_desk_idle no_desk_lock (Fails who) (nothing who) n (step event) old ascend (gone (desk_lock_at n old))))
+      by false e =
+          listed_each nothing event old new s ascend listed change keeps x n (ap (mark_in n) (sym (forgets.sessions x (eqb-false x who e))) ∙ none)
+
+  -- a name was entered
+  pub listed_entered : (who : ℕ) (name : List ℕ) (mark : Bool) (locks : DeskLocks) (s t : Sessions) → AreListed test_of locks s → Notes s who name (Some mark) t → AreListed test_of locks t
+  listed_entered who name mark locks s t listed note x n none = by (x == who) (test name n) refl refl
+    where
+      by : (b c : Bool) → (x == who) ≡ b → test name n ≡ c → Fails x (desk_lock_at n locks)
+      by true true e at =
+          let here = subst (λ (k : List ℕ). mark_at who k t ≡ None) (same_name name n at) (subst (λ (y : ℕ). mark_at y n t ≡ None) (eqb-true x who e) none) in
+          absurd (let clash = sym note.at ∙ here in cc)
+      by true false e at =
+          let here = subst (λ (y : ℕ). mark_at y n t ≡ None) (eqb-true x who e) none in
+          subst (λ (y : ℕ). Fails y (desk_lock_at n locks)) (sym (eqb-true x who e)) (listed who n (sym (note.others n (other_name name n at)) ∙ here))
+      by false c e at = listed x n (ap (mark_in n) (sym (note.sessions x (eqb-false x who e))) ∙ none)
+
+  -- a name for which the test fails was taken out
+  pub listed_released : (who : ℕ) (name : List ℕ) (locks : DeskLocks) (s t : Sessions) (m : Option Bool) → AreListed test_of locks s → Fails who (desk_lock_at name locks) → Notes s who name m t → AreListed test_of locks t
+  listed_released who name locks s t m listed free note x n none = by (x == who) (test name n) refl refl
+    where
+      by : (b c : Bool) → (x == who) ≡ b → test name n ≡ c → Fails x (desk_lock_at n locks)
+      by true true e at =
+          subst (λ (y : ℕ). Fails y (desk_lock_at n locks)) (sym (eqb-true x who e)) (subst (λ (k : List ℕ). Fails who (desk_lock_at k locks)) (sym (same_name name n at)) free)
+      by true false e at =
+          let here = subst (λ (y : ℕ). mark_at y n t ≡ None) (eqb-true x who e) none in
+          subst (λ (y : ℕ). Fails y (desk_lock_at n locks)) (sym (eqb-true x who e)) (listed who n (sym (note.others n (other_name name n at)) ∙ here))
+      by false c e at = listed x n (ap (mark_in n) (sym (note.sessions x (eqb-false x who e))) ∙ none)
+
+-- ---- the names of the sessions after each call
 
 pub named_at : (name : List ℕ) (event : Event) (old new : DeskLocks) (s : Sessions) → Ascends old → AreNamed old s → ChangesAt name (step event) old new → AreNamed new s
-named_at name event old new s ascend named change x n none =
-    after_change is_desk_idle no_desk_lock (IsFree x) refl n name (step event) old new change ascend
-    (λ same. none_stepped x event (desk_lock_at name old) (named x name (subst (λ (k : List ℕ). mark_at x k s ≡ None) same none))) (named x n none)
+named_at name event old new s ascend named change =
+    listed_at concerns (λ x. refl) name (step event) old new s ascend named change (λ x none free. none_stepped x event (desk_lock_at name old) free)
 
 pub named_each : (event : Event) (old new : DeskLocks) (s : Sessions) → Ascends old → AreNamed old s → new ≡ stepped event old → AreNamed new s
-named_each event old new s ascend named change x n none =
-    subst (λ (es : DeskLocks). IsFree x (desk_lock_at n es)) (sym change)
-    (after_changes is_desk_idle no_desk_lock (IsFree x) refl n (step event) old ascend (none_stepped x event (desk_lock_at n old) (named x n none)))
+named_each event old new s ascend named change = listed_each concerns (λ x. refl) event old new s ascend named change (λ x l free. none_stepped x event l free)
 
 pub named_sent : (number : ℕ) (old new : DeskLocks) (s : Sessions) → Ascends old → AreNamed old s → SendsFirst number old new → AreNamed new s
 named_sent number old new s ascend named sends = by (first_due_up old) sends
@@ -47,66 +100,23 @@ named_sent number old new s ascend named sends = by (first_due_up old) sends
 
 -- a session ended, and its names were taken out
 pub named_ended : (who : ℕ) (old new : DeskLocks) (s t : Sessions) → Ascends old → AreNamed old s → new ≡ stepped (events.Ended who) old → Forgets who s t → AreNamed new t
-named_ended who old new s t ascend named change forgets x n none = by (x == who) refl
-  where
-    by : (b : Bool) → (x == who) ≡ b → IsFree x (desk_lock_at n new)
-    by true e =
-        subst (λ (y : ℕ). IsFree y (desk_lock_at n new)) (sym (eqb-true x who e))
-        (subst (λ (es : DeskLocks). IsFree who (desk_lock_at n es)) (sym change)
-        (after_changes is_desk_idle no_desk_lock (IsFree who) refl n (step (events.Ended who)) old ascend (none_ended who (desk_lock_at n old))))
-    by false e =
-        named_each (events.Ended who) old new s ascend named change x n (ap (mark_in n) (sym (forgets.sessions x (eqb-false x who e))) ∙ none)
+named_ended who old new s t ascend named change forgets =
+    listed_without concerns (λ x. refl) who (events.Ended who) old new s t ascend named change forgets (λ x l free. none_stepped x (events.Ended who) l free) (λ l. none_ended who l)
 
--- a name was entered
-pub named_entered : (who : ℕ) (name : List ℕ) (mark : Bool) (locks : DeskLocks) (s t : Sessions) → AreNamed locks s → Notes s who name (Some mark) t → AreNamed locks t
-named_entered who name mark locks s t named note x n none = by (x == who) (test name n) refl refl
-  where
-    by : (b c : Bool) → (x == who) ≡ b → test name n ≡ c → IsFree x (desk_lock_at n locks)
-    by true true e at =
-        let here = subst (λ (k : List ℕ). mark_at who k t ≡ None) (same_name name n at) (subst (λ (y : ℕ). mark_at y n t ≡ None) (eqb-true x who e) none) in
-        absurd (let clash = sym note.at ∙ here in cc)
-    by true false e at =
-        let here = subst (λ (y : ℕ). mark_at y n t ≡ None) (eqb-true x who e) none in
-        subst (λ (y : ℕ). IsFree y (desk_lock_at n locks)) (sym (eqb-true x who e)) (named who n (sym (note.others n (other_name name n at)) ∙ here))
-    by false c e at = named x n (ap (mark_in n) (sym (note.sessions x (eqb-false x who e))) ∙ none)
-
--- and its session asked
+-- a name was entered, and its session asked
 pub named_asked : (has_source : Bool) (who : ℕ) (verb : LockVerb) (id : Data) (name : List ℕ) (mark : Bool) (old new : DeskLocks) (s t : Sessions) → Ascends old → AreNamed old s
     → Notes s who name (Some mark) t → ChangesAt name (asked_here has_source who verb id) old new → AreNamed new t
-named_asked has_source who verb id name mark old new s t ascend named note change x n none =
-    let before = named_entered who name mark old s t named note in
-    after_change is_desk_idle no_desk_lock (IsFree x) refl n name (asked_here has_source who verb id) old new change ascend (λ same. by (x == who) refl same before) (before x n none)
+named_asked has_source who verb id name mark old new s t ascend named note change =
+    listed_at concerns (λ x. refl) name (asked_here has_source who verb id) old new t ascend (listed_entered concerns who name mark old s t named note) change
+    (λ x none free. by x none free (x == who) refl)
   where
-    by : (b : Bool) → (x == who) ≡ b → n ≡ name → AreNamed old t → IsFree x (asked_here has_source who verb id (desk_lock_at name old))
-    by true e same before =
-        let here = subst (λ (k : List ℕ). mark_at who k t ≡ None) same (subst (λ (y : ℕ). mark_at y n t ≡ None) (eqb-true x who e) none) in
+    by : (x : ℕ) → mark_at x name t ≡ None → concerns x (desk_lock_at name old) ≡ false → (b : Bool) → (x == who) ≡ b → concerns x (asked_here has_source who verb id (desk_lock_at name old)) ≡ false
+    by x none free true e =
+        let here = subst (λ (y : ℕ). mark_at y name t ≡ None) (eqb-true x who e) none in
         absurd (let clash = sym note.at ∙ here in cc)
-    by false e same before =
-        none_asked x has_source who verb id (eqb-false x who e) (desk_lock_at name old) (before x name (subst (λ (k : List ℕ). mark_at x k t ≡ None) same none))
-
--- a session that has nothing more to do with a lock has its name no more
-pub named_released : (who : ℕ) (name : List ℕ) (locks : DeskLocks) (s t : Sessions) (m : Option Bool) → AreNamed locks s → concerns who (desk_lock_at name locks) ≡ false → Notes s who name m t → AreNamed locks t
-named_released who name locks s t m named free note x n none = by (x == who) (test name n) refl refl
-  where
-    by : (b c : Bool) → (x == who) ≡ b → test name n ≡ c → IsFree x (desk_lock_at n locks)
-    by true true e at =
-        subst (λ (y : ℕ). IsFree y (desk_lock_at n locks)) (sym (eqb-true x who e)) (subst (λ (k : List ℕ). IsFree who (desk_lock_at k locks)) (sym (same_name name n at)) free)
-    by true false e at =
-        let here = subst (λ (y : ℕ). mark_at y n t ≡ None) (eqb-true x who e) none in
-        subst (λ (y : ℕ). IsFree y (desk_lock_at n locks)) (sym (eqb-true x who e)) (named who n (sym (note.others n (other_name name n at)) ∙ here))
-    by false c e at = named x n (ap (mark_in n) (sym (note.sessions x (eqb-false x who e))) ∙ none)
+    by x none free false e = none_asked x has_source who verb id (eqb-false x who e) (desk_lock_at name old) free
 
 -- ---- what they tell
-
-none_due : (who : ℕ) (late : List LateSteal) → list_any (is_of who) late ≡ false → filter (is_due_late who) late ≡ []
-none_due who [] none = refl
-none_due who (e ∷ late) none =
-    let n = neither (is_of who e) (list_any (is_of who) late) none in
-    rw (and_false (not (is_open e)) (is_of who e) n.0) (none_due who late n.1)
-  where
-    and_false : (a b : Bool) → b ≡ false → (a && b) ≡ false
-    and_false true b e = e
-    and_false false b e = refl
 
 none_late : (who : ℕ) (late : List LateSteal) → list_any (is_of who) late ≡ false → list_any (is_due_late who) late ≡ false
 none_late who [] none = refl
@@ -138,7 +148,7 @@ module _ (who : ℕ) where
   abbrev pub owing : List ℕ → DeskLockValue → List (List ℕ)
   owing name l = cond (owes_here who l) (name ∷ []) []
 
-  owing_all : (es : DeskLocks) → is_some (slice_get (gathered owing es) 0) ≡ owes_at who es
+  pub owing_all : (es : DeskLocks) → is_some (slice_get (gathered owing es) 0) ≡ owes_at who es
   owing_all [] = refl
   owing_all (e ∷ es) = by (owes_here who e.1) (owing_all es)
     where
@@ -150,26 +160,31 @@ module _ (who : ℕ) (locks : DeskLocks) (s : Sessions) (ascend : Ascends locks)
   abbrev pub TellOf : {X : Type 0} → (List ℕ → DeskLockValue → List X) → Names → Type 0
   TellOf g ns = gathered (λ name (b : Bool). g name (desk_lock_at name locks)) ns ≡ gathered g locks
 
-  tells : {X : Type 0} (g : List ℕ → DeskLockValue → List X) → ((name : List ℕ) (l : DeskLockValue) → concerns who l ≡ false → g name l ≡ []) → TellOf g (names_at who s)
+  pub tells : {X : Type 0} (g : List ℕ → DeskLockValue → List X) → ((name : List ℕ) (l : DeskLockValue) → concerns who l ≡ false → g name l ≡ []) → TellOf g (names_at who s)
   tells g silent = names_tell (concerns who) no_desk_lock refl g silent locks (names_at who s) ascend names (named who)
-
-  pub answers_tell : TellOf (answers_here who) (names_at who s)
-  answers_tell = tells (answers_here who) (λ name l none. ap (map (λ late. (name, late))) (none_due who l.late (neither (list_any (is_of who) l.late) (stands who l.lock) none).0))
-
-  pub notices_tell : TellOf (notices_here who) (names_at who s)
-  notices_tell = tells (notices_here who) (λ name l none. not_owed_for who name l.lock (neither (list_any (is_of who) l.late) (stands who l.lock) none).1)
 
   pub stood_tell : gathered (λ name (b : Bool). stood who name (desk_lock_at name locks)) (names_at who s) ≡ locks_of who locks
   stood_tell =
       tells (stood who) (λ name l none. ap (λ (b : Bool). cond b ((name, l) ∷ []) []) (neither (list_any (is_of who) l.late) (stands who l.lock) none).1)
       ∙ stood_all who locks
 
-  nothing_owed : (l : DeskLockValue) → concerns who l ≡ false → owes_here who l ≡ false
+  -- so it stands in no more than it has names of
+  pub stood_few : length (locks_of who locks) ≤ length (names_at who s)
+  stood_few = subst (λ (es : DeskLocks). length es ≤ length (names_at who s)) stood_tell (few (names_at who s))
+    where
+      one : (b : Bool) (e : List ℕ × DeskLockValue) → length (cond b (e ∷ []) []) ≤ 1
+      one true e = omega arith
+      one false e = omega arith
+
+      few : (ns : Names) → length (gathered (λ name (b : Bool). stood who name (desk_lock_at name locks)) ns) ≤ length ns
+      few [] = omega arith
+      few (e ∷ ns) =
+          let rest = few ns in
+          let here = one (stands who (desk_lock_at e.0 locks).lock) (e.0, desk_lock_at e.0 locks) in
+          let sum = length-append (stood who e.0 (desk_lock_at e.0 locks)) (gathered (λ name (b : Bool). stood who name (desk_lock_at name locks)) ns) in
+          omega (arith, rest, here, sum)
+
+  pub nothing_owed : (l : DeskLockValue) → concerns who l ≡ false → owes_here who l ≡ false
   nothing_owed l none =
       let n = neither (list_any (is_of who) l.late) (stands who l.lock) none in
       rw (none_late who l.late n.0, not_owed who l.lock n.1) refl
-
-  pub owing_tell : is_some (slice_get (gathered (λ name (b : Bool). owing who name (desk_lock_at name locks)) (names_at who s)) 0) ≡ owes_at who locks
-  owing_tell =
-      ap (λ (xs : List (List ℕ)). is_some (slice_get xs 0)) (tells (owing who) (λ name l none. ap (λ (b : Bool). cond b (name ∷ []) []) (nothing_owed l none)))
-      ∙ owing_all who locks

@@ -94,9 +94,32 @@ course_as_lock (Sent n) = Sent n
 course_as_lock Waiting = Waiting
 course_as_lock Held = Held
 
+-- nothing is asked for: nothing is under way, and at most an Unlock is due
+abbrev pub asks_nothing : Course → Bool
+asks_nothing (Idle due.Nothing) = true
+asks_nothing (Idle due.Lock) = false
+asks_nothing (Idle due.Steal) = false
+asks_nothing (Idle due.Unlock) = true
+asks_nothing (Idle due.UnlockLock) = false
+asks_nothing (Idle due.UnlockSteal) = false
+asks_nothing (Sent n) = false
+asks_nothing Waiting = false
+asks_nothing Held = false
+
+-- a Steal is due, be it after an Unlock
+abbrev pub is_steal_due : Course → Bool
+is_steal_due (Idle due.Nothing) = false
+is_steal_due (Idle due.Lock) = false
+is_steal_due (Idle due.Steal) = true
+is_steal_due (Idle due.Unlock) = false
+is_steal_due (Idle due.UnlockLock) = false
+is_steal_due (Idle due.UnlockSteal) = true
+is_steal_due (Sent n) = false
+is_steal_due Waiting = false
+is_steal_due Held = false
+
 -- ---- what goes up
 
--- what is due upward first
 -- the first of what is due
 abbrev pub first_verb : Due → Option LockVerb
 first_verb due.Nothing = None
@@ -106,11 +129,19 @@ first_verb due.Unlock = Some verbs.Unlock
 first_verb due.UnlockLock = Some verbs.Unlock
 first_verb due.UnlockSteal = Some verbs.Unlock
 
+-- what is due upward first
 abbrev pub verb_due : Course → Option LockVerb
 verb_due (Idle d) = first_verb d
 verb_due (Sent n) = None
 verb_due Waiting = None
 verb_due Held = None
+
+-- the number of the request that isn't answered
+abbrev pub open_number : Course → Option ℕ
+open_number (Idle d) = None
+open_number (Sent n) = Some n
+open_number Waiting = None
+open_number Held = None
 
 -- it went up under this number
 abbrev pub due_sent : ℕ → Due → Course

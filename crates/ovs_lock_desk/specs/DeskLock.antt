@@ -1,9 +1,10 @@
 -- One lock at a relay's desk: who asked for it here, how far the desk has come with its source, and what each event makes of it.
-use Rattle.std.specs.Prelude.{ℕ, Bool, true, false, not, List, [], ◌∷◌, ◌++◌, Option, Some, None, Result, Ok, Err, ◌≡◌, ◌&&◌, ◌||◌, if◌then◌else◌}
+use Rattle.std.specs.Prelude.{ℕ, Bool, true, false, not, List, [], ◌∷◌, ◌++◌, Option, Some, None, is_some, Result, Ok, Err, ◌≡◌, ◌&&◌, ◌||◌, if◌then◌else◌}
 use Rattle.std.specs.List.{list_any}
 use Rattle.serde_json.specs.Data.{Data}
-use Rattle.ovs_locks.specs.Lock.{LockValue, no_lock, stands, owner, appended, stolen_by, put_first, without, forgotten, granted_first, robbed_first, is_free, is_idle, after_one, after_telling}
-use Rattle.ovs_lock_desk.specs.Course.{is_held, is_sent, is_still, course_locked, course_stolen, course_given_up, course_as_lock, course_sent}
+use Rattle.ovs_locks.specs.declared.asker.Asker.{Asker}
+use Rattle.ovs_locks.specs.Lock.{LockValue, no_lock, is_in, stands, owner, appended, stolen_by, put_first, without, forgotten, granted_first, robbed_first, is_free, is_idle, after_one, after_telling}
+use Rattle.ovs_lock_desk.specs.Course.{is_held, is_sent, is_still, asks_nothing, is_steal_due, verb_due, course_locked, course_stolen, course_given_up, course_as_lock, course_sent}
 use Rattle.ovs_lock_desk.specs.LateSteal.{is_open, is_of, is_own_open, is_due_late, late_of, settled, without_one, without_due, without_late, open_session, is_empty_late}
 use Rattle.ovs_lock_desk.specs.declared.course.Due.TheVariants as due
 use Rattle.ovs_lock_desk.specs.declared.course.Course.{Course}
@@ -115,10 +116,6 @@ ended who l = unlocked who (record {
 abbrev pub sent : ℕ → DeskLockValue → DeskLockValue
 sent n l = record { lock = l.lock; late = l.late; course = course_sent n l.course }
 
--- the same, unless something was sent before
-abbrev pub sent_once : Bool → ℕ → DeskLockValue → DeskLockValue
-sent_once before n l = if before then l else sent n l
-
 -- the first answer that a session is owed is told
 abbrev pub answer_told : ℕ → DeskLockValue → DeskLockValue
 answer_told who l = record { lock = l.lock; late = without_one (is_due_late who) l.late; course = l.course }
@@ -198,3 +195,36 @@ AnswersBy refused verb l (Err errors.NeverAsked) = refused ≡ Some errors.Never
 AnswersBy refused verb l (Err errors.SourceLost) = refused ≡ Some errors.SourceLost
 AnswersBy refused verb l (Err errors.StealPending) = refused ≡ Some errors.StealPending
 AnswersBy refused verb l (Err errors.TooMany) = refused ≡ Some errors.TooMany
+
+-- ---- what holds of a lock at all times
+
+-- something is due upward
+abbrev pub is_due_up : DeskLockValue → Bool
+is_due_up l = is_some (verb_due l.course)
+
+-- a session whose steal isn't answered stands in this queue
+abbrev pub stealer_in : List Asker → List LateSteal → Bool
+stealer_in queue late = list_any (λ (e : LateSteal). is_open e && is_in e.who queue) late
+
+-- for a lock for which nobody asks nothing is asked of the source, and a Steal is due only for a session that asks still
+pub record IsSettled (l : DeskLockValue) : Type 0 where
+  pub free : is_free l.lock.queue ≡ true → asks_nothing l.course ≡ true
+  pub steal : is_steal_due l.course ≡ true → stealer_in l.lock.queue l.late ≡ true
+
+-- the steals that aren't answered are of one session
+abbrev pub IsStolenByOne : DeskLockValue → Type 0
+IsStolenByOne l = (who : ℕ) → own_steal_open who l ≡ true → open_session l.late ≡ Some who
+
+-- what may happen to a lock before anything goes up for it: a session whose steal isn't answered doesn't unlock
+abbrev pub MayHappen : Event → DeskLockValue → Type 0
+MayHappen (events.Unlocked who) l = own_steal_open who l ≡ false
+MayHappen (events.Sent n) l = ⊥
+MayHappen (events.Answered n won) l = Unit {0}
+MayHappen events.Granted l = Unit {0}
+MayHappen events.Stolen l = Unit {0}
+MayHappen events.Lost l = Unit {0}
+MayHappen events.Found l = Unit {0}
+MayHappen (events.Ended who) l = Unit {0}
+MayHappen (events.AnswerTold who) l = Unit {0}
+MayHappen (events.NoticeTold who) l = Unit {0}
+MayHappen (events.AllTold who) l = Unit {0}

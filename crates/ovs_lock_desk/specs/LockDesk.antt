@@ -135,9 +135,17 @@ abbrev pub owes_at : ℕ → DeskLocks → Bool
 owes_at who [] = false
 owes_at who (e ∷ es) = owes_here who e.1 || owes_at who es
 
+-- each number has the names of the locks that pass this test of the number
+abbrev pub AreListed : (ℕ → DeskLockValue → Bool) → DeskLocks → Sessions → Type 0
+AreListed test locks lists = (number : ℕ) (name : List ℕ) → mark_at number name lists ≡ None → test number (desk_lock_at name locks) ≡ false
+
 -- each session has the names of the locks with which it has to do
 abbrev pub AreNamed : DeskLocks → Sessions → Type 0
-AreNamed locks sessions = (who : ℕ) (name : List ℕ) → mark_at who name sessions ≡ None → concerns who (desk_lock_at name locks) ≡ false
+AreNamed locks sessions = AreListed concerns locks sessions
+
+-- a session is owed nothing for a lock whose name it has without a mark
+abbrev pub AreMarked : DeskLocks → Sessions → Type 0
+AreMarked locks sessions = (who : ℕ) (name : List ℕ) → mark_at who name sessions ≡ Some false → owes_here who (desk_lock_at name locks) ≡ false
 
 -- a session stands nowhere, is owed nothing, and waits for no answer
 pub record IsGone (who : ℕ) (locks : DeskLocks) : Type 0 where

@@ -1,7 +1,7 @@
 //! How far a relay's desk has come with its source for one lock.
 
 ghost use Rattle.std.specs.Prelude.{◌≡◌};
-ghost use Rattle.ovs_lock_desk.specs.Course.{is_held, is_sent, is_still, lock_due, steal_due, no_lock_due, as_lock_due, course_locked, course_stolen, course_given_up, course_as_lock, first_verb, verb_due, due_sent, course_sent};
+ghost use Rattle.ovs_lock_desk.specs.Course.{is_held, is_sent, is_still, lock_due, steal_due, no_lock_due, as_lock_due, course_locked, course_stolen, course_given_up, course_as_lock, first_verb, verb_due, open_number, due_sent, course_sent};
 
 /// What a session asks a desk, and a desk its source (RFC 7047 section 4.1.8).
 #[derive(Clone, Copy, Debug, PartialEq, Eq)]
@@ -158,6 +158,16 @@ impl Course {
         match self {
             Course::Sent(sent) => sent == number,
             _ => false,
+        }
+    }
+
+    /// The number of the request that isn't answered.
+    pub(crate) fn open_number(self) -> Option<u64>
+        ensures value { result ≡ open_number self }
+    {
+        match self {
+            Course::Sent(number) => Some(number),
+            _ => None,
         }
     }
 

@@ -1,11 +1,12 @@
 //! One lock at a relay's desk.
 
-ghost use Rattle.std.specs.Prelude.{◌≡◌, ◌++◌, not, ◌||◌, is_some, true, false, OnOk, OnErr, IfOk, filter, map, slice_get, option_copied};
+ghost use Rattle.std.specs.Prelude.{◌≡◌, ◌++◌, true, false, OnOk, OnErr, IfOk, filter, map, slice_get, option_copied};
 ghost use Rattle.ovs_locks.specs.Lock.{owed_for, stands};
-ghost use Rattle.ovs_lock_desk.specs.Course.{verb_due, is_sent};
+ghost use Rattle.ovs_lock_desk.specs.Course.{verb_due, is_sent, open_number};
 ghost use Rattle.ovs_lock_desk.specs.LateSteal.{open_session, is_due_late};
-ghost use Rattle.ovs_lock_desk.specs.DeskLock.{no_desk_lock, locked, stolen_here, unlocked, held, answered, granted_at_source, stolen_at_source, forgotten_by, lost, found, ended, sent, sent_once, desk_owner, is_desk_idle, concerns, asked_here, answer_here, answer_told, all_told, enters, step, refusal, AnswersBy};
+ghost use Rattle.ovs_lock_desk.specs.DeskLock.{no_desk_lock, locked, stolen_here, unlocked, held, answered, granted_at_source, stolen_at_source, forgotten_by, lost, found, ended, sent, desk_owner, is_desk_idle, concerns, asked_here, answer_here, answer_told, all_told, enters, step, refusal, AnswersBy};
 ghost use Rattle.ovs_lock_desk.specs.LockDesk.{owes_here, told_of};
+ghost use Rattle.ovs_lock_desk.specs.OwedMarks.{desk_mark};
 
 use crate::course::{Course, Due, Event, LockVerb};
 use crate::desk_notice::DeskNotice;
@@ -91,6 +92,13 @@ impl DeskLock {
         ensures value { result ≡ concerns who self.now }
     {
         is_any_of(&self.late, who) || self.lock.stands(who)
+    }
+
+    /// The session whose steal isn't answered.
+    pub(crate) fn open_session(&self) -> Option<u64>
+        ensures value { result ≡ open_session self.now.late }
+    {
+        open_session(&self.late)
     }
 
     /// What is due upward first.
@@ -366,6 +374,17 @@ impl DeskLock {
         is_any_due(&self.late, who) || self.lock.owes(who)
     }
 
+    /// Whether a session is owed anything; none where it has nothing to do with the lock.
+    pub(crate) fn mark(&self, who: u64) -> Option<bool>
+        ensures value { result ≡ desk_mark who self.now }
+    {
+        if self.concerns(who) {
+            Some(self.owes(who))
+        } else {
+            None
+        }
+    }
+
     /// Whether the request of this number isn't answered.
     pub(crate) fn is_sent(&self, number: u64) -> bool
         ensures value { result ≡ is_sent number self.now.course }
@@ -373,26 +392,18 @@ impl DeskLock {
         self.course.is_sent(number)
     }
 
+    /// The number of the request that isn't answered.
+    pub(crate) fn open_number(&self) -> Option<u64>
+        ensures value { result ≡ open_number self.now.course }
+    {
+        self.course.open_number()
+    }
+
     /// The first notice of what a session is owed for this lock, which has this name.
     pub(crate) fn first_notice(&self, who: u64, name: &Text) -> Result<Option<LockNotice>, NoMemory>
         ensures value { IfOk result (λ notice. notice ≡ slice_get (owed_for who name.now self.now.lock) 0) }
     {
         self.lock.first_notice(who, name)
-    }
-
-    /// What is due first goes up under this number, unless something was sent before it. Answers whether the lock isn't idle
-    /// then.
-    pub(crate) fn send_once(&mut self, number: u64, sent: &mut bool) -> bool
-        ensures lock { self.new ≡ sent_once sent.old number self.old }
-        ensures sent { sent.new ≡ (sent.old || is_some (verb_due self.old.course)) }
-        ensures busy { is_desk_idle self.old ≡ false → result ≡ not (is_desk_idle self.new) }
-    {
-        if *sent || self.due().is_none() {
-            return true;
-        }
-        *sent = true;
-        self.note_sent(number);
-        !self.is_idle()
     }
 
     /// What an event makes of the lock.

@@ -2,21 +2,26 @@
 
 ghost use Rattle.std.specs.Prelude.{◌≡◌, ◌++◌, ℕ, [], true, false, OnOk, OnErr, IfOk, filter, slice_get, option_copied, option_map};
 ghost use Rattle.ovs_locks.specs.Lock.{stands};
-ghost use Rattle.ovs_lock_desk.specs.LateSteal.{is_due_late};
+ghost use Rattle.ovs_lock_desk.specs.Course.{is_sent, open_number, verb_due};
+ghost use Rattle.ovs_lock_desk.specs.LateSteal.{is_due_late, open_session};
 ghost use Rattle.std.specs.BTreeMap.{IsOrdered, insert_entry, is_at};
 ghost use Rattle.std.specs.Map.{remove_entry};
 ghost use Rattle.std.specs.Cmp.Lexicographic.{slice_cmp};
 ghost use Rattle.std.specs.Ordering.{nat_cmp};
-ghost use Rattle.ovs_lock_desk.specs.DeskLock.{no_desk_lock, step, refusal, asked_here, concerns, is_desk_idle, enters, desk_owner, AnswersBy};
-ghost use Rattle.ovs_lock_desk.specs.LockDesk.{IsDeskTable, desk_lock_at, ChangesAt, stepped, SendsFirst, first_due_up, answers_told, owed_to, notices_to, notices_here, is_sent_at, owes_here};
+ghost use Rattle.ovs_lock_desk.specs.DeskLock.{no_desk_lock, step, refusal, asked_here, is_desk_idle, enters, desk_owner, AnswersBy};
+ghost use Rattle.ovs_lock_desk.specs.LockDesk.{IsDeskTable, desk_lock_at, ChangesAt, stepped, first_due_up, answers_told, owed_to, notices_to, notices_here, owes_here};
+ghost use Rattle.ovs_lock_desk.specs.OwedMarks.{desk_mark, MarksLosers};
+ghost use Rattle.ovs_lock_desk.specs.UpwardTable.{ListsDue};
 
 use crate::course::{Event, LockVerb};
 use crate::desk_lock::DeskLock;
 use crate::desk_notice::DeskNotice;
+use crate::due_names::DueNames;
 use crate::error::DeskError;
 use crate::late_steal::LateSteal;
+use crate::owed_marks::mark_any;
 use ovs_json::{NoMemory, Text};
-use ovs_locks::LockNotice;
+use ovs_locks::{BySession, LockNotice};
 use ovs_wire::Id;
 use std::alloc::Global;
 use std::collections::BTreeMap;
@@ -100,13 +105,23 @@ impl DeskTable {
         }
     }
 
-    /// Whether a session has to do with the lock of this name.
-    pub(crate) fn concerns(&self, who: u64, name: &Text) -> bool
-        ensures value { result ≡ concerns who (desk_lock_at name.now self.now) }
+    /// The session whose steal of the lock of this name isn't answered.
+    pub(crate) fn open_session(&self, name: &Text) -> Option<u64>
+        ensures value { result ≡ open_session (desk_lock_at name.now self.now).late }
     {
         match self.locks.get(name) {
-            Some(lock) => lock.concerns(who),
-            None => false,
+            Some(lock) => lock.open_session(),
+            None => None,
+        }
+    }
+
+    /// Whether a session is owed anything for the lock of this name; none where it has nothing to do with it.
+    pub(crate) fn mark(&self, who: u64, name: &Text) -> Option<bool>
+        ensures value { result ≡ desk_mark who (desk_lock_at name.now self.now) }
+    {
+        match self.locks.get(name) {
+            Some(lock) => lock.mark(who),
+            None => None,
         }
     }
 
@@ -172,14 +187,15 @@ impl DeskTable {
         });
     }
 
-    /// What is due first, of the least name that has something due, went up under this number.
-    pub(crate) fn send_first(&mut self, number: u64)
-        ensures after { SendsFirst number self.old self.new }
-        ensures table { IsDeskTable self.new }
+    /// Marks, for each lock, those that are owed something once the source is lost: its owner, and the session whose steal
+    /// isn't answered.
+    pub(crate) fn mark_losers(&self, sessions: &mut BySession)
+        ensures marks { MarksLosers self.now sessions.old sessions.new }
     {
-        let mut sent = false;
-        self.locks
-            .retain(move |_name, lock| lock.send_once(number, &mut sent));
+        for (name, lock) in self.locks.iter() {
+            mark_any(sessions, lock.owner(), name);
+            mark_any(sessions, lock.open_session(), name);
+        }
     }
 
     /// What is due upward first, of the least name that has something due.
@@ -195,16 +211,46 @@ impl DeskTable {
         None
     }
 
-    /// Whether a request of this number isn't answered.
-    pub(crate) fn is_sent(&self, number: u64) -> bool
-        ensures value { result ≡ is_sent_at number self.now }
+    /// What is due upward first for the lock of this name.
+    pub(crate) fn verb_due(&self, name: &Text) -> Option<LockVerb>
+        ensures value { result ≡ verb_due (desk_lock_at name.now self.now).course }
     {
-        for (_name, lock) in self.locks.iter() {
-            if lock.is_sent(number) {
-                return true;
+        match self.locks.get(name) {
+            Some(lock) => lock.due(),
+            None => None,
+        }
+    }
+
+    /// Lists anew for which locks something is due upward.
+    pub(crate) fn list_due(&self, due: &mut DueNames)
+        ensures listed { ListsDue self.now due.new }
+    {
+        due.clear();
+        for (name, lock) in self.locks.iter() {
+            if lock.due().is_some() {
+                due.note(name, true);
             }
         }
-        false
+    }
+
+    /// Whether the request of this number for the lock of this name isn't answered.
+    pub(crate) fn is_sent(&self, number: u64, name: &Text) -> bool
+        ensures value { result ≡ is_sent number (desk_lock_at name.now self.now).course }
+    {
+        match self.locks.get(name) {
+            Some(lock) => lock.is_sent(number),
+            None => false,
+        }
+    }
+
+    /// The number of the request for the lock of this name that isn't answered.
+    pub(crate) fn open_number(&self, name: &Text) -> Option<u64>
+        ensures value { result ≡ open_number (desk_lock_at name.now self.now).course }
+    {
+        match self.locks.get(name) {
+            Some(lock) => lock.open_number(),
+            None => None,
+        }
     }
 
     /// Whether a session is owed an answer or a notice for the lock of this name.

@@ -3,15 +3,21 @@
 #![tactic(auto)]
 
 mod course;
+mod crossing;
 mod desk_laws;
 mod desk_lock;
 mod desk_notice;
 mod desk_table;
+mod due_names;
 mod error;
 mod late_steal;
 mod lock_desk;
+mod open_requests;
+mod owed_marks;
+mod upward_table;
 
 pub use course::{Course, Due, Event, LockVerb};
+pub use crossing::lock_desk_sends;
 pub use desk_laws::{
     a_lock_is_held_only_where_the_source_gave_it, what_is_told_is_owed_no_more,
     who_unlocks_is_told_no_more,

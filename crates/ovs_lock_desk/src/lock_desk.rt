@@ -2,14 +2,15 @@
 
 ghost use Rattle.std.specs.Prelude.{◌≡◌, [], true, false, OnOk, OnErr, IfOk, slice_get, option_map, if◌then◌else◌};
 ghost use Rattle.ovs_locks.specs.LockTable.{is_lock};
-ghost use Rattle.ovs_lock_desk.specs.DeskLock.{step, enters, asked_here, desk_owner, AnswersBy};
-ghost use Rattle.ovs_lock_desk.specs.LockDesk.{IsDeskTable, IsGone, AreNamed, is_full, desk_lock_at, ChangesAt, SendsFirst, refusal_at, stepped, first_due_up, answers_to, notices_to, owed_to, is_sent_at, owes_at};
+ghost use Rattle.ovs_lock_desk.specs.DeskLock.{step, enters, asked_here, desk_owner, AnswersBy, MayHappen};
+ghost use Rattle.ovs_lock_desk.specs.LockDesk.{IsDeskTable, IsGone, is_full, desk_lock_at, ChangesAt, SendsFirst, refusal_at, stepped, first_due_up, answers_to, notices_to, owed_to, is_sent_at, owes_at};
 
 use crate::course::{Event, LockVerb};
 use crate::desk_notice::DeskNotice;
-use crate::desk_table::DeskTable;
 use crate::error::DeskError;
 use crate::late_steal::LateSteal;
+use crate::owed_marks::{Near, mark_near, mark_owners, remark};
+use crate::upward_table::UpwardTable;
 use ovs_json::{NoMemory, Text};
 use ovs_locks::{BySession, LockNotice, is_lock};
 use ovs_wire::Id;
@@ -24,16 +25,16 @@ const MOST_LOCKS: usize = 1024;
 #[derive(Drop)]
 pub struct LockDesk {
     has_source: bool,
-    table: DeskTable,
-    // The names of the locks with which each session has to do.
+    table: UpwardTable,
+    // The names of the locks with which each session has to do, and for which of them it may be owed something.
     sessions: BySession,
 }
 
 impl Model for LockDesk {
     ghost use Rattle.std.specs.Prelude.{Bool, refl};
     ghost use Rattle.std.specs.Coded.{code_by, coded×, coded_bool};
-    ghost use Rattle.ovs_lock_desk.specs.contracts.desk_table.DeskTable as table_row;
-    ghost use Rattle.ovs_lock_desk.specs.LockDesk.{DeskLocks, DeskValue, IsDeskTable, AreNamed};
+    ghost use Rattle.ovs_lock_desk.specs.contracts.upward_table.UpwardTable as table_row;
+    ghost use Rattle.ovs_lock_desk.specs.LockDesk.{DeskLocks, DeskValue, IsDeskTable, AreNamed, AreMarked};
 
     ghost Value = { DeskValue };
 
@@ -42,17 +43,7 @@ impl Model for LockDesk {
 
     ghost view = { λ d. record { has_source = d.has_source; locks = d.table } };
 
-    ghost invariant = { λ d. IsDeskTable d.table × AreNamed d.table d.sessions };
-}
-
-// A session that has nothing more to do with this lock has its name no more.
-fn release(table: &DeskTable, sessions: &mut BySession, who: u64, name: &Text)
-    requires named { AreNamed table.now sessions.old }
-    ensures named { AreNamed table.now sessions.new }
-{
-    if !table.concerns(who, name) {
-        sessions.note(who, name, None);
-    }
+    ghost invariant = { λ d. IsDeskTable d.table × AreNamed d.table d.sessions × AreMarked d.table d.sessions };
 }
 
 impl LockDesk {
@@ -62,7 +53,7 @@ impl LockDesk {
     {
         LockDesk {
             has_source: false,
-            table: DeskTable::new(alloc),
+            table: UpwardTable::new(alloc),
             sessions: BySession::new(alloc),
         }
     }
@@ -126,36 +117,37 @@ impl LockDesk {
         ensures source { self.new.has_source ≡ self.old.has_source }
         ensures unchanged { OnErr result (self.new ≡ self.old) }
     {
-        let refused = self.table.refusal(self.has_source, verb, who, name);
+        let refused = self.table.locks().refusal(self.has_source, verb, who, name);
         if let Some(refused) = refused {
             return Err(refused);
         }
         if self.is_full(who) {
             return Err(DeskError::TooMany);
         }
+        let near = Near::of(self.table.locks(), name);
         self.sessions.enter(alloc, who, name)?;
-        match self
+        let answer = self
             .table
-            .enter(alloc, self.has_source, verb, who, name, id)
-        {
-            Ok(answer) => Ok(answer),
-            Err(error) => {
-                release(&self.table, &mut self.sessions, who, name);
-                Err(error)
-            }
-        }
+            .enter(alloc, self.has_source, verb, who, name, id);
+        remark(self.table.locks(), &mut self.sessions, who, name);
+        mark_near(self.table.locks(), &mut self.sessions, near, name);
+        answer
     }
 
     // Whether a session stands in the lists of as many locks as it may.
     fn is_full(&self, who: u64) -> bool
         ensures value { result ≡ is_full who self.now.locks }
     {
+        // It has the name of each lock in whose lists it stands.
+        if self.sessions.count(who) < MOST_LOCKS {
+            return false;
+        }
         let Some(names) = self.sessions.names(who) else {
             return false;
         };
         let mut room = MOST_LOCKS;
         for (name, _mark) in names.iter() {
-            if self.table.stands(who, name) {
+            if self.table.locks().stands(who, name) {
                 room -= 1;
                 if room == 0 {
                     return true;
@@ -174,20 +166,32 @@ impl LockDesk {
     {
         let refused = self
             .table
+            .locks()
             .refusal(self.has_source, LockVerb::Unlock, who, name);
         if let Some(refused) = refused {
             return Err(refused);
         }
-        self.table.at(name, Event::Unlocked(who));
-        release(&self.table, &mut self.sessions, who, name);
+        self.at(name, Event::Unlocked(who));
+        remark(self.table.locks(), &mut self.sessions, who, name);
         Ok(Some(true))
+    }
+
+    // What an event makes of the lock of this name, and of the marks of those that may be owed something by it.
+    fn at(&mut self, name: &Text, event: Event)
+        requires may { MayHappen event (desk_lock_at name.now self.old.locks) }
+        ensures after { ChangesAt name.now (step event) self.old.locks self.new.locks }
+        ensures source { self.new.has_source ≡ self.old.has_source }
+    {
+        let near = Near::of(self.table.locks(), name);
+        self.table.at(name, event);
+        mark_near(self.table.locks(), &mut self.sessions, near, name);
     }
 
     /// The session that owns a lock: the first of its queue, and only where the source gave the lock. No memory is taken.
     pub fn owner(&self, name: &Text) -> Option<u64>
         ensures value { result ≡ desk_owner (desk_lock_at name.now self.now.locks) }
     {
-        self.table.owner(name)
+        self.table.locks().owner(name)
     }
 
     /// What is to be asked of the source next: of the least name that has something due, what is due first. No memory is taken.
@@ -200,12 +204,16 @@ impl LockDesk {
     }
 
     /// What `due` gives went up under this number, which no other request has. A Lock or Steal is then answered by `answered`,
-    /// an Unlock not at all. Nothing changes where nothing is due. No memory is taken.
-    pub fn sent(&mut self, number: u64)
-        ensures after { SendsFirst number self.old.locks self.new.locks }
+    /// an Unlock not at all. Nothing changes where nothing is due.
+    ///
+    /// # Errors
+    /// `NoMemory` alone; nothing is changed then.
+    pub fn sent(&mut self, alloc: Global, number: u64) -> Result<(), NoMemory>
+        ensures after { OnOk result (SendsFirst number self.old.locks self.new.locks) }
         ensures source { self.new.has_source ≡ self.old.has_source }
+        ensures unchanged { OnErr result (self.new ≡ self.old) }
     {
-        self.table.send_first(number);
+        self.table.sent(alloc, number)
     }
 
     /// Whether a request of this number isn't answered. No memory is taken.
@@ -220,25 +228,25 @@ impl LockDesk {
     pub fn answered(&mut self, number: u64, won: bool)
         ensures after { self.new ≡ record { has_source = self.old.has_source; locks = stepped (Event.Answered number won) self.old.locks } }
     {
-        self.table.each(Event::Answered(number, won));
+        self.table.answered(number, won, &mut self.sessions);
     }
 
     /// The source tells that this lock is held (`locked`, RFC 7047 section 4.1.9). Nothing changes where the desk doesn't wait
-    /// for it. No memory is taken.
+    /// for it. No memory is needed.
     pub fn granted(&mut self, name: &Text)
         ensures after { ChangesAt name.now (step Event.Granted) self.old.locks self.new.locks }
         ensures source { self.new.has_source ≡ self.old.has_source }
     {
-        self.table.at(name, Event::Granted);
+        self.at(name, Event::Granted);
     }
 
     /// The source tells that this lock was stolen (`stolen`, RFC 7047 section 4.1.10). Nothing changes where it isn't held. No
-    /// memory is taken.
+    /// memory is needed.
     pub fn stolen(&mut self, name: &Text)
         ensures after { ChangesAt name.now (step Event.Stolen) self.old.locks self.new.locks }
         ensures source { self.new.has_source ≡ self.old.has_source }
     {
-        self.table.at(name, Event::Stolen);
+        self.at(name, Event::Stolen);
     }
 
     /// The source is lost, and with it each lock that it gave; steals that aren't answered are, with false. Nothing is due
@@ -247,39 +255,42 @@ impl LockDesk {
         ensures after { self.new ≡ record { has_source = false; locks = stepped Event.Lost self.old.locks } }
     {
         self.has_source = false;
-        self.table.each(Event::Lost);
+        self.table.locks().mark_losers(&mut self.sessions);
+        self.table.lost();
     }
 
     /// There is a source again, which is to be asked for each lock that a session waits for. Nothing changes where there is
-    /// one. No memory is taken.
+    /// one. No memory is needed.
     pub fn found_source(&mut self)
         ensures after { self.new ≡ record { has_source = true; locks = if self.old.has_source then self.old.locks else stepped Event.Found self.old.locks } }
     {
         if !self.has_source {
             self.has_source = true;
-            self.table.each(Event::Found);
+            self.table.found();
         }
     }
 
     /// A session ends: it stands nowhere then, and is owed nothing. Locks that it owned have their next owner. No memory is
-    /// taken.
+    /// needed.
     pub fn end_session(&mut self, who: u64)
         ensures after { self.new ≡ record { has_source = self.old.has_source; locks = stepped (Event.Ended who) self.old.locks } }
         ensures gone { IsGone who self.new.locks }
     {
-        self.table.each(Event::Ended(who));
-        let _names = self.sessions.take(who);
+        self.table.ended(who, &self.sessions);
+        if let Some(names) = self.sessions.take(who) {
+            mark_owners(self.table.locks(), &mut self.sessions, &names);
+        }
     }
 
     /// Whether a session is owed an answer or a notice. No memory is taken.
     pub fn owes(&self, who: u64) -> bool
         ensures value { result ≡ owes_at who self.now.locks }
     {
-        let Some(names) = self.sessions.names(who) else {
+        let Some(names) = self.sessions.owed(who) else {
             return false;
         };
-        for (name, _mark) in names.iter() {
-            if self.table.owes(who, name) {
+        for (name, mark) in names.iter() {
+            if *mark && self.table.locks().owes(who, name) {
                 return true;
             }
         }
@@ -297,8 +308,9 @@ impl LockDesk {
         ensures nothing { OnOk result (owed_to who self.new.locks ≡ []) }
         ensures unchanged { OnErr result (self.new ≡ self.old) }
     {
-        let owed = self.table.owed(alloc, who)?;
-        self.table.each(Event::AllTold(who));
+        let owed = self.table.locks().owed(alloc, who)?;
+        self.table.all_told(who);
+        self.sessions.note_told(who);
         Ok(owed)
     }
 
@@ -307,24 +319,26 @@ impl LockDesk {
         ensures value { option_map (λ d. (d.0.now, d.1.now)) result ≡ slice_get (answers_to who self.now.locks) 0 }
         ensures table { IsDeskTable self.now.locks }
     {
-        let Some(names) = self.sessions.names(who) else {
+        let Some(names) = self.sessions.owed(who) else {
             return None;
         };
-        for (name, _mark) in names.iter() {
-            if let Some(late) = self.table.first_answer(who, name) {
-                return Some((name, late));
+        for (name, mark) in names.iter() {
+            if *mark {
+                if let Some(late) = self.table.locks().first_answer(who, name) {
+                    return Some((name, late));
+                }
             }
         }
         None
     }
 
-    /// The session was told the first answer that it is owed for this lock. No memory is taken.
+    /// The session was told the first answer that it is owed for this lock. No memory is needed.
     pub fn answer_told(&mut self, who: u64, name: &Text)
         ensures after { ChangesAt name.now (step (Event.AnswerTold who)) self.old.locks self.new.locks }
         ensures source { self.new.has_source ≡ self.old.has_source }
     {
         self.table.at(name, Event::AnswerTold(who));
-        release(&self.table, &mut self.sessions, who, name);
+        remark(self.table.locks(), &mut self.sessions, who, name);
     }
 
     /// The first notice that a session is owed, which it still is then.
@@ -335,23 +349,26 @@ impl LockDesk {
         ensures value { IfOk result (λ notice. notice ≡ slice_get (notices_to who self.now.locks) 0) }
         ensures table { IsDeskTable self.now.locks }
     {
-        let Some(names) = self.sessions.names(who) else {
+        let Some(names) = self.sessions.owed(who) else {
             return Ok(None);
         };
-        for (name, _mark) in names.iter() {
-            let notice = self.table.first_notice(who, name)?;
-            if notice.is_some() {
-                return Ok(notice);
+        for (name, mark) in names.iter() {
+            if *mark {
+                let notice = self.table.locks().first_notice(who, name)?;
+                if notice.is_some() {
+                    return Ok(notice);
+                }
             }
         }
         Ok(None)
     }
 
-    /// The session was told the first notice that it is owed for this lock. No memory is taken.
+    /// The session was told the first notice that it is owed for this lock. No memory is needed.
     pub fn notice_told(&mut self, who: u64, name: &Text)
         ensures after { ChangesAt name.now (step (Event.NoticeTold who)) self.old.locks self.new.locks }
         ensures source { self.new.has_source ≡ self.old.has_source }
     {
         self.table.at(name, Event::NoticeTold(who));
+        remark(self.table.locks(), &mut self.sessions, who, name);
     }
 }

@@ -2,6 +2,7 @@
 //! caller's thread.
 #![tactic(auto)]
 
+mod crossing;
 mod locked_source;
 mod node_source;
 mod origin_desk;
@@ -12,6 +13,7 @@ mod source_line;
 mod source_threads;
 mod waiting_answers;
 
+pub use crossing::waiting_answers_send;
 pub use locked_source::LockedSource;
 pub use node_source::NodeSource;
 pub use origin_desk::OriginDesk;

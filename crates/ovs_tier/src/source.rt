@@ -21,6 +21,7 @@ use ovs_node::{
 };
 use ovs_origin::{
     LockedSource, NodeSource, SharedSource, SourceCrew, SourceLine, SourceParts, run_source,
+    waiting_answers_send,
 };
 use ovs_sockets::{Ending, IsEnding, SocketBell, SocketDoors};
 use ovs_source::{FreshRows, Source, SourceDesk};
@@ -298,6 +299,7 @@ fn staged<
         limits: LIMITS,
     };
     source_desk_sends();
+    waiting_answers_send();
     match run_source(alloc, &shared, node, crew) {
         Ok(ran) => closing_of_source(&*rt, alloc, &*queue, &*board, ran),
         Err(_unrun) => Err(TierError::NoMemory),

@@ -5,8 +5,8 @@ use Rattle.ovs_tier.proofs.source.staged.Goals as goal
 
 pub run_source-requires-send-L : goal.run_source-requires-send-L
 run_source-requires-send-L g c κs within =
-    param_send 2 _ (arg_send _ yes _ (source_lock_sends _ _ _ g.K.NodeName c.source_desk_sends.ensures c.type_bounds.send-K c.type_bounds.sync-R))
+    param_send 2 _ (arg_send _ yes _ (source_lock_sends _ _ _ g.K.NodeName c.source_desk_sends.ensures c.waiting_answers_send.ensures c.type_bounds.send-K c.type_bounds.sync-R))
 
 pub run_source-requires-sync-L : goal.run_source-requires-sync-L
 run_source-requires-sync-L g c κs within =
-    param_sync 2 _ (arg_sync _ yes _ (source_lock_shares _ _ _ g.K.NodeName c.source_desk_sends.ensures c.type_bounds.send-K c.type_bounds.sync-R))
+    param_sync 2 _ (arg_sync _ yes _ (source_lock_shares _ _ _ g.K.NodeName c.source_desk_sends.ensures c.waiting_answers_send.ensures c.type_bounds.send-K c.type_bounds.sync-R))

@@ -1,7 +1,7 @@
-use Rattle.ovs_lock_desk.specs.declared.course.Event.TheVariants as events
-use Rattle.ovs_lock_desk.proofs.Names.{named_each}
 use Rattle.ovs_lock_desk.proofs.lock_desk.LockDesk.answered.Goals as goal
 
+pub answered-requires : goal.answered-requires
+answered-requires c = record { named = c.self.invariant.1; marked = c.self.invariant.2 }
+
 pub invariant_of-self : goal.invariant_of-self
-invariant_of-self c =
-    (c.each.ensures.table, named_each (events.Answered c.args.number c.args.won) c.self.inside.table c.each.new.self c.self.inside.sessions c.self.invariant.0.ascend c.self.invariant.1 c.each.ensures.after)
+invariant_of-self c = (c.answered.ensures.table, c.answered.ensures.named, c.answered.ensures.marked)

@@ -1,11 +1,16 @@
-use Rattle.ovs_lock_desk.specs.declared.course.Event.TheVariants as events
-use Rattle.ovs_lock_desk.proofs.Names.{named_each}
+use Rattle.ovs_lock_desk.proofs.OwedMarks.{named_told, marked_told}
 use Rattle.ovs_lock_desk.proofs.Silence.{nothing_owed}
 use Rattle.ovs_lock_desk.proofs.lock_desk.LockDesk.notices.Goals as goal
 
 pub returns-clause-nothing : goal.returns-clause-nothing
-returns-clause-nothing c = rw c.each.ensures.after (nothing_owed c.args.who c.self.inside.table)
+returns-clause-nothing c = rw c.all_told.ensures.after (nothing_owed c.args.who c.self.inside.table)
 
 pub invariant_of-self : goal.invariant_of-self
 invariant_of-self c =
-    (c.each.ensures.table, named_each (events.AllTold c.args.who) c.self.inside.table c.each.new.self c.self.inside.sessions c.self.invariant.0.ascend c.self.invariant.1 c.each.ensures.after)
+    let old = c.self.inside.table in
+    let new = c.all_told.new.self in
+    let sessions = c.self.inside.sessions in (
+      c.all_told.ensures.table,
+      named_told c.args.who old new sessions c.note_told.new.self c.self.invariant.0.ascend c.self.invariant.1 c.note_told.ensures.told c.all_told.ensures.after,
+      marked_told c.args.who old new sessions c.note_told.new.self c.self.invariant.0.ascend c.self.invariant.2 c.note_told.ensures.told c.all_told.ensures.after,
+    )
