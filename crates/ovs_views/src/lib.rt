@@ -3,6 +3,7 @@
 
 mod board;
 mod name;
+mod progress;
 mod publisher;
 mod shown;
 mod view;
@@ -11,6 +12,7 @@ mod view_session;
 
 pub use board::{Board, teach};
 pub use name::{Front, NodeName, StepHistory, Told};
+pub use progress::Progress;
 pub use publisher::{Handle, Publisher};
 pub use shown::{NextStep, Shown};
 pub use view::View;

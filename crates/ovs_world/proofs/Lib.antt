@@ -7,6 +7,7 @@ pub mod Led
 pub mod Counting
 pub mod Held
 pub mod Moving
+pub mod Starts
 pub mod Scenes
 pub mod Delivered
 pub mod Faithful
