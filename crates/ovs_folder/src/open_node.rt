@@ -125,7 +125,6 @@ impl<K: NodeName, R: Wait + Drop> OpenNode<K, Handle<K, R>> {
     }
 
     // The same, where the counts are right.
-    #[tactic(auto, using(crate::proofs::Begins::none_shown))]
     fn made(
         alloc: Global,
         rt: R,

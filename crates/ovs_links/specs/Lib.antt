@@ -17,6 +17,3 @@ pub mod Merging
 pub mod Runs
 pub mod Outcomes
 pub mod Settling
-pub mod Epochs
-pub mod Pruning
-pub mod Restarting

@@ -15,12 +15,10 @@ use Rattle.ovs_rows.specs.DatabaseDifference.{database_difference, IsCommit}
 use Rattle.ovs_rows.proofs.Laws.{difference_after}
 use Rattle.ovs_rows.proofs.NoDifference.{nothing_exactly}
 use Rattle.ovs_links.specs.Sets.{Holds, Among}
-use Rattle.ovs_links.specs.Chains.{start_of, head_after, rows_after}
-use Rattle.ovs_links.specs.Epochs.{IsOpening}
-use Rattle.ovs_links.proofs.EpochLemmas.{one_epoch, one_epoch_is, in_one_epoch, one_opening, one_start}
+use Rattle.ovs_links.specs.Chains.{head_after, rows_after}
 use Rattle.ovs_links.specs.History.{Commit, IsNoId, AreDistinct, NoneIsStart, CommitsFrom, IsHistory, links_of}
 use Rattle.ovs_links.specs.Store.{Stored, tables_of, head_of, rows_of}
-use Rattle.ovs_links.specs.Answers.{SettlesAs, EndsAs, after_append, AreOfOneSource}
+use Rattle.ovs_links.specs.Answers.{SettlesAs, after_append, AreOfOneSource}
 use Rattle.ovs_links.specs.declared.link.Link.{Link}
 use Rattle.ovs_links.specs.declared.answer.Settled.TheVariants.{Done}
 use Rattle.ovs_source.specs.Commits.{commits_of, history_of, IsSource, HoldsHistory, IsTaken, link_to, LeadsBy}
@@ -135,14 +133,8 @@ holds_history s k = record {
 }
 
 -- no held link follows the head
-none_next : (s : Stored) → IsSource s → EndsAs s Done
-none_next s k l h e = no_next (tables_of s) 0 no_rows (history_of s) l (zero_is_no_id (history_of s) k.history.no_start) k.history.distinct ((holds_history s k).among l h) (e ∙ ap (head_after 0) (sym k.links))
-
 pub source_done : (s : Stored) → IsSource s → SettlesAs s Done
-source_done s k = record {
-  opening = subst (λ (i : ℕ). IsOpening (Holds s.links) i) (sym (ap start_of (sym k.links) ∙ one_start (tables_of s) no_rows (history_of s))) (one_opening (tables_of s) (history_of s) (Holds s.links) k.history (holds_history s k).among);
-  ends = none_next s k;
-}
+source_done s k l h e = no_next (tables_of s) 0 no_rows (history_of s) l (zero_is_no_id (history_of s) k.history.no_start) k.history.distinct ((holds_history s k).among l h) (e ∙ ap (head_after 0) (sym k.links))
 
 held_after : (s : Stored) (l : Link) → ((x : Link) → Holds s.links x → Among s.folded x) → (x : Link) → Holds (insert s.links l.prev l) x → Among (s.folded ++ l ∷ []) x
 held_after s l f x h = of (eq_by_cmp nat_cmp x.prev l.prev) (sym (get-insert nat_cmp_total s.links l.prev l x.prev) ∙ h)
@@ -197,10 +189,10 @@ pub one_source : (s : Stored) (id : ℕ) (rows : Rows) → IsSource s → ¬ (Is
 one_source s id rows k n c =
     let made = source_linked s id rows k n c in
     let within = λ (x : Link) (a : Among (s.folded ++ link_to s id rows ∷ []) x). subst (λ (ls : List Link). Among ls x) (sym made.links) a in (
-      one_epoch (history_of (linked s id rows)),
-      one_epoch_is (tables_of s) (history_of (linked s id rows)) made.history,
-      (λ x h. in_one_epoch (tables_of s) (history_of (linked s id rows)) x (within x (among_left s.folded (link_to s id rows) x (k.folded x h)))),
-      (λ x a. in_one_epoch (tables_of s) (history_of (linked s id rows)) x (within x (of_one x a))),
+      history_of (linked s id rows),
+      made.history,
+      (λ x h. within x (among_left s.folded (link_to s id rows) x (k.folded x h))),
+      (λ x a. within x (of_one x a)),
     )
   where
     of_one : (x : Link) → Among (link_to s id rows ∷ []) x → Among (s.folded ++ link_to s id rows ∷ []) x

@@ -3,7 +3,6 @@
 
 mod board;
 mod name;
-mod progress;
 mod publisher;
 mod shown;
 mod view;
@@ -12,7 +11,6 @@ mod view_session;
 
 pub use board::{Board, teach};
 pub use name::{Front, NodeName, StepHistory, Told};
-pub use progress::Progress;
 pub use publisher::{Handle, Publisher};
 pub use shown::{NextStep, Shown};
 pub use view::View;

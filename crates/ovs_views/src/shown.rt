@@ -6,7 +6,6 @@ ghost use Rattle.ovs_links.specs.Absorbing.{folded_by};
 ghost use Rattle.ovs_views.specs.Published.{GoesOn, is_shown};
 
 use crate::name::{Front, NodeName};
-use crate::progress::Progress;
 use left_right::Absorb;
 use ovs_links::{Folded, Step};
 use ovs_types::{NoMemory, TxnId};
@@ -93,7 +92,7 @@ impl<K: NodeName> Shown<K> {
 #[derive(Drop)]
 pub struct NextStep<K: NodeName> {
     pub(crate) step: Step,
-    pub(crate) front: Progress<K>,
+    pub(crate) front: Front<K>,
 }
 
 impl<K: NodeName> Model for NextStep<K> {
@@ -121,12 +120,11 @@ impl<K: NodeName> Absorb<NextStep<K>> for Shown<K> {
     // The steps that are published come one after the other, so the refusal of another is never met: it stands for the condition
     // that `left_right` doesn't hand on.
     fn absorb_first(&mut self, next: &NextStep<K>, _other: &Shown<K>) -> Result<(), AllocError> {
-        let after = next.front.front();
-        let (old, new) = (self.front.len(), after.len());
+        let (old, new) = (self.front.len(), next.front.len());
         if new <= old || new - old != 1 {
             return Err(AllocError);
         }
-        let front = self.front.longer(after);
+        let front = self.front.longer(&next.front);
         let _ = front.len();
         match self.folded.absorb(self.alloc, &next.step) {
             Ok(()) => {

@@ -7,11 +7,11 @@ ghost use Rattle.serde_json.specs.View.{view, items_view, items_of};
 ghost use Rattle.serde_json.specs.Data.{array};
 ghost use Rattle.ovs_query.specs.Answer.{only_reads, results};
 ghost use Rattle.ovs_query.specs.RowWriting.{select_json};
-ghost use Rattle.ovs_links.specs.StepChains.{head_after_steps, position_in, start_at};
+ghost use Rattle.ovs_links.specs.StepChains.{head_after_steps, position_in};
 ghost use Rattle.ovs_links.specs.Absorbing.{folded_by};
 ghost use Rattle.ovs_reader.specs.Turns.{seen_turn, turn, after_turn};
 ghost use Rattle.ovs_reader.specs.Telling.{told_some, after_some};
-ghost use Rattle.ovs_views.specs.Published.{GoesOn, is_shown, since_start};
+ghost use Rattle.ovs_views.specs.Published.{GoesOn, is_shown};
 
 use crate::name::{Front, NodeName, Told};
 use crate::shown::Shown;
@@ -97,7 +97,7 @@ impl<K: NodeName> View<K> {
         Ok(id)
     }
 
-    /// Whether the id is that of a step, or where the chain begins.
+    /// Whether the id is 0 or that of a step.
     ///
     /// # Errors
     /// `Gone`; then nothing is changed.
@@ -173,33 +173,24 @@ impl<K: NodeName> View<K> {
         Ok(results)
     }
 
-    /// Where the chain begins, and copies of its steps after the first n, none past the end; all of them where it begins at
-    /// another start than this. Their rows are shared.
+    /// Copies of the steps after the first n, none past the end. Their rows are shared.
     ///
     /// # Errors
     /// `Gone` or `NoMemory`; then nothing is changed.
-    pub fn changes_since(
-        &mut self,
-        alloc: Global,
-        start: TxnId,
-        n: usize,
-    ) -> Result<(TxnId, Vec<Step>), ViewError>
+    pub fn changes_since(&mut self, alloc: Global, n: usize) -> Result<Vec<Step>, ViewError>
         ensures later { OnOk result (GoesOn K.schema self.old self.new) }
-        ensures start { IfOk result (λ r. r.0 ≡ start_at (folded_by K.schema self.new)) }
-        ensures value { IfOk result (λ r. r.1.items ≡ since_start (folded_by K.schema self.new) start n) }
+        ensures value { IfOk result (λ steps. steps.items ≡ drop n (folded_by K.schema self.new).steps) }
         ensures unchanged { OnErr result (self.new ≡ self.old) }
     {
-        let (front, begins, steps) = match self.handle.enter() {
+        let (front, steps) = match self.handle.enter() {
             None => return Err(ViewError::Gone),
             Some(shown) => {
                 let front = shown.since(&self.known).ok_or(Gone)?;
-                let begins = shown.folded().start();
-                let first = if start == begins { n } else { 0 };
-                (front, begins, copies_after(alloc, first, shown.folded().steps())?)
+                (front, copies_after(alloc, n, shown.folded().steps())?)
             }
         };
         self.known = front;
-        Ok((begins, steps))
+        Ok(steps)
     }
 
     /// A session's answer to a message (RFC 7047 section 4.1; ovsdb-server(7)).

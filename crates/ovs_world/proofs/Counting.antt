@@ -5,7 +5,7 @@ use Rattle.std.proofs.Common.{◌≡◌, ◌≢◌, ◌≤◌, ◌+◌, inl, inr
 use Rattle.std.proofs.lemmas.Bool.{cases_eq}
 use Rattle.ovs_rows.specs.Row.{no_rows}
 use Rattle.ovs_links.specs.Sets.{Holds, Among}
-use Rattle.ovs_links.specs.Store.{Stored, IsStore, tables_of, start_in, max_links}
+use Rattle.ovs_links.specs.Store.{Stored, IsStore, tables_of, max_links}
 use Rattle.ovs_links.specs.declared.link.Link.{Link}
 use Rattle.ovs_links.proofs.JoinLemmas.{Links, IsKeyed, at_prev}
 use Rattle.ovs_links.proofs.LongestLemmas.{chain_within}
@@ -74,6 +74,6 @@ few_among (x ∷ xs) m keyed within = by (few_among xs) (get m x.prev) refl
 -- what a store has folded is no more than it may hold
 pub chain_few : (s : Stored) → IsStore s → length s.folded ≤ max_links
 chain_few s store =
-    let within = chain_within (tables_of s) (start_in s) no_rows s.links store.start store.set store.ends s.folded store.chain in
+    let within = chain_within (tables_of s) 0 no_rows s.links (omega arith) store.set store.ends s.folded store.chain in
     let few = store.few in
     omega (arith, within, few)

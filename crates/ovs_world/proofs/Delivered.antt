@@ -22,7 +22,6 @@ use Rattle.ovs_world.specs.declared.session.Session.{Session}
 use Rattle.ovs_world.proofs.Led.{led_pumped, led_fed}
 use Rattle.ovs_world.proofs.Moving.{leads_none, leads_one}
 use Rattle.ovs_world.proofs.Scenes.{node_of, grow_set, tier_set, holding_is, any_default, node_grows, led_grows}
-use Rattle.ovs_world.proofs.Starts.{node_start}
 
 -- ---- what a session keeps
 
@@ -106,15 +105,13 @@ after_hearing source node relays s t links d store stands node_is next led is_no
     let long : length (slice_set relays i store) ≡ length relays = length-set relays i store in
     let relay = stands.between.relay in
     let upstream = stands.between.upstream in
-    let tier = tier_set source relays i store stands.tier is_node in
     record {
-      tier = tier;
+      tier = tier_set source relays i store stands.tier is_node;
       between = record {
         relay = (omega (arith, ends.0, relay.0), omega (arith, ends.0, relay.1, long));
         upstream = omega (arith, ends.1, upstream, long);
         led = subst (λ n. IsLed source (node_at source (slice_set relays i store) n) t) (sym ends.1)
             (led_grows source (node_at source relays s.upstream) (node_at source (slice_set relays i store) s.upstream) t
-            (node_start source (node_at source (slice_set relays i store) s.upstream) stands.tier.is_source (node_of source (slice_set relays i store) tier s.upstream))
             (node_grows source relays (slice_set relays i store) stands.tier.store grow s.upstream) (subst (λ (n : Stored). IsLed source n t) node_is led));
       };
     }

@@ -8,41 +8,39 @@ use Rattle.ovs_types.specs.Schema.{SchemaValue}
 use Rattle.ovs_rows.specs.Row.{no_rows}
 use Rattle.ovs_links.proofs.GrowLemmas.{grows_by}
 use Rattle.ovs_links.specs.Answers.{IsSourceChain}
-use Rattle.ovs_links.specs.Chains.{rows_after}
-use Rattle.ovs_links.specs.Epochs.{IsLatestChain}
+use Rattle.ovs_links.specs.Chains.{IsLongestChain, rows_after}
 use Rattle.ovs_links.specs.History.{IsHeldCount}
 use Rattle.ovs_links.specs.Sets.{Holds, Among}
 use Rattle.ovs_links.specs.Store.{Stored, IsStore, tables_of}
 use Rattle.ovs_links.specs.declared.link.Link.{Link}
-use Rattle.ovs_links.proofs.ChainLemmas.{holds_by_prev}
-use Rattle.ovs_links.proofs.EpochLemmas.{epoch_chain}
-use Rattle.ovs_links.proofs.OpeningLemmas.{latest_unique}
+use Rattle.ovs_links.proofs.ChainLemmas.{longest_unique, holds_by_prev, longest_same_set}
+use Rattle.ovs_links.proofs.HistoryLemmas.{source_chain}
 use Rattle.ovs_source.specs.Commits.{IsSource, history_of}
 use Rattle.ovs_source.proofs.Histories.{no_commits}
 use Rattle.ovs_world.specs.Headline.{HasSourceDatabase, HaveSameDatabase, IsFaithful}
 use Rattle.ovs_world.specs.Nodes.{IsNode, IsTier, node_at}
 use Rattle.ovs_world.specs.Worlds.{empty_store}
 use Rattle.ovs_world.proofs.Scenes.{node_of}
-use Rattle.ovs_world.proofs.Starts.{in_source}
 
 -- ---- the headline
 
 has_source_database : (source s : Stored) → IsSource source → IsNode source s → HasSourceDatabase source s
 has_source_database source s is node settled =
     let of_source : IsSourceChain (tables_of source) (Holds s.links) s.folded =
-    subst (λ (v : SchemaValue). IsSourceChain v.description.tables (Holds s.links) s.folded) node.schema (λ h k w. epoch_chain (tables_of s) h (Holds s.links) s.folded k w settled) in
-    let place = in_source source is (Holds s.links) s.folded node.within of_source in (
+    subst (λ (v : SchemaValue). IsSourceChain v.description.tables (Holds s.links) s.folded) node.schema (source_chain (Holds s.links) (tables_of s) s.folded settled) in
+    let place = of_source (history_of source) is.history (λ l held. subst (λ (ls : List Link). Among ls l) (sym is.links) (node.within l held)) in (
       length s.folded,
-      place.count,
-      ap (λ (v : SchemaValue). rows_after v.description.tables no_rows s.folded) node.schema ∙ place.rows,
+      subst (λ (ls : List Link). IsHeldCount (Holds s.links) ls (length s.folded)) is.links place.0,
+      ap (λ (v : SchemaValue). rows_after v.description.tables no_rows s.folded) node.schema ∙ place.2,
     )
 
 have_same_database : (source s t : Stored) → IsNode source s → IsNode source t → HaveSameDatabase s t
 have_same_database source s t node other settled also both =
     let schema : t.schema ≡ s.schema = other.schema ∙ sym node.schema in
-    let latest : IsLatestChain (tables_of s) (Holds t.links) t.folded =
-    subst (λ (v : SchemaValue). IsLatestChain v.description.tables (Holds t.links) t.folded) schema also in
-    let same = latest_unique (Holds s.links) (Holds t.links) (holds_by_prev s.links) (tables_of s) s.folded t.folded (λ l. (both l).0) (λ l. (both l).1) settled latest in
+    let longest : IsLongestChain (tables_of s) 0 no_rows (Holds t.links) t.folded =
+    subst (λ (v : SchemaValue). IsLongestChain v.description.tables 0 no_rows (Holds t.links) t.folded) schema also in
+    let same = longest_unique (Holds s.links) (holds_by_prev s.links) (tables_of s) 0 no_rows s.folded t.folded settled
+    (longest_same_set (Holds t.links) (Holds s.links) (tables_of s) 0 no_rows t.folded (λ l. (both l).1) (λ l. (both l).0) longest) in
     ap (rows_after (tables_of s) no_rows) same ∙ ap (λ (v : SchemaValue). rows_after v.description.tables no_rows t.folded) (sym schema)
 
 pub faithful : (source : Stored) (relays : List Stored) → IsTier source relays → IsFaithful source relays
@@ -68,7 +66,6 @@ empty_is_store schema = record {
   ends = λ l held. absurd (none_held l held);
   changes = λ l held. absurd (none_held l held);
   few = omega (arith, len-empty nat_cmp Link);
-  start = omega arith;
   chain = record { members = tt; joined = tt };
   grows = λ ls chain. grows_by [] ls ls refl;
 }

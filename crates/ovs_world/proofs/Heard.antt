@@ -1,13 +1,11 @@
 -- What is on its way to a relay is heard.
-use Rattle.std.proofs.Common.{nat_tests, arith, ◌≡◌, ◌⊎◌, inl, inr, ℕ, zero, suc, Bool, true, false, cond, List, [], ◌∷◌, Some, None, Ok, refl, sym, ◌∙◌, ap, subst}
+use Rattle.std.proofs.Common.{◌≡◌, ◌⊎◌, inl, inr, ℕ, zero, suc, Bool, true, false, cond, List, [], ◌∷◌, Some, None, Ok, refl, sym, ◌∙◌, ap, subst}
 use Rattle.std.specs.Prelude.{slice_get, nat_le, ◌==◌, ◌&&◌, ◌^◌}
 use Rattle.serde_json.specs.Data.{Data}
 use Rattle.ovs_json.specs.Parts.{is_empty_object}
 use Rattle.ovs_types.specs.Schema.{SchemaValue}
 use Rattle.ovs_types.specs.SchemaReading.{read_description}
 use Rattle.ovs_types.specs.declared.schema.Table.{Table}
-use Rattle.ovs_links.specs.Chains.{start_of}
-use Rattle.ovs_links.specs.Link.{IsStart}
 use Rattle.ovs_links.specs.Sets.{Among}
 use Rattle.ovs_links.specs.Store.{Stored, tables_of}
 use Rattle.ovs_links.specs.declared.link.Link.{Link}
@@ -31,15 +29,12 @@ use Rattle.ovs_world.specs.Leading.{HasMonitor, AwaitsSchema, AwaitsAnswer, Awai
 use Rattle.ovs_world.proofs.Answering.{schema_heard}
 
 pub source_line : (source : Stored) → IsSource source → IsLine (tables_of source) source.folded
-source_line source is = subst (IsLine (tables_of source)) is.links (history_line (tables_of source) 0 (history_of source) (omega arith) is.history)
+source_line source is = subst (IsLine (tables_of source)) is.links (history_line (tables_of source) (history_of source) is.history)
 
 among_at : (ls : List Link) (k : ℕ) (l : Link) → slice_get ls k ≡ Some l → Among ls l
 among_at [] k l e = absurd (let n : None ≡ Some l = e in cc)
 among_at (m ∷ ms) zero l e = inl (let s : m ≡ l = cc in sym s)
 among_at (m ∷ ms) (suc k) l e = inr (among_at ms k l e)
-
-small_test : (id : ℕ) → IsStart id → nat_le (2 ^ 64) id ≡ false
-small_test id below = grind (arith, nat_tests)
 
 -- ---- the answer, and updates: the session stands behind so many links, and has made at most the last of them
 
@@ -82,22 +77,24 @@ module _ (s : UpSession) (ls : List Link) (line : IsLine s.schema.description.ta
             ∙ linked_at tables ls s.asked a.0 id d line a.2 i,
         subst (StandsBehind ls (record { stage = At i.link.id; event = Links (i.link ∷ []) })) (sym a.1) (behind_link tables ls a.0 id d i),
       )
-  answer_heard false id d k (inl a) = (
-    record { stage = At id; event = Nothing },
-    ap (λ b. cond b (linked tables 0 id d) (placed (is_empty_object d) id)) (small_test id (subst IsStart (sym a.0) line.start)) ∙ ap (λ b. placed b id) a.1,
-    record {
-      id = id;
-      stage = refl;
-      stands = subst (λ n. IsAt ls n k) (sym a.0) (subst (IsAt ls (start_of ls)) (sym a.2) (at_start ls));
-      event = inl refl;
-    },
-  )
+  answer_heard false id d k (inl a) =
+      let tests : ((id == 0) && is_empty_object d) ≡ true = ap (λ b. b && is_empty_object d) (same_test id 0 a.0) ∙ a.1 in (
+        record { stage = At id; event = Nothing },
+        ap (λ b. cond b (linked tables 0 id d) (placed ((id == 0) && is_empty_object d) id)) (ap (λ n. nat_le (2 ^ 64) n) a.0)
+            ∙ ap (λ b. placed b id) tests,
+        record {
+          id = id;
+          stage = refl;
+          stands = subst (λ n. IsAt ls n k) (sym a.0) (subst (IsAt ls 0) (sym a.2) (at_start ls));
+          event = inl refl;
+        },
+      )
   answer_heard false id d k (inr a) =
-      let i = a.2 in
-      let there : IsAt ls 0 0 = subst (λ n. IsAt ls n 0) a.1 (at_start ls) in
-      let ends = next_is_other tables ls 0 0 id d line there i in (
+      let i = a.1 in
+      let ends = next_is_other tables ls 0 0 id d line (at_start ls) i in (
         _,
-        ap (λ b. cond b (linked tables 0 id d) (placed (is_empty_object d) id)) (large_test id ends.0) ∙ linked_at tables ls 0 0 id d line there i,
+        ap (λ b. cond b (linked tables 0 id d) (placed ((id == 0) && is_empty_object d) id)) (large_test id ends.0)
+            ∙ linked_at tables ls 0 0 id d line (at_start ls) i,
         subst (StandsBehind ls (record { stage = At i.link.id; event = Links (i.link ∷ []) })) (sym a.0) (behind_link tables ls 0 id d i),
       )
 

@@ -4,7 +4,6 @@ use Rattle.std.proofs.Common.{◌≡◌, ◌≢◌, ◌+◌, ◌⊎◌, inl, inr
 use Rattle.std.proofs.lemmas.Bool.{cases_eq}
 use Rattle.ovs_rows.specs.Row.{no_rows}
 use Rattle.ovs_links.proofs.GrowLemmas.{grown_first}
-use Rattle.ovs_links.specs.Chains.{start_of}
 use Rattle.ovs_links.specs.Answers.{IsSourceChain, AreOfOneSource, NonePrev, TakesAs}
 use Rattle.ovs_links.specs.History.{links_of}
 use Rattle.ovs_links.specs.Runs.{HoldsBoth, IsRefusedAt}
@@ -16,13 +15,12 @@ use Rattle.ovs_links.specs.declared.answer.By.TheVariants.{Prev, Id}
 use Rattle.ovs_links.specs.declared.answer.TakeError.{TakeError}
 use Rattle.ovs_links.specs.declared.answer.TakeError.TheVariants.{Fork, Full}
 use Rattle.ovs_links.specs.declared.link.Link.{Link}
-use Rattle.ovs_links.proofs.EpochLemmas.{no_fork, one_epoch, one_epoch_is, in_one_epoch}
+use Rattle.ovs_links.proofs.HistoryLemmas.{no_fork}
 use Rattle.ovs_links.proofs.JoinLemmas.{Links, IsKeyed, at_prev}
 use Rattle.ovs_links.proofs.MapLemmas.{insert_at, insert_other, len_insert_new}
 use Rattle.ovs_source.specs.Commits.{IsSource, history_of}
 use Rattle.ovs_world.specs.Nodes.{IsNode}
 use Rattle.ovs_world.proofs.Counting.{few_among, chain_few}
-use Rattle.ovs_world.proofs.Starts.{source_start, front_start, in_source}
 
 -- of a beginning of a list's first links
 module _ (source : Stored) (is : IsSource source) where
@@ -36,15 +34,15 @@ module _ (source : Stored) (is : IsSource source) where
       let same : new.schema ≡ source.schema = keeps.schema ∙ schema in
       let source_chain : IsSourceChain (tables_of mid) (Holds mid.links) (chain_of mid) = whole.source in
       let of_source : IsSourceChain (tables_of source) (Holds mid.links) (chain_of mid) = subst (λ (v : _). IsSourceChain v.description.tables (Holds mid.links) (chain_of mid)) schema source_chain in
-      let place = in_source source is (Holds mid.links) (chain_of mid) within of_source in
-      let chain : chain_of mid ≡ take (length (chain_of mid)) source.folded = place.same in
+      let place = of_source (history_of source) is.history (λ l held. subst (λ (ls : List Link). Among ls l) (sym is.links) (within l held)) in
+      let chain : chain_of mid ≡ take (length (chain_of mid)) source.folded = place.1 ∙ ap (take (length (chain_of mid))) is.links in
       let longest : IsChainOf new (chain_of mid) = subst (λ (v : _). IsChainOf (record { schema = v; links = new.links; folded = new.folded }) (chain_of mid)) (sym keeps.schema)
       (subst (λ (v : _). IsChainOf (record { schema = mid.schema; links = v; folded = new.folded }) (chain_of mid)) (sym keeps.links) whole.longest) in
       record {
         schema = same;
         store = store;
         within = λ l held. within l (subst (λ (v : _). Holds v l) keeps.links held);
-        front = grown_first new.folded (chain_of mid) source.folded (length (chain_of mid)) (omega (arith, ap start_of chain ∙ front_start (length (chain_of mid)) source.folded (source_start source is))) (store.grows (chain_of mid) longest) chain;
+        front = grown_first new.folded (chain_of mid) source.folded (length (chain_of mid)) (store.grows (chain_of mid) longest) chain;
       }
 
   among_all : (xs : List Link) (x : Link) → AllOf (Among source.folded) xs → Among xs x → Among source.folded x
@@ -84,10 +82,10 @@ module _ (source : Stored) (is : IsSource source) where
     where
       one_source : ((x : Link) → Holds m x → Among source.folded x) → AreOfOneSource (tables_of source) (Holds m) (Among source.folded)
       one_source held = (
-        one_epoch (history_of source),
-        one_epoch_is (tables_of source) (history_of source) is.history,
-        λ x h. in_one_epoch (tables_of source) (history_of source) x (subst (λ (ls : List Link). Among ls x) (sym is.links) (held x h)),
-        λ x h. in_one_epoch (tables_of source) (history_of source) x (subst (λ (ls : List Link). Among ls x) (sym is.links) h),
+        history_of source,
+        is.history,
+        λ x h. subst (λ (ls : List Link). Among ls x) (sym is.links) (held x h),
+        λ x h. subst (λ (ls : List Link). Among ls x) (sym is.links) h,
       )
 
       by_answer : (by : By) → ((x : Link) → Holds m x → Among source.folded x) → Among source.folded at.link → TakesAs m at.link (Err (Fork l by p i)) → ⊥

@@ -7,7 +7,7 @@ use Rattle.ovs_types.specs.Schema.{SchemaValue}
 use Rattle.ovs_types.specs.SchemaReading.{read_description}
 use Rattle.ovs_types.specs.declared.schema.Table.{Table}
 use Rattle.ovs_rows.specs.Row.{no_rows}
-use Rattle.ovs_links.specs.Chains.{head_after, start_of}
+use Rattle.ovs_links.specs.Chains.{head_after}
 use Rattle.ovs_links.specs.History.{links_of}
 use Rattle.ovs_links.specs.Sets.{AllOf, Among}
 use Rattle.ovs_links.specs.Steps.{FoldedValue, steps_of}
@@ -38,7 +38,6 @@ use Rattle.ovs_world.specs.Nodes.{IsNode, folded_in}
 use Rattle.ovs_world.specs.Sessions.{Opens, Asks, Pumps, Goes, Hears, moved_on, with_line}
 use Rattle.ovs_world.specs.declared.session.Session.{Session}
 use Rattle.ovs_world.specs.Asking.{schema_reply}
-use Rattle.ovs_world.proofs.Starts.{source_start, front_start}
 use Rattle.ovs_world.proofs.Answering.{schema_answered, monitor_answered}
 use Rattle.ovs_world.proofs.Carried.{carries_nothing, carries_sent}
 use Rattle.ovs_world.proofs.Heard.{IsHeard, first_heard}
@@ -76,13 +75,9 @@ take_front (suc k) zero ls le = absurd (omega arith)
 take_front (suc k) (suc n) [] le = refl
 take_front (suc k) (suc n) (l ∷ ls) le = ap (λ x. l ∷ x) (take_front k n ls (omega arith))
 
-module _ (tables : List Table) (n : ℕ) (ls : List Link) (from_zero : start_of ls ≡ 0) where
-  begins : start_of (take n ls) ≡ start_of ls
-  begins = front_start n ls from_zero ∙ sym from_zero
-
+module _ (tables : List Table) (n : ℕ) (ls : List Link) where
   at_front : (id k : ℕ) → IsAt (take n ls) id k → IsAt ls id k
-  at_front id k at =
-      (let le = length_front n ls in omega (arith, le, at.0), ap (λ i. head_after i (take k ls)) (sym begins) ∙ ap (head_after (start_of (take n ls))) (sym (take_front k n ls at.0)) ∙ at.1)
+  at_front id k at = (let le = length_front n ls in omega (arith, le, at.0), ap (head_after 0) (sym (take_front k n ls at.0)) ∙ at.1)
 
   link_front : (k id : ℕ) (d : Data) → IsLinkAt tables (take n ls) k id d → IsLinkAt tables ls k id d
   link_front k id d i = record { link = i.link; found = get_taken n ls k i.link i.found; id_is = i.id_is; spells = i.spells }
@@ -90,8 +85,8 @@ module _ (tables : List Table) (n : ℕ) (ls : List Link) (from_zero : start_of 
   answers_front : (asked : ℕ) (known : Bool) (id : ℕ) (d : Data) (k : ℕ) → Answers tables (take n ls) asked known id d k → Answers tables ls asked known id d k
   answers_front asked true id d k (inl a) = inl (a.0, a.1, at_front asked k a.2)
   answers_front asked true id d k (inr a) = inr (a.0, a.1, at_front asked a.0 a.2, link_front a.0 id d a.3)
-  answers_front asked false id d k (inl a) = inl (a.0 ∙ begins, a.1, a.2)
-  answers_front asked false id d k (inr a) = inr (a.0, from_zero, link_front 0 id d a.2)
+  answers_front asked false id d k (inl a) = inl a
+  answers_front asked false id d k (inr a) = inr (a.0, link_front 0 id d a.1)
 
   place_front : (asked k : ℕ) (t : Talk) → TellsPlace tables (take n ls) asked k t → TellsPlace tables ls asked k t
   place_front asked k (Reached known id d) a = answers_front asked known id d k a
@@ -128,7 +123,7 @@ module _ (source node : Stored) (is_source : IsSource source) (is_node : IsNode 
     asked_for t asks shown can new none =
         let same : s.up.schema ≡ node.schema = is.schema ∙ sym is_node.schema in
         let f = folded_in node in
-        let a = monitor_answered node.schema node.folded s.reader s.up.asked is_node.store.start (subst (λ (v : SchemaValue). CanBeAsked v s.up.asked) same can) is.goes_on new in
+        let a = monitor_answered node.schema node.folded s.reader s.up.asked (subst (λ (v : SchemaValue). CanBeAsked v s.up.asked) same can) is.goes_on new in
         let request : Message = monitor_request node.schema s.up.asked in
         let asked_is : monitor_request s.up.schema s.up.asked ≡ request = ap (λ (v : SchemaValue). monitor_request v s.up.asked) same in
         let reader : t.reader ≡ after_turn s.reader f request = asks.reader ∙ ap (λ (r : Message). after_turn s.reader f r) asked_is in
@@ -152,7 +147,7 @@ module _ (source node : Stored) (is_source : IsSource source) (is_node : IsNode 
                 more = [];
                 are = refl;
                 place = a.0.position;
-                tells = place_front (tables_of source) count source.folded (source_start source is_source) s.up.asked a.0.position (talk_of reply)
+                tells = place_front (tables_of source) count source.folded s.up.asked a.0.position (talk_of reply)
                     (subst (λ (v : SchemaValue). TellsPlace v.description.tables (take count source.folded) s.up.asked a.0.position (talk_of reply)) is_node.schema
                     (subst (λ (ls : List Link). TellsPlace node.schema.description.tables ls s.up.asked a.0.position (talk_of reply)) is_node.front a.6));
                 links = refl;

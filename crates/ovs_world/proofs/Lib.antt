@@ -7,7 +7,6 @@ pub mod Led
 pub mod Counting
 pub mod Held
 pub mod Moving
-pub mod Starts
 pub mod Scenes
 pub mod Delivered
 pub mod Faithful

@@ -6,7 +6,7 @@ use Rattle.std.proofs.lemmas.List.{take-append-le}
 use Rattle.serde_json.specs.Data.{Data}
 use Rattle.ovs_types.specs.declared.schema.Table.{Table}
 use Rattle.ovs_links.proofs.GrowLemmas.{grows_by}
-use Rattle.ovs_links.specs.Chains.{head_after, start_of}
+use Rattle.ovs_links.specs.Chains.{head_after}
 use Rattle.ovs_links.specs.Sets.{AllOf, Among, Holds}
 use Rattle.ovs_links.specs.Store.{Stored, IsStore, tables_of}
 use Rattle.ovs_links.specs.declared.link.Link.{Link}
@@ -28,7 +28,6 @@ use Rattle.ovs_world.specs.Nodes.{IsNode, IsTier, node_at}
 use Rattle.ovs_world.specs.Worlds.{IsOpen, IsWorld}
 use Rattle.ovs_world.specs.declared.session.Session.{Session}
 use Rattle.ovs_world.proofs.Scenes.{led_grows}
-use Rattle.ovs_world.proofs.Starts.{source_start}
 
 among_more : (ls more : List Link) (l : Link) → Among ls l → Among (ls ++ more) l
 among_more [] more l a = absurd a
@@ -44,17 +43,9 @@ long : (ls more : List Link) → length ls ≤ length (ls ++ more)
 long [] more = omega arith
 long (l ∷ ls) more = let t = long ls more in omega (arith, t)
 
-module _ (tables : List Table) (ls more : List Link) (from_zero : start_of (ls ++ more) ≡ 0) where
-  begins : start_of ls ≡ start_of (ls ++ more)
-  begins = by ls from_zero
-    where
-      by : (xs : List Link) → start_of (xs ++ more) ≡ 0 → start_of xs ≡ start_of (xs ++ more)
-      by [] e = sym e
-      by (x ∷ xs) e = refl
-
+module _ (tables : List Table) (ls more : List Link) where
   at_more : (id k : ℕ) → IsAt ls id k → IsAt (ls ++ more) id k
-  at_more id k at =
-      (let le = long ls more in omega (arith, at.0, le), ap (head_after (start_of (ls ++ more))) (take-append-le k ls more at.0) ∙ ap (λ i. head_after i (take k ls)) (sym begins) ∙ at.1)
+  at_more id k at = (let le = long ls more in omega (arith, at.0, le), ap (head_after 0) (take-append-le k ls more at.0) ∙ at.1)
 
   link_more : (k id : ℕ) (d : Data) → IsLinkAt tables ls k id d → IsLinkAt tables (ls ++ more) k id d
   link_more k id d i = record { link = i.link; found = get_more ls more k i.link i.found; id_is = i.id_is; spells = i.spells }
@@ -62,8 +53,8 @@ module _ (tables : List Table) (ls more : List Link) (from_zero : start_of (ls +
   answers_more : (asked : ℕ) (known : Bool) (id : ℕ) (d : Data) (k : ℕ) → Answers tables ls asked known id d k → Answers tables (ls ++ more) asked known id d k
   answers_more asked true id d k (inl a) = inl (a.0, a.1, at_more asked k a.2)
   answers_more asked true id d k (inr a) = inr (a.0, a.1, at_more asked a.0 a.2, link_more a.0 id d a.3)
-  answers_more asked false id d k (inl a) = inl (a.0 ∙ begins, a.1, a.2)
-  answers_more asked false id d k (inr a) = inr (a.0, from_zero, link_more 0 id d a.2)
+  answers_more asked false id d k (inl a) = inl a
+  answers_more asked false id d k (inr a) = inr (a.0, link_more 0 id d a.1)
 
   place_more : (asked k : ℕ) (t : Talk) → TellsPlace tables ls asked k t → TellsPlace tables (ls ++ more) asked k t
   place_more asked k (Reached known id d) a = answers_more asked known id d k a
@@ -85,10 +76,7 @@ module _ (tables : List Table) (ls more : List Link) (from_zero : start_of (ls +
 
 -- ---- sessions
 
-module _ (s t : Stored) (more : List Link) (schema : t.schema ≡ s.schema) (folded : t.folded ≡ s.folded ++ more) (source : IsSource t) where
-  from_zero : start_of (s.folded ++ more) ≡ 0
-  from_zero = ap start_of (sym folded) ∙ source_start t source
-
+module _ (s t : Stored) (more : List Link) (schema : t.schema ≡ s.schema) (folded : t.folded ≡ s.folded ++ more) where
   abbrev longer : Stored
   longer = record { schema = s.schema; links = t.links; folded = s.folded ++ more }
 
@@ -104,15 +92,15 @@ module _ (s t : Stored) (more : List Link) (schema : t.schema ≡ s.schema) (fol
     more = a.more;
     are = a.are;
     place = a.place;
-    tells = place_more (tables_of s) s.folded more from_zero asked a.place (talk_of a.answer) a.tells;
-    links = links_more (tables_of s) s.folded more from_zero a.place a.monitor.position a.more a.links;
+    tells = place_more (tables_of s) s.folded more asked a.place (talk_of a.answer) a.tells;
+    links = links_more (tables_of s) s.folded more a.place a.monitor.position a.more a.links;
   }
   awaits_more n asked (At id) monitors messages a = record {
     monitor = a.monitor;
     has = record { only = a.has.only; relay = a.has.relay; within = a.has.within };
     place = a.place;
-    stands = at_more (tables_of s) s.folded more from_zero id a.place a.stands;
-    links = links_more (tables_of s) s.folded more from_zero a.place a.monitor.position messages a.links;
+    stands = at_more (tables_of s) s.folded more id a.place a.stands;
+    links = links_more (tables_of s) s.folded more a.place a.monitor.position messages a.links;
   }
   awaits_more n asked Ended monitors messages a = a
 
@@ -152,7 +140,7 @@ module _ (s t : Stored) (more : List Link) (schema : t.schema ≡ s.schema) (fol
 
   -- ---- all of it
 
-  module _ (relays : List Stored) (before : IsSource s) (store : IsStore t) where
+  module _ (relays : List Stored) (before : IsSource s) (source : IsSource t) (store : IsStore t) where
     -- what was held stands on the chain
     keeps : (l : Link) → Holds s.links l → Holds t.links l
     keeps l held = held_of t.folded l store.chain.members (subst (λ (ls : List Link). Among ls l) (sym folded) (among_more s.folded more l (before.folded l held)))
@@ -166,7 +154,7 @@ module _ (s t : Stored) (more : List Link) (schema : t.schema ≡ s.schema) (fol
     tier_more tier = record { is_source = source; store = store; each = each_more relays tier.each }
 
     at_node : (n : ℕ) (x : Session) → n ≤ length relays → IsLed s (node_at s relays n) x → IsLed t (node_at t relays n) x
-    at_node zero x le is = led_grows t s t x (source_start t source) (record { schema = schema; store = store; keeps = keeps; grows = grows_by s.folded more t.folded (sym folded) }) (led_more s x is)
+    at_node zero x le is = led_grows t s t x (record { schema = schema; store = store; keeps = keeps; grows = grows_by s.folded more t.folded (sym folded) }) (led_more s x is)
     at_node (suc i) x le is = subst (λ (v : Stored). IsLed t v x) (same relays i (omega (arith, le))) (led_more (get_or relays i s) x is)
       where
         same : (ss : List Stored) (i : ℕ) → i < length ss → get_or ss i s ≡ get_or ss i t
@@ -211,8 +199,8 @@ pub world_committed : (s t : Stored) (fresh rest : ℕ) (relays : List Stored) (
 world_committed s t fresh rest relays os w (inl same) source store =
     subst (λ (x : Stored). IsWorld (record { source = x; fresh = rest; relays = relays; sessions = os })) (sym same) (record { tier = w.tier; sessions = w.sessions })
 world_committed s t fresh rest relays os w (inr grown) source store = record {
-  tier = tier_more s t (grown.0 ∷ []) grown.1 grown.2 source relays w.tier.is_source store w.tier;
-  sessions = sessions_more s t (grown.0 ∷ []) grown.1 grown.2 source relays w.tier.is_source store os w.sessions;
+  tier = tier_more s t (grown.0 ∷ []) grown.1 grown.2 relays w.tier.is_source source store w.tier;
+  sessions = sessions_more s t (grown.0 ∷ []) grown.1 grown.2 relays w.tier.is_source source store os w.sessions;
 }
 
 pub world_same : (s t : Stored) (fresh rest : ℕ) (relays : List Stored) (os : List (Option Session)) → IsWorld (record { source = s; fresh = fresh; relays = relays; sessions = os })

@@ -10,7 +10,6 @@ use Rattle.ovs_links.specs.Settling.{KeepsLinks, IsWholeChain, chain_of, after_s
 use Rattle.ovs_links.specs.Sets.{Among, Holds}
 use Rattle.ovs_links.specs.Store.{Stored, IsStore, tables_of, max_links}
 use Rattle.ovs_links.specs.declared.link.Link.{Link}
-use Rattle.ovs_links.proofs.EpochLemmas.{one_epoch, one_epoch_is, in_one_epoch}
 use Rattle.ovs_links.proofs.JoinLemmas.{in_join, join_left, join_is_set}
 use Rattle.ovs_source.specs.Commits.{IsSource, history_of}
 use Rattle.ovs_world.specs.Nodes.{IsNode, IsTier, Extends, Grow, LeavesMerge, MergesNodes, LeavesMergeOfNodes, node_at}
@@ -28,10 +27,10 @@ module _ (source s t : Stored) (is : IsSource source) (store : IsStore source) (
   -- the links are of one history, so none contradicts another
   pub one_source : AreOfOneSource (tables_of s) (Holds s.links) (Holds t.links)
   one_source = subst (λ (v : SchemaValue). AreOfOneSource v.description.tables (Holds s.links) (Holds t.links)) (sym node.schema) (
-    one_epoch (history_of source),
-    one_epoch_is (tables_of source) (history_of source) is.history,
-    λ l h. in_one_epoch (tables_of source) (history_of source) l (subst (λ (ls : List Link). Among ls l) (sym is.links) (node.within l h)),
-    λ l h. in_one_epoch (tables_of source) (history_of source) l (subst (λ (ls : List Link). Among ls l) (sym is.links) (other.within l h)),
+    history_of source,
+    is.history,
+    λ l h. subst (λ (ls : List Link). Among ls l) (sym is.links) (node.within l h),
+    λ l h. subst (λ (ls : List Link). Among ls l) (sym is.links) (other.within l h),
   )
 
   -- and there is room for all of them
@@ -140,4 +139,4 @@ pub world_grown : (source : Stored) (fresh : ℕ) (ss ts us : List Stored) (os :
     → IsTier source ts → Grow ss ts → us ≡ ts → IsWorld (record { source = source; fresh = fresh; relays = us; sessions = os })
 world_grown source fresh ss ts us os w tier grow us_is =
     subst (λ (x : List Stored). IsWorld (record { source = source; fresh = fresh; relays = x; sessions = os })) (sym us_is)
-    (record { tier = tier; sessions = sessions_grow source ss ts os tier grow w.sessions })
+    (record { tier = tier; sessions = sessions_grow source ss ts os w.tier.store grow w.sessions })

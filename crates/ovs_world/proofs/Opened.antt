@@ -17,7 +17,6 @@ use Rattle.ovs_world.specs.Nodes.{IsNode, IsTier, Grow, node_at, folded_in}
 use Rattle.ovs_world.specs.Worlds.{IsWorld, IsOpen, IsOpenAt, NoneIsOpenAt}
 use Rattle.ovs_world.specs.declared.session.Session.{Session}
 use Rattle.ovs_world.proofs.Scenes.{node_of, length_grow, node_grows, led_grows, any_default}
-use Rattle.ovs_world.proofs.Starts.{node_start}
 
 all_set : {X : Type 0} (P : X → Type 0) (xs : List X) (i : ℕ) (x : X) → AllByRecursion P xs → P x → AllByRecursion P (slice_set xs i x)
 all_set P [] i x a p = a
@@ -32,30 +31,29 @@ all_weaker : {X : Type 0} (P Q : X → Type 0) (xs : List X) → ((x : X) → P 
 all_weaker P Q [] f a = tt
 all_weaker P Q (x ∷ xs) f a = (f x a.0, all_weaker P Q xs f a.1)
 
-between_grows : (source : Stored) (ss ts : List Stored) (s : Session) → IsTier source ts → Grow ss ts → IsBetween source ss s → IsBetween source ts s
-between_grows source ss ts s tier grow is =
+between_grows : (source : Stored) (ss ts : List Stored) (s : Session) → IsStore source → Grow ss ts → IsBetween source ss s → IsBetween source ts s
+between_grows source ss ts s store grow is =
     let long = length_grow ss ts grow in
     let relay = is.relay.1 in
     let upstream = is.upstream in
     record {
       relay = (is.relay.0, omega (arith, relay, long));
       upstream = omega (arith, upstream, long);
-      led = led_grows source (node_at source ss s.upstream) (node_at source ts s.upstream) s (node_start source (node_at source ts s.upstream) tier.is_source (node_of source ts tier s.upstream))
-          (node_grows source ss ts tier.store grow s.upstream) is.led;
+      led = led_grows source (node_at source ss s.upstream) (node_at source ts s.upstream) s (node_grows source ss ts store grow s.upstream) is.led;
     }
 
-open_grows : (source : Stored) (ss ts : List Stored) (o : Option Session) → IsTier source ts → Grow ss ts → IsOpen source ss o → IsOpen source ts o
-open_grows source ss ts None tier grow is = is
-open_grows source ss ts (Some s) tier grow is = (between_grows source ss ts s tier grow is.0, is.1)
+open_grows : (source : Stored) (ss ts : List Stored) (o : Option Session) → IsStore source → Grow ss ts → IsOpen source ss o → IsOpen source ts o
+open_grows source ss ts None store grow is = is
+open_grows source ss ts (Some s) store grow is = (between_grows source ss ts s store grow is.0, is.1)
 
-pub sessions_grow : (source : Stored) (ss ts : List Stored) (os : List (Option Session)) → IsTier source ts → Grow ss ts → AllByRecursion (IsOpen source ss) os → AllByRecursion (IsOpen source ts) os
-sessions_grow source ss ts os tier grow each = all_weaker (IsOpen source ss) (IsOpen source ts) os (λ x r. open_grows source ss ts x tier grow r) each
+pub sessions_grow : (source : Stored) (ss ts : List Stored) (os : List (Option Session)) → IsStore source → Grow ss ts → AllByRecursion (IsOpen source ss) os → AllByRecursion (IsOpen source ts) os
+sessions_grow source ss ts os store grow each = all_weaker (IsOpen source ss) (IsOpen source ts) os (λ x r. open_grows source ss ts x store grow r) each
 
 -- some relays took more, and one session is another
-pub sessions_after : (source : Stored) (ss ts : List Stored) (os : List (Option Session)) (i : ℕ) (o : Option Session) → IsTier source ts → Grow ss ts
+pub sessions_after : (source : Stored) (ss ts : List Stored) (os : List (Option Session)) (i : ℕ) (o : Option Session) → IsStore source → Grow ss ts
     → AllByRecursion (IsOpen source ss) os → IsOpen source ts o → AllByRecursion (IsOpen source ts) (slice_set os i o)
-sessions_after source ss ts os i o tier grow each is =
-    all_set (IsOpen source ts) os i o (sessions_grow source ss ts os tier grow each) is
+sessions_after source ss ts os i o store grow each is =
+    all_set (IsOpen source ts) os i o (sessions_grow source ss ts os store grow each) is
 
 pub sessions_cut : (source : Stored) (ss : List Stored) (os : List (Option Session)) (i : ℕ) → AllByRecursion (IsOpen source ss) os → AllByRecursion (IsOpen source ss) (slice_set os i None)
 sessions_cut source ss os i each = all_set (IsOpen source ss) os i None each tt
@@ -116,14 +114,14 @@ pub world_stopped : (source : Stored) (fresh : ℕ) (ss ts us : List Stored) (os
 world_stopped source fresh ss ts us os ps i w tier grow us_is ps_is =
     subst (λ (x : List Stored). IsWorld (record { source = source; fresh = fresh; relays = x; sessions = ps })) (sym us_is)
     (subst (λ (x : List (Option Session)). IsWorld (record { source = source; fresh = fresh; relays = ts; sessions = x })) (sym ps_is)
-    (record { tier = tier; sessions = sessions_after source ss ts os i None tier grow w.sessions tt }))
+    (record { tier = tier; sessions = sessions_after source ss ts os i None w.tier.store grow w.sessions tt }))
 
 pub world_brought : (source : Stored) (fresh : ℕ) (ss ts us : List Stored) (os ps : List (Option Session)) (i : ℕ) (s : Session) → IsWorld (record { source = source; fresh = fresh; relays = ss; sessions = os })
     → IsTier source ts → Grow ss ts → IsScene source ts s → IsQuiet s → us ≡ ts → ps ≡ slice_set os i None → IsWorld (record { source = source; fresh = fresh; relays = us; sessions = slice_set ps i (Some s) })
 world_brought source fresh ss ts us os ps i s w tier grow stands heard us_is ps_is =
     subst (λ (x : List Stored). IsWorld (record { source = source; fresh = fresh; relays = x; sessions = slice_set ps i (Some s) })) (sym us_is)
     (subst (λ (x : List (Option Session)). IsWorld (record { source = source; fresh = fresh; relays = ts; sessions = x })) (sym (ap (λ (x : List (Option Session)). slice_set x i (Some s)) ps_is ∙ set-set os i None (Some s)))
-    (record { tier = tier; sessions = sessions_after source ss ts os i (Some s) tier grow w.sessions (stands.between, heard) }))
+    (record { tier = tier; sessions = sessions_after source ss ts os i (Some s) w.tier.store grow w.sessions (stands.between, heard) }))
 
 pub world_opened : (source : Stored) (fresh : ℕ) (ss : List Stored) (os ps : List (Option Session)) (s : Session) → IsWorld (record { source = source; fresh = fresh; relays = ss; sessions = os })
     → IsBetween source ss s → IsQuiet s → ps ≡ os ++ Some s ∷ [] → IsWorld (record { source = source; fresh = fresh; relays = ss; sessions = ps })

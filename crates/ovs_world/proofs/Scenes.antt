@@ -3,7 +3,6 @@ use Rattle.std.specs.List.{AllByRecursion}
 use Rattle.std.proofs.Common.{◌≡◌, ◌≤◌, ◌<◌, ℕ, zero, suc, List, [], ◌∷◌, length, get_or, slice_set, refl, sym, ◌∙◌, ap, arith}
 use Rattle.std.proofs.Math.Seq.{take-length}
 use Rattle.ovs_links.proofs.GrowLemmas.{grown_length, grows_itself, grows_on}
-use Rattle.ovs_links.specs.Chains.{start_of}
 use Rattle.ovs_links.specs.Store.{Stored, IsStore}
 use Rattle.ovs_links.specs.declared.link.Link.{Link}
 use Rattle.ovs_reader.specs.declared.subscription.Subscription.{Subscription}
@@ -127,8 +126,8 @@ awaits_more source n k asked (At id) monitors messages le a =
     record { monitor = a.monitor; has = has_more source n k monitors a.monitor le a.has; place = a.place; stands = a.stands; links = a.links }
 awaits_more source n k asked Ended monitors messages le a = a
 
-pub led_grows : (source node more : Stored) (s : Session) → start_of more.folded ≡ 0 → Extends node more → IsLed source node s → IsLed source more s
-led_grows source node more s begins extends is = record {
+pub led_grows : (source node more : Stored) (s : Session) → Extends node more → IsLed source node s → IsLed source more s
+led_grows source node more s extends is = record {
   schema = is.schema;
   says = is.says;
   goes_on = is.goes_on;
@@ -136,5 +135,5 @@ led_grows source node more s begins extends is = record {
   idle = is.idle;
   messages = is.messages;
   carried = is.carried;
-  awaits = awaits_more source (length node.folded) (length more.folded) s.up.asked s.up.stage s.reader.monitors is.messages (grown_length node.folded more.folded (omega (arith, begins)) extends.grows) is.awaits;
+  awaits = awaits_more source (length node.folded) (length more.folded) s.up.asked s.up.stage s.reader.monitors is.messages (grown_length node.folded more.folded extends.grows) is.awaits;
 }

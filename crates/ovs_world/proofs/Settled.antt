@@ -7,32 +7,26 @@ use Rattle.ovs_rows.specs.Row.{no_rows}
 use Rattle.ovs_links.specs.Chains.{IsChain}
 use Rattle.ovs_links.specs.Outcomes.{taken_all}
 use Rattle.ovs_links.specs.Settling.{chain_of, after_settle}
-use Rattle.ovs_links.specs.Sets.{Holds, Among}
+use Rattle.ovs_links.specs.Sets.{Holds}
 use Rattle.ovs_links.specs.Store.{Stored, IsStore, tables_of}
 use Rattle.ovs_links.specs.declared.link.Link.{Link}
 use Rattle.ovs_links.proofs.ChainOutcomes.{followed_is_whole}
-use Rattle.ovs_links.proofs.EpochLemmas.{one_opening}
 use Rattle.ovs_links.proofs.LongestLemmas.{chain_within}
-use Rattle.ovs_source.specs.Commits.{IsSource, history_of}
+use Rattle.ovs_source.specs.Commits.{IsSource}
 use Rattle.ovs_world.specs.Deliveries.{Scene, Move, Tell, Feed, Choke, Hear, Does, DoesAll, holding}
 use Rattle.ovs_world.specs.Nodes.{IsNode, IsTier, IsSettled, node_at, held}
 use Rattle.ovs_world.specs.Worlds.{empty_store}
 use Rattle.ovs_world.proofs.Counting.{few_among}
 use Rattle.ovs_world.proofs.Faithful.{none_held}
-use Rattle.ovs_world.proofs.Starts.{source_start}
 
 -- the source is
 pub source_settled : (s : Stored) → IsSource s → IsStore s → IsSettled s
 source_settled s is store = record {
-  start = 0;
-  opening = one_opening (tables_of s) (history_of s) (Holds s.links) is.history (λ l held. subst (λ (ls : List Link). Among ls l) (sym is.links) (is.folded l held));
-  longest = record {
-    chain = subst (λ (i : ℕ). IsChain (tables_of s) i no_rows (Holds s.links) s.folded) (source_start s is) store.chain;
-    longest = λ ms c.
-        (let within = chain_within (tables_of s) 0 no_rows s.links (omega arith) store.set store.ends ms c in
-        let few = few_among s.folded s.links store.set.keyed is.folded in
-        omega (arith, within, few));
-  };
+  chain = store.chain;
+  longest = λ ms c.
+      (let within = chain_within (tables_of s) 0 no_rows s.links (omega arith) store.set store.ends ms c in
+      let few = few_among s.folded s.links store.set.keyed is.folded in
+      omega (arith, within, few));
 }
 
 -- and a store that has settled
@@ -42,11 +36,7 @@ settled_store s store = (followed_is_whole (after_settle s) store).longest
 
 -- and one with no link
 pub none_settled : (schema : SchemaValue) → IsSettled (empty_store schema)
-none_settled schema = record {
-  start = 0;
-  opening = record { found = inl refl; greatest = λ l o. absurd (none_held l o.member) };
-  longest = record { chain = record { members = tt; joined = tt }; longest = none };
-}
+none_settled schema = record { chain = record { members = tt; joined = tt }; longest = none }
   where
     none : (ms : List Link) → IsChain schema.description.tables 0 no_rows (Holds empty) ms → length ms ≤ 0
     none [] c = omega arith

@@ -1,6 +1,6 @@
 //! A session between a relay and the node that it follows: both ends, and what passes between them.
 
-ghost use Rattle.std.specs.Prelude.{◌≡◌, ◌==◌, ◌||◌, [], List, length, min, false, None, Some, Ok, Err, IfOk, IfErr, IfSome, OnOk};
+ghost use Rattle.std.specs.Prelude.{◌≡◌, ◌==◌, ◌||◌, [], List, length, min, None, Some, Ok, Err, IfOk, IfErr, IfSome, OnOk};
 ghost use Rattle.ovs_types.specs.SchemaReading.{read_description};
 ghost use Rattle.ovs_reader.specs.Telling.{AreToldReadably};
 ghost use Rattle.ovs_source.specs.Commits.{IsSource};
@@ -15,12 +15,12 @@ ghost use Rattle.ovs_upstream.specs.declared.up_session.Heard.{Heard};
 ghost use Rattle.ovs_upstream.specs.declared.up_session.Stage.TheVariants as Stage;
 ghost use Rattle.ovs_links.specs.Sets.{AllOf, Among, IsOfTables};
 ghost use Rattle.ovs_links.specs.Store.{Stored, IsStore, tables_of};
-ghost use Rattle.ovs_reader.specs.Session.{MayBeShown, is_over};
+ghost use Rattle.ovs_reader.specs.Session.{MayBeShown};
 
 use crate::channel::Channel;
 use crate::error::WorldError;
 use ovs_links::{Link, LinkStore};
-use ovs_reader::{ReaderSession, ShownError};
+use ovs_reader::ReaderSession;
 use ovs_types::{NoMemory, TxnId};
 use ovs_upstream::{UpError, UpEvent, UpSession};
 use ovs_wire::{Message, MessageError};
@@ -86,18 +86,16 @@ impl Session {
     // Passes a request up, and puts the node's reply in flight.
     fn ask(&mut self, alloc: Global, request: &Message, node: &LinkStore) -> Result<(), WorldError>
         requires shown { MayBeShown self.old.reader (folded_in node.now) }
-        requires goes_on { is_over self.old.reader.start (folded_in node.now) ≡ false }
         requires idle { IsIdle self.old.upward }
         ensures asks { OnOk result (Asks (folded_in node.now) self.old request.now self.new) }
         ensures shown { OnOk result (MayBeShown self.new.reader (folded_in node.now)) }
         ensures refused { IfErr result (IsNotPassed request.now) }
     {
         let request = self.upward.pass(alloc, request)?;
-        let turn = match self.reader.take_message(alloc, request, node.folded()) {
-            Ok(turn) => boxed(alloc, turn)?,
-            Err(ShownError::NoMemory) => return Err(WorldError::NoMemory),
-            Err(ShownError::Epoch) => unreachable!(),
-        };
+        let turn = boxed(
+            alloc,
+            self.reader.take_message(alloc, request, node.folded())?,
+        )?;
         self.downward.send_any(alloc, turn.out.as_ref())?;
         Ok(())
     }
@@ -108,7 +106,6 @@ impl Session {
     /// `NoMemory` alone.
     pub(crate) fn pump(&mut self, alloc: Global, node: &LinkStore) -> Result<(), WorldError>
         requires shown { MayBeShown self.old.reader (folded_in node.now) }
-        requires goes_on { is_over self.old.reader.start (folded_in node.now) ≡ false }
         ensures pumps { OnOk result (PumpsIdle (folded_in node.now) self.old self.new) }
         ensures shown { OnOk result (MayBeShown self.new.reader (folded_in node.now)) }
         ensures readable { OnOk result (self.old.downward.flight ≡ [] → AreToldReadably self.old.reader.monitors (folded_in node.now).steps) }
@@ -117,11 +114,7 @@ impl Session {
         if self.downward.in_flight() > 0 {
             return Ok(());
         }
-        let messages = match self.reader.pump(alloc, node.folded()) {
-            Ok(messages) => messages,
-            Err(ShownError::NoMemory) => return Err(WorldError::NoMemory),
-            Err(ShownError::Epoch) => unreachable!(),
-        };
+        let messages = self.reader.pump(alloc, node.folded())?;
         self.downward.send_all(alloc, &messages)?;
         Ok(())
     }
@@ -165,7 +158,6 @@ impl Session {
         node: &LinkStore,
     ) -> Result<Option<Vec<Link>>, WorldError>
         requires led { (source : Stored) × IsSource source × IsLed source node.now self.old }
-        requires goes_on { is_over self.old.reader.start (folded_in node.now) ≡ false }
         ensures heard { IfOk result (λ heard. IfSome heard (λ links. HearsNext (folded_in node.now) self.old links.items self.new)) }
         ensures none { result ≡ Ok None → (self.new ≡ self.old) × (self.old.downward.framing.waiting ≡ []) }
         ensures refused { IfErr result (IsUnheardNext self.old) }
@@ -192,7 +184,6 @@ impl Session {
     ) -> Result<Vec<Link>, WorldError>
         requires hears { (h : Heard) × (hears self.old.up message ≡ Ok h) }
         requires shown { MayBeShown self.old.reader (folded_in node.now) }
-        requires goes_on { is_over self.old.reader.start (folded_in node.now) ≡ false }
         requires idle { IsIdle self.old.upward }
         ensures heard { IfOk result (λ links. Hears (folded_in node.now) self.old message links.items self.new) }
         ensures refused { IfErr result (IsUnheard self.old message) }
@@ -216,7 +207,6 @@ impl Session {
         node: &LinkStore,
     ) -> Result<Vec<Link>, WorldError>
         requires shown { MayBeShown self.old.reader (folded_in node.now) }
-        requires goes_on { is_over self.old.reader.start (folded_in node.now) ≡ false }
         requires idle { IsIdle self.old.upward }
         ensures goes { IfOk result (λ links. Goes (folded_in node.now) self.old event self.new × (links.items ≡ links_in event)) }
         ensures refused { IfErr result (IsNotSent event) }

@@ -2,7 +2,7 @@ use Rattle.std.proofs.Common.{sym, ap, subst, ◌∙◌}
 use Rattle.ovs_links.specs.Steps.{tables_in}
 use Rattle.ovs_reader.specs.Session.{AreMonitorsOf, AreStepsOf, MayBeShown}
 use Rattle.ovs_reader.proofs.Fitting.{shown_past}
-use Rattle.ovs_reader.proofs.session.ReaderSession.tell_some.Goals as goal
+use Rattle.ovs_reader.proofs.session.ReaderSession.pump_some.Goals as goal
 
 pub told_some-requires : goal.told_some-requires
 told_some-requires c = record {

@@ -6,7 +6,7 @@ use Rattle.ovs_links.specs.StepChains.{ArePlaces}
 use Rattle.ovs_links.specs.declared.step.Step.{Step}
 use Rattle.ovs_links.proofs.MapLemmas.{first_back}
 use Rattle.ovs_links.proofs.StepLemmas.{places_push}
-use Rattle.ovs_links.proofs.folded.Folded.add.Goals as goal
+use Rattle.ovs_links.proofs.folded.Folded.absorb.Goals as goal
 
 pushed : (s t : Step) (ss new : List Step) (places more : FinMap nat_cmp ℕ) (n : ℕ) → t ≡ s → new ≡ ss ++ t ∷ [] → more ≡ with_first places s.id n → ArePlaces ss places
     → n ≡ length ss + 1 → ArePlaces new more
