@@ -53,24 +53,24 @@ pub(crate) fn lines_of<K: NodeName, Q: FeedName>(
 }
 
 /// Threads whose devices are over memory.
-pub(crate) type MemoryCrew<'a, K, Q, R> = Crew<
+pub(crate) type MemoryCrew<'a, 'x, K, Q, R> = Crew<
     'a,
     K,
     Q,
     Upstream,
     ReaderDoors,
-    LockedDesk<'a, R>,
+    LockedDesk<'x, R>,
     MemoryBell,
 >;
 
 /// The upstreams of a scene, and its reader.
-pub(crate) fn crew_of<'a, K: NodeName, Q: FeedName, R: Wait>(
+pub(crate) fn crew_of<'a, 'x, K: NodeName, Q: FeedName, R: Wait>(
     alloc: Global,
     scene: Scene,
-    stage: &'a Stage<'a, R>,
+    stage: &'a Stage<'x, R>,
     lines: Vec<Line<K, Q, Upstream>>,
     views: Vec<View<K>>,
-) -> Result<MemoryCrew<'a, K, Q, R>, Fault> {
+) -> Result<MemoryCrew<'a, 'x, K, Q, R>, Fault> {
     let mut views = views;
     let mut crew = Crew::new(alloc);
     for (line, sessions) in lines.into_iter().zip(scene.upstreams) {

@@ -10,17 +10,20 @@ use crate::crews::{Stage, crew_of, lines_of};
 use crate::fault::Fault;
 use crate::outcome::{finished, told};
 use crate::readers::request_text;
-use crate::upstreams::{UpSession, number_in, read_sessions};
-use ovs_engine::{Shared, Unwatched, relay_desk_sends, run_node};
+use crate::upstreams::{UpSession, Upstream, number_in, read_sessions};
+use ovs_engine::{Line, Shared, Unwatched, relay_desk_sends, run_node};
 use ovs_links::Step;
-use ovs_node::{FeedName, Handle, NodeName, OpenNode, Opened, Parts};
+use ovs_node::{
+    Board, FeedName, FeedQueue, Handle, Node, NodeLink, NodeName, OpenNode, Opened, Parts, Report,
+    View,
+};
 use ovs_query::Select;
 use ovs_session::Limits;
 use ovs_types::Schema;
 use serde_json::Value;
 use std::alloc::Global;
 use std::marker::Brand;
-use std::sync::Wait;
+use std::sync::{Mutex, Wait};
 use std::thread::Threads;
 
 const LIMITS: Limits = Limits {
@@ -114,11 +117,11 @@ fn named<K: NodeName + Send + Sync, Q: FeedName + Send + Sync, R: Threads + Wait
 }
 
 // Runs the node, and tells what came of it.
-fn run<K: NodeName + Send + Sync, Q: FeedName + Send + Sync, R: Threads + Wait + Sync>(
-    rt: &R,
+fn run<'x, K: NodeName + Send + Sync, Q: FeedName + Send + Sync, R: Threads + Wait + Sync>(
+    rt: &'x R,
     alloc: Global,
     schema: &Schema,
-    parts: Parts<K, Q, Handle<K, &R>>,
+    parts: Parts<K, Q, Handle<K, &'x R>>,
     scene: Scene,
     select: &Select,
 ) -> Result<String, Fault>
@@ -136,12 +139,48 @@ fn run<K: NodeName + Send + Sync, Q: FeedName + Send + Sync, R: Threads + Wait +
     let kept_back = views.pop().ok_or(Fault::BadCount)?;
     let stage = Stage::new(rt, alloc)?;
     let lines = lines_of(alloc, ends)?;
-    let crew = crew_of(alloc, scene, &stage, lines, views)?;
+    let outfit = Outfit {
+        scene,
+        lines,
+        views,
+    };
+    let report = staged(rt, alloc, schema, &queue, &board, &stage, node, outfit)?;
+    told(rt, alloc, &board, &report, kept_back, select)
+}
+
+// What the threads of a node are made of.
+#[derive(Drop)]
+struct Outfit<K: NodeName, Q: FeedName> {
+    scene: Scene,
+    lines: Vec<Line<K, Q, Upstream>>,
+    views: Vec<View<K>>,
+}
+
+// The same, where all is there that the threads share.
+fn staged<'a, 'x, K: NodeName + Send + Sync, Q: FeedName + Send + Sync, R: Threads + Wait + Sync>(
+    rt: &'a R,
+    alloc: Global,
+    schema: &'a Schema,
+    queue: &'a FeedQueue<NodeLink<K>, Q>,
+    board: &'a Mutex<Board<K>>,
+    stage: &'a Stage<'x, R>,
+    node: Node<K, Q, Handle<K, &'x R>>,
+    outfit: Outfit<K, Q>,
+) -> Result<Report<K, Handle<K, &'x R>>, Fault>
+    requires schema { schema.now ≡ K.schema }
+    requires in_step { IsInStep (published node.publisher.handle) (pending node.publisher.handle) node.publisher.front node.publisher.kept (steps_in node.intake.store) }
+{
+    let Outfit {
+        scene,
+        lines,
+        views,
+    } = outfit;
+    let crew = crew_of(alloc, scene, &*stage, lines, views)?;
     let shared = Shared {
-        rt,
-        schema,
-        queue: &queue,
-        board: &board,
+        rt: &*rt,
+        schema: &*schema,
+        queue: &*queue,
+        board: &*board,
         desk: &stage.desk,
         bells: &stage.bells,
         upward: &stage.upward,
@@ -150,9 +189,8 @@ fn run<K: NodeName + Send + Sync, Q: FeedName + Send + Sync, R: Threads + Wait +
         limits: LIMITS,
     };
     relay_desk_sends();
-    let Ok(ran) = run_node(alloc, &shared, node, crew) else {
-        return Err(Fault::NoMemory);
-    };
-    let report = finished(rt, alloc, &queue, &board, ran)?;
-    told(rt, alloc, &board, &report, kept_back, select)
+    match run_node(alloc, &shared, node, crew) {
+        Ok(ran) => finished(&*rt, alloc, &*queue, &*board, ran),
+        Err(_unrun) => Err(Fault::NoMemory),
+    }
 }
