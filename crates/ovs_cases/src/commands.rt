@@ -19,9 +19,13 @@ fn source_told(alloc: Global, given: &SourceOptions) -> Result<String, Fault> {
     let first_id = given.first_id.to_text(alloc)?;
     let first_row = given.first_row.to_text(alloc)?;
     let (schema, listen, accepts) = (&given.schema, given.listen, given.accepts);
+    let trims = match given.trim_every {
+        Some(every) => format!(in alloc; ", trims every {every}")?,
+        None => String::new(alloc),
+    };
     let verbose = flag(given.verbose, ", tells");
     let told = format!(in alloc;
-        "source {schema} at {listen}, ids {first_id}, rows {first_row}, accepts {accepts}{verbose}"
+        "source {schema} at {listen}, ids {first_id}, rows {first_row}{trims}, accepts {accepts}{verbose}"
     );
     Ok(told?)
 }

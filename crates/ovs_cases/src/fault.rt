@@ -1,5 +1,6 @@
 //! Why a case has no answer.
 
+use ovs_reader::ShownError;
 use ovs_types::NoMemory;
 use std::alloc::{AllocError, AllocFailed};
 
@@ -9,6 +10,8 @@ pub(crate) enum Fault {
     Malformed,
     /// No link has such ids.
     BadId,
+    /// What is shown begins anew.
+    Epoch,
     /// Memory ran out.
     NoMemory,
 }
@@ -18,6 +21,7 @@ impl Fault {
         match self {
             Fault::Malformed => "no such case",
             Fault::BadId => "bad-id",
+            Fault::Epoch => "epoch",
             Fault::NoMemory => "no memory",
         }
     }
@@ -26,6 +30,15 @@ impl Fault {
 impl From<NoMemory> for Fault {
     fn from(_error: NoMemory) -> Fault {
         Fault::NoMemory
+    }
+}
+
+impl From<ShownError> for Fault {
+    fn from(error: ShownError) -> Fault {
+        match error {
+            ShownError::Epoch => Fault::Epoch,
+            ShownError::NoMemory => Fault::NoMemory,
+        }
     }
 }
 

@@ -104,6 +104,15 @@ fn settle(alloc: Global, store: &mut LinkStore) -> Result<String, Fault>
     }
 }
 
+// Folds the chain, and drops the links of lower starts that can be reached.
+fn prune(alloc: Global, store: &mut LinkStore) -> Result<String, Fault>
+    ensures tables { tables_of store.new ≡ tables_of store.old }
+{
+    let _settled = store.settle(alloc)?;
+    let dropped = store.prune();
+    Ok(format!(in alloc; "{dropped} dropped")?)
+}
+
 fn take_all(alloc: Global, store: &mut LinkStore, links: &[Value]) -> Result<(), Fault>
     ensures tables { tables_of store.new ≡ tables_of store.old }
 {
@@ -189,6 +198,7 @@ fn event(alloc: Global, store: &mut LinkStore, parts: &[Value]) -> Result<String
         "take" => take(alloc, store, link),
         "append" => append(alloc, store, link),
         "settle" => settle(alloc, store),
+        "prune" => prune(alloc, store),
         "merge" => merge(alloc, store, list(parts, 1)?),
         _ => looked_up(alloc, store, parts),
     }
@@ -226,7 +236,7 @@ fn events(alloc: Global, store: &mut LinkStore, events: &[Value]) -> Result<Stri
 }
 
 /// `["store", [EVENT, ..]]`: what a new store answers to the events, and what stands in it then. An event is `["take",
-/// PREV, ID, CHANGE]`, the same with `append`, `["settle"]`, `["merge", [[PREV, ID, CHANGE], ..]]`, or a question:
+/// PREV, ID, CHANGE]`, the same with `append`, `["settle"]`, `["prune"]`, `["merge", [[PREV, ID, CHANGE], ..]]`, or a question:
 /// `["position", ID]`, `["link at", NUMBER]`, `["holds", [PREV, ID, CHANGE]]`.
 pub(crate) fn store(alloc: Global, schema: &Schema, parts: &[Value]) -> Result<String, Fault> {
     let asked = list(parts, 1)?;

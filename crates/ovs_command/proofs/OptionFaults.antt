@@ -6,11 +6,11 @@ use Rattle.std.specs.List.{AllZip}
 use Rattle.std.specs.Option.{unwrap_or}
 use Rattle.clap.specs.Words.{Row, Text, first_of}
 use Rattle.ovs_command.specs.declared.command_option.CommandOption.{CommandOption}
-use Rattle.ovs_command.specs.declared.command_option.CommandOption.TheVariants.{Schema, Listen, Upstream, FirstId, FirstRow, Accepts, Tries}
+use Rattle.ovs_command.specs.declared.command_option.CommandOption.TheVariants.{Schema, Listen, Upstream, FirstId, FirstRow, TrimEvery, Accepts, Tries}
 use Rattle.ovs_command.specs.declared.command_fault.CommandFault.{CommandFault}
 use Rattle.ovs_command.specs.declared.command_fault.CommandFault.TheVariants.{Usage, Missing, BadValue, OneTooMany, NoMemory}
 use Rattle.ovs_command.specs.Values.{SpellsAddress, SpellsCommit, SpellsRow, SpellsCount, SpellsNone}
-use Rattle.ovs_command.specs.Options.{is_count, word_of, words_of, Gives, SpellsOrMost}
+use Rattle.ovs_command.specs.Options.{is_count, word_of, words_of, Gives, SpellsOrMost, SpellsIfGiven}
 use Rattle.ovs_command.specs.CommandLine.{Found, HasCommand}
 use Rattle.ovs_command.specs.Faults.{IsReadable, IsNoValue, StandsBehind, IsFaultOf, IsFaultOfSource, IsFaultOfRelay, IsFoundReadable, IsNoValueOf, HasOptionFault}
 
@@ -21,6 +21,7 @@ count_fault option rows word is at none (Usage line) made = absurd (let no : Usa
 count_fault option rows word is at none (Missing o) made = absurd (let no : Missing o ≡ NoMemory = made in cc)
 count_fault option rows word is at none (OneTooMany w) made = absurd (let no : OneTooMany w ≡ NoMemory = made in cc)
 count_fault option rows word is at none NoMemory made = tt
+count_fault TrimEvery rows word is at none (BadValue o w) made = (made.0, at ∙ ap Some (sym made.1), subst (SpellsNone SpellsCount) (sym made.1) none)
 count_fault Accepts rows word is at none (BadValue o w) made = (made.0, at ∙ ap Some (sym made.1), subst (SpellsNone SpellsCount) (sym made.1) none)
 count_fault Tries rows word is at none (BadValue o w) made = (made.0, at ∙ ap Some (sym made.1), subst (SpellsNone SpellsCount) (sym made.1) none)
 count_fault Schema rows word is at none (BadValue o w) made = absurd (true≢false (sym is))
@@ -46,6 +47,11 @@ counted_alone : (o : Option Text) (n : ℕ) → SpellsOrMost o n → (word : Tex
 counted_alone None n counts word is none = let no : None ≡ Some word = is in cc
 counted_alone (Some w) n counts word is none =
     let same : w ≡ word = (let some : Some w ≡ Some word = is in cc) in none n (subst (λ v. SpellsCount v n) same counts)
+
+counted_if_given : (o : Option Text) (n : Option ℕ) → SpellsIfGiven o n → (word : Text) → o ≡ Some word → ¬ (SpellsNone SpellsCount word)
+counted_if_given None n counts word is none = let no : None ≡ Some word = is in cc
+counted_if_given (Some w) n counts word is none =
+    let same : w ≡ word = (let some : Some w ≡ Some word = is in cc) in none counts.0 (subst (λ v. SpellsCount v counts.0) same counts.2)
 
 -- each of several words spells a value
 each_spells : {A : Type 0} (Spells : Text → A → Type 0) (words : List Text) (values : List A) → AllZip Spells words values
@@ -80,6 +86,7 @@ is_there Schema rows needed readable none = no_word _ readable.0 readable.1 none
 is_there Listen rows needed readable none = no_word _ readable.1.0 readable.1.1 none
 is_there FirstId rows needed readable none = no_word _ readable.1.0 readable.1.1 none
 is_there FirstRow rows needed readable none = no_word _ readable.1.0 readable.1.1 none
+is_there TrimEvery rows needed readable none = absurd (true≢false needed)
 is_there Accepts rows needed readable none = absurd (true≢false needed)
 is_there Tries rows needed readable none = absurd (true≢false needed)
 is_there Upstream rows needed readable none =
@@ -95,6 +102,7 @@ is_value Listen rows readable word behind none = given_alone SpellsAddress Liste
 is_value Upstream rows readable word behind none = each_spells SpellsAddress (words_of Upstream rows) readable.0 readable.1.0 word behind none
 is_value FirstId rows readable word behind none = given_alone SpellsCommit FirstId rows readable.0 readable.1 word behind none
 is_value FirstRow rows readable word behind none = given_alone SpellsRow FirstRow rows readable.0 readable.1 word behind none
+is_value TrimEvery rows readable word behind none = counted_if_given (word_of TrimEvery rows) readable.0 readable.1 word behind none
 is_value Accepts rows readable word behind none = counted_alone (word_of Accepts rows) readable.0 readable.1 word behind none
 is_value Tries rows readable word behind none = counted_alone (word_of Tries rows) readable.0 readable.1 word behind none
 

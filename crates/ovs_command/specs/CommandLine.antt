@@ -31,10 +31,10 @@ fold_app = with_rule (new_app (codes "fold")) (word_rule (codes "merge"))
 abbrev pub world_app : App
 world_app = new_app (codes "world")
 
--- a schema, an address to listen at and the first ids
+-- a schema, an address to listen at, the first ids, and after how many links an epoch ends
 abbrev pub source_words : App
-source_words = with_rule (with_rule (with_rule (with_rule (with_rule (new_app (codes "source")) (word_rule (codes "schema"))) (word_rule (codes "listen")))
-    (word_rule (codes "first-id"))) (word_rule (codes "first-row"))) (word_rule (codes "accepts"))
+source_words = with_rule (with_rule (with_rule (with_rule (with_rule (with_rule (new_app (codes "source")) (word_rule (codes "schema")))
+    (word_rule (codes "listen"))) (word_rule (codes "first-id"))) (word_rule (codes "first-row"))) (word_rule (codes "trim-every"))) (word_rule (codes "accepts"))
 
 abbrev pub source_app : App
 source_app = with_rule source_words (flag_rule (codes "verbose"))

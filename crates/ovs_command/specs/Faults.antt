@@ -1,17 +1,17 @@
 -- What is off in words that ask for nothing.
-use Rattle.std.specs.Prelude.{◌≡◌, ◌≢◌, ◌⊎◌, ℕ, List, [], Some, None, Bool, true, false, Result, Ok, Err, codes, slice_get, Contains, IsTrue, string_bytes}
+use Rattle.std.specs.Prelude.{◌≡◌, ◌≢◌, ◌⊎◌, ℕ, List, [], Option, Some, None, Bool, true, false, Result, Ok, Err, codes, slice_get, Contains, IsTrue, string_bytes}
 use Rattle.std.specs.declared.net.socket_addr.SocketAddr.{SocketAddr}
 use Rattle.clap.specs.Words.{Row, Text, fault_of, subcommand_of}
 use Rattle.clap.specs.declared.error.kind.ErrorKind.{ErrorKind}
 use Rattle.clap.specs.declared.error.kind.ErrorKind.TheVariants.{DisplayHelp, DisplayVersion, OutOfMemory}
 use Rattle.ovs_command.specs.declared.command_option.CommandOption.{CommandOption}
-use Rattle.ovs_command.specs.declared.command_option.CommandOption.TheVariants.{Schema, Listen, Upstream, FirstId, FirstRow, Accepts, Tries}
+use Rattle.ovs_command.specs.declared.command_option.CommandOption.TheVariants.{Schema, Listen, Upstream, FirstId, FirstRow, TrimEvery, Accepts, Tries}
 use Rattle.ovs_command.specs.declared.command_fault.CommandFault.{CommandFault}
 use Rattle.ovs_command.specs.declared.command_fault.CommandFault.TheVariants.{Usage, Missing, BadValue, OneTooMany, NoMemory}
 use Rattle.ovs_command.specs.declared.command_line.Task.{Task}
 use Rattle.ovs_command.specs.declared.command_line.Task.TheVariants.{Help, Version}
 use Rattle.ovs_command.specs.Values.{SpellsAddress, SpellsCommit, SpellsRow, SpellsCount, SpellsNone}
-use Rattle.ovs_command.specs.Options.{is_count, word_of, words_of, Gives, Counts, AreUpstreams}
+use Rattle.ovs_command.specs.Options.{is_count, word_of, words_of, Gives, Counts, CountsIfGiven, AreUpstreams}
 use Rattle.ovs_command.specs.CommandLine.{Found, HasCommand, AskForText, program}
 
 -- the exit status beside a fault: 2 a fault of the command line, 3 memory gave out
@@ -29,6 +29,7 @@ is_of_source _ = true
 abbrev pub is_of_relay : CommandOption → Bool
 is_of_relay FirstId = false
 is_of_relay FirstRow = false
+is_of_relay TrimEvery = false
 is_of_relay _ = true
 
 -- ---- words that can be read
@@ -40,6 +41,7 @@ IsReadable Listen rows = (address : SocketAddr) × Gives SpellsAddress Listen ro
 IsReadable Upstream rows = (upstreams : List SocketAddr) × AreUpstreams rows upstreams
 IsReadable FirstId rows = (id : ℕ) × Gives SpellsCommit FirstId rows id
 IsReadable FirstRow rows = (id : ℕ) × Gives SpellsRow FirstRow rows id
+IsReadable TrimEvery rows = (n : Option ℕ) × CountsIfGiven TrimEvery rows n
 IsReadable Accepts rows = (n : ℕ) × Counts Accepts rows n
 IsReadable Tries rows = (n : ℕ) × Counts Tries rows n
 
@@ -61,6 +63,7 @@ IsNoValue Listen word = SpellsNone SpellsAddress word
 IsNoValue Upstream word = SpellsNone SpellsAddress word
 IsNoValue FirstId word = SpellsNone SpellsCommit word
 IsNoValue FirstRow word = SpellsNone SpellsRow word
+IsNoValue TrimEvery word = SpellsNone SpellsCount word
 IsNoValue Accepts word = SpellsNone SpellsCount word
 IsNoValue Tries word = SpellsNone SpellsCount word
 

@@ -5,7 +5,7 @@ use Rattle.std.specs.Option.{option_map_or, unwrap_or}
 use Rattle.std.specs.declared.net.socket_addr.SocketAddr.{SocketAddr}
 use Rattle.clap.specs.Words.{Row, Text, first_of, all_of}
 use Rattle.ovs_command.specs.declared.command_option.CommandOption.{CommandOption}
-use Rattle.ovs_command.specs.declared.command_option.CommandOption.TheVariants.{Schema, Listen, Upstream, FirstId, FirstRow, Accepts, Tries}
+use Rattle.ovs_command.specs.declared.command_option.CommandOption.TheVariants.{Schema, Listen, Upstream, FirstId, FirstRow, TrimEvery, Accepts, Tries}
 use Rattle.ovs_command.specs.declared.options.SourceOptions.{SourceOptions}
 use Rattle.ovs_command.specs.declared.options.RelayOptions.{RelayOptions}
 use Rattle.ovs_command.specs.Values.{SpellsAddress, SpellsCommit, SpellsRow, SpellsCount}
@@ -16,11 +16,13 @@ option_name Listen = codes "listen"
 option_name Upstream = codes "upstream"
 option_name FirstId = codes "first-id"
 option_name FirstRow = codes "first-row"
+option_name TrimEvery = codes "trim-every"
 option_name Accepts = codes "accepts"
 option_name Tries = codes "tries"
 
 -- it has a number behind it
 abbrev pub is_count : CommandOption → Bool
+is_count TrimEvery = true
 is_count Accepts = true
 is_count Tries = true
 is_count _ = false
@@ -51,6 +53,14 @@ SpellsOrMost (Some word) n = SpellsCount word n
 abbrev pub Counts : CommandOption → List Row → ℕ → Type 0
 Counts option rows n = SpellsOrMost (word_of option rows) n
 
+-- the number that the word behind an option spells, or none where it isn't there
+abbrev pub SpellsIfGiven : Option Text → Option ℕ → Type 0
+SpellsIfGiven None n = n ≡ None
+SpellsIfGiven (Some word) n = (count : ℕ) × (n ≡ Some count) × SpellsCount word count
+
+abbrev pub CountsIfGiven : CommandOption → List Row → Option ℕ → Type 0
+CountsIfGiven option rows n = SpellsIfGiven (word_of option rows) n
+
 -- ---- what is asked of each command
 
 -- what `source` is given
@@ -59,6 +69,7 @@ pub record GiveSource (rows : List Row) (o : SourceOptions) : Type 0 where
   pub listen : Gives SpellsAddress Listen rows o.listen
   pub first_id : Gives SpellsCommit FirstId rows o.first_id
   pub first_row : Gives SpellsRow FirstRow rows o.first_row
+  pub trim_every : CountsIfGiven TrimEvery rows o.trim_every
   pub accepts : Counts Accepts rows o.accepts
   pub verbose : o.verbose ≡ has_flag (codes "verbose") rows
 

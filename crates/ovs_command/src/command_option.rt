@@ -19,6 +19,8 @@ pub enum CommandOption {
     FirstId,
     /// The id of the first row that a source inserts.
     FirstRow,
+    /// After how many links of one epoch a source begins the next.
+    TrimEvery,
     /// How many connections each thread of readers takes.
     Accepts,
     /// How many connections each thread of an upstream tries.
@@ -36,6 +38,7 @@ impl CommandOption {
             CommandOption::Upstream => "upstream",
             CommandOption::FirstId => "first-id",
             CommandOption::FirstRow => "first-row",
+            CommandOption::TrimEvery => "trim-every",
             CommandOption::Accepts => "accepts",
             CommandOption::Tries => "tries",
         }
@@ -47,7 +50,7 @@ impl CommandOption {
             CommandOption::Schema => "FILE",
             CommandOption::Listen | CommandOption::Upstream => "ADDR",
             CommandOption::FirstId | CommandOption::FirstRow => "ID",
-            CommandOption::Accepts | CommandOption::Tries => "N",
+            CommandOption::TrimEvery | CommandOption::Accepts | CommandOption::Tries => "N",
         }
     }
 
@@ -62,7 +65,9 @@ impl CommandOption {
                 "a commit's id, 36 characters with 32 hexadecimal digits, of which the first 16 aren't all 0"
             }
             CommandOption::FirstRow => "a row's id, 36 characters with 32 hexadecimal digits",
-            CommandOption::Accepts | CommandOption::Tries => "a number from 1 to 1000000",
+            CommandOption::TrimEvery | CommandOption::Accepts | CommandOption::Tries => {
+                "a number from 1 to 1000000"
+            }
         }
     }
 }

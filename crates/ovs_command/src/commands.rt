@@ -21,6 +21,9 @@ const FIRST_ID_HELP: &str =
 
 const FIRST_ROW_HELP: &str = "The id of the first row that is inserted";
 
+const TRIM_EVERY_HELP: &str =
+    "After how many commits of one epoch the next begins, 1 to 1000000; where this isn't given there is one alone";
+
 const ACCEPTS_HELP: &str =
     "How many connections each thread of readers takes, 1 to 1000000, which it is where this isn't given";
 
@@ -115,6 +118,7 @@ fn source_command<'a>(alloc: Global) -> Result<Command<'a>, AllocError>
     let command = with_word(alloc, command, "listen", "ADDR", LISTEN_HELP)?;
     let command = with_word(alloc, command, "first-id", "ID", FIRST_ID_HELP)?;
     let command = with_word(alloc, command, "first-row", "ID", FIRST_ROW_HELP)?;
+    let command = with_word(alloc, command, "trim-every", "N", TRIM_EVERY_HELP)?;
     let command = with_word(alloc, command, "accepts", "N", ACCEPTS_HELP)?;
     with_flag(alloc, command, "verbose", VERBOSE_HELP)
 }

@@ -3,7 +3,7 @@
 ghost use Rattle.std.specs.Prelude.{◌≡◌, false, Some, IfOk, IfErr, IsTrue, string_bytes};
 ghost use Rattle.clap.specs.Words.{found_of, rows_of};
 ghost use Rattle.ovs_command.specs.declared.command_option.CommandOption.TheVariants as options;
-ghost use Rattle.ovs_command.specs.Options.{is_count, word_of, has_flag, Gives, Counts, GiveSource, GiveRelay};
+ghost use Rattle.ovs_command.specs.Options.{is_count, word_of, has_flag, Gives, Counts, CountsIfGiven, GiveSource, GiveRelay};
 ghost use Rattle.ovs_command.specs.Values.{SpellsAddress, SpellsCommit, SpellsRow};
 ghost use Rattle.ovs_command.specs.Faults.{IsFaultOf, IsFaultOfSource, IsFaultOfRelay, IsNoValueOf};
 
@@ -27,6 +27,8 @@ pub struct SourceOptions {
     pub first_id: TxnId,
     /// The id of the first row that is inserted.
     pub first_row: RowId,
+    /// After how many links of one epoch it begins the next, 1 to 1,000,000; none where it has one epoch alone.
+    pub trim_every: Option<u32>,
     /// How many connections each thread of readers takes, 1 to 1,000,000.
     pub accepts: u32,
     /// Whether to tell what happens.
@@ -138,6 +140,20 @@ fn count_of(
     }
 }
 
+// The number behind `--trim-every`, if it is there.
+fn trim_every_of(alloc: Global, found: &ArgMatches<'_>) -> Result<Option<u32>, CommandFault>
+    ensures value { IfOk result (CountsIfGiven options.TrimEvery (rows_of (found_of found.now))) }
+    ensures fault { IfErr result (IsFaultOf options.TrimEvery (rows_of (found_of found.now))) }
+{
+    match found.get_str(CommandOption::TrimEvery.name()) {
+        None => Ok(None),
+        Some(word) => match read_count(word) {
+            Some(count) => Ok(Some(count)),
+            None => Err(no_value(alloc, CommandOption::TrimEvery, word)),
+        },
+    }
+}
+
 // Whether this flag is there.
 fn has_flag(found: &ArgMatches<'_>, flag: &str) -> bool
     ensures value { result ≡ has_flag flag.now (rows_of (found_of found.now)) }
@@ -161,6 +177,7 @@ pub(crate) fn source_options(
         listen: listen_of(alloc, found)?,
         first_id: first_id_of(alloc, found)?,
         first_row: first_row_of(alloc, found)?,
+        trim_every: trim_every_of(alloc, found)?,
         accepts: count_of(alloc, found, CommandOption::Accepts)?,
         verbose: has_flag(found, "verbose"),
     })

@@ -160,10 +160,12 @@ impl<'a, L: UpwardDesk, B: Bell> SharedSide<'a, L, B> {
     }
 
     // Whether the folder is still to publish the commit that an answer stands for, and to ring all bells then. Where several
-    // upstreams send links, or one was refused, that isn't known.
+    // upstreams send links, or one was refused, that isn't known; and what stands where a chain begins is no commit.
     fn is_to_be_published(&self, standing: Option<TxnId>) -> bool {
         match (self.progress, standing) {
-            (Some(progress), Some(id)) => !progress.has_refused() && !progress.may_be_head(id),
+            (Some(progress), Some(id)) if !id.is_start() => {
+                !progress.has_refused() && !progress.may_be_head(id)
+            }
             _ => false,
         }
     }
@@ -185,7 +187,7 @@ impl<'a, L: UpwardDesk, B: Bell> SharedSide<'a, L, B> {
 impl<'a, L: UpwardDesk, B: Bell> SourceSide for SharedSide<'a, L, B> {
     ghost hears = { λ _ _ _. Unit {0} };
 
-    ghost finds = { λ _ _. Unit {0} };
+    ghost finds = { λ _ _ _. Unit {0} };
 
     ghost loses = { λ _ _. Unit {0} };
 
@@ -206,7 +208,7 @@ impl<'a, L: UpwardDesk, B: Bell> SourceSide for SharedSide<'a, L, B> {
         Ok(())
     }
 
-    fn found_source(&mut self) {
+    fn found_source(&mut self, _from: TxnId) {
         if let Some(desk) = self.desk {
             desk.found_source();
         }

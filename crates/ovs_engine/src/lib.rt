@@ -6,6 +6,7 @@ mod crew;
 mod crossing;
 mod desk_lock;
 mod desks;
+mod epoch_side;
 mod feed_sink;
 mod finished;
 mod folding;

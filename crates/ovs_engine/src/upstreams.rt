@@ -4,6 +4,7 @@ ghost use Rattle.std.specs.Prelude.{◌≡◌};
 ghost use Rattle.ovs_engine.specs.Lines.{AdmitsBytes};
 
 use crate::connector::Connector;
+use crate::epoch_side::EpochSide;
 use crate::feed_sink::FeedSink;
 use crate::line::Line;
 use crate::serving::Feeds;
@@ -51,18 +52,26 @@ struct Back<K: NodeName, Q: FeedName, C: Connector, D: SourceSide + Drop> {
     line: Line<K, Q, C>,
     // The id of the link that was sent last, if one was.
     last: Option<TxnId>,
+    // Where the chain begins of which it told.
+    start: TxnId,
     // How it ended, if there was one.
     ended: Option<Ended>,
     source: D,
 }
 
+// Whether the view knows what was sent last of a chain from this start, or never will, since the node's chain begins behind it.
+fn is_taught<K: NodeName>(view: &mut View<K>, last: TxnId, start: TxnId) -> bool {
+    view.knows(last) == Ok(true)
+        || matches!(view.ends(), Ok((begins, _head)) if u128::from(start) < u128::from(begins))
+}
+
 impl<'a, K: NodeName, Q: FeedName, R: Wait> Follows<'a, K, Q, R> {
-    // The view learns what is posted on the board, and again until it knows what was sent last.
-    fn teach(&self, view: &mut View<K>, last: Option<TxnId>) {
+    // The view learns what is posted on the board, and again until it knows what was sent last, or the chain of that is over.
+    fn teach(&self, view: &mut View<K>, last: Option<TxnId>, start: TxnId) {
         for _ in 0..TAUGHT_AT_MOST {
             teach(self.rt, self.board, view);
             match last {
-                Some(id) if view.knows(id) != Ok(true) => thread::yield_now(),
+                Some(id) if !is_taught(view, id, start) => thread::yield_now(),
                 _ => break,
             }
         }
@@ -74,7 +83,7 @@ impl<'a, K: NodeName, Q: FeedName, R: Wait> Follows<'a, K, Q, R> {
         asked: TxnId,
         connection: (C::In, C::Out),
         line: Line<K, Q, C>,
-        source: D,
+        source: EpochSide<'_, K, D>,
         tally: &mut Tally,
     ) -> Back<K, Q, C, D>
         requires lawful { AdmitsBytes C.admits asked (C.In.remaining connection.0) }
@@ -100,9 +109,11 @@ impl<'a, K: NodeName, Q: FeedName, R: Wait> Follows<'a, K, Q, R> {
         } = followed;
         tally.add(counts);
         let (end, last) = sink.into_parts();
+        let (source, start) = source.into_parts();
         Back {
             line: Line::again(end),
             last,
+            start,
             ended: Some(ended),
             source,
         }
@@ -117,14 +128,15 @@ impl<'a, K: NodeName, Q: FeedName, R: Wait> Follows<'a, K, Q, R> {
         back: Back<K, Q, C, D>,
         tally: &mut Tally,
     ) -> Back<K, Q, C, D> {
-        self.teach(view, back.last);
-        let Ok(asked) = view.head() else {
+        self.teach(view, back.last, back.start);
+        let Ok((start, asked)) = view.ends() else {
             return back;
         };
         let Some(connection) = connector.open(asked) else {
             return back;
         };
-        let back = self.follow(asked, connection, back.line, back.source, tally);
+        let side = EpochSide::new(back.source, view, start);
+        let back = self.follow(asked, connection, back.line, side, tally);
         if let Some(ended) = back.ended {
             connector.lost(ended);
         }
@@ -152,6 +164,7 @@ impl<'a, K: NodeName, Q: FeedName, R: Wait, C: Connector + Drop, D: SourceSide +
         let mut back = Back {
             line,
             last: None,
+            start: TxnId::zero(),
             ended: None,
             source,
         };

@@ -67,7 +67,7 @@ impl From<Gone> for Fault {
 impl From<ViewError> for Fault {
     fn from(error: ViewError) -> Fault {
         match error {
-            ViewError::Gone => Fault::NoView,
+            ViewError::Gone | ViewError::Epoch => Fault::NoView,
             ViewError::NoMemory => Fault::NoMemory,
         }
     }

@@ -1,14 +1,14 @@
 //! How links come in.
 
 ghost use Rattle.std.specs.Prelude.{◌≡◌, ◌<◌, ◌^◌, ◌++◌, ◌∷◌, ◌↔◌, [], None, true, false, OnOk, OnErr, IfOk, IfErr, IsTrue, length, map};
-ghost use mathlib.Core.List.{IsPrefix};
 ghost use Rattle.ovs_feed.specs.Feed.{IsDrained};
 ghost use Rattle.ovs_links.specs.Sets.{Holds};
 ghost use Rattle.ovs_links.specs.Settling.{after_settle, settled_of};
 ghost use Rattle.ovs_links.specs.Steps.{folded_of};
 ghost use Rattle.ovs_links.specs.Store.{head_of};
 ghost use Rattle.ovs_links.specs.declared.link.Link.{Link};
-ghost use Rattle.ovs_views.specs.Published.{IsNodeChain};
+ghost use Rattle.ovs_links.specs.Absorbing.{StepsGoOn};
+ghost use Rattle.ovs_folder.specs.InStep.{IsOneChain};
 ghost use Rattle.ovs_folder.specs.Ledger.{IsAccountOf, WasSent, IsFresh, TakesOne, steps_in};
 
 use crate::node_link::NodeLink;
@@ -149,7 +149,7 @@ impl<K: NodeName, Q: FeedName> Intake<K, Q> {
         ensures feed { self.new.feed ≡ self.old.feed }
         ensures kept { self.new.kept ≡ self.old.kept }
         ensures settled { IfOk result (λ s. (s ≡ settled_of self.old.store) × (self.new.store ≡ after_settle self.old.store)) }
-        ensures grows { IsPrefix (steps_in self.old.store) (steps_in self.new.store) }
+        ensures grows { StepsGoOn (steps_in self.old.store) (steps_in self.new.store) }
     {
         self.store.settle(alloc)
     }
@@ -164,7 +164,7 @@ impl<K: NodeName, Q: FeedName> Intake<K, Q> {
     /// The database after the folded links, with their steps.
     pub fn folded(&self) -> &Folded
         ensures steps { result.now.steps ≡ steps_in self.now.store }
-        ensures chain { IsNodeChain K.schema result.now.steps }
+        ensures chain { IsOneChain K.schema result.now.steps }
     {
         let _ = self.store.head();
         self.store.folded()

@@ -7,8 +7,10 @@ ghost use Rattle.ovs_links.specs.Sets.{Holds};
 ghost use Rattle.ovs_links.specs.Settling.{chain_of, settled_of};
 ghost use Rattle.ovs_links.specs.Store.{head_of};
 ghost use Rattle.ovs_links.specs.declared.link.Link.{Link};
-ghost use Rattle.ovs_views.specs.Published.{IsNodeChain};
-ghost use Rattle.ovs_folder.specs.InStep.{IsAtRest, IsInStep};
+ghost use Rattle.ovs_views.specs.Published.{IsNodeChain, all_with};
+ghost use Rattle.ovs_links.specs.Absorbing.{StepsGoOn, last_chain};
+ghost use Rattle.ovs_links.specs.StepChains.{start_of_steps};
+ghost use Rattle.ovs_folder.specs.InStep.{HasShown, IsAtRest, IsInStep, IsOneChain};
 ghost use Rattle.ovs_folder.specs.Ledger.{IsAccountOf, TakesOne, WasSent, steps_in};
 
 use crate::intake::{Closed, Intake};
@@ -32,20 +34,44 @@ pub struct Node<K: NodeName, Q: FeedName, H> {
     pub(crate) settled: Settled,
 }
 
-// Folds in the steps that weren't folded in yet, and publishes all.
+// Folds in the steps that weren't folded in yet, all of them where they begin at a greater start, and publishes all.
+#[tactic(auto, using(crate::proofs::Begins::all_shown))]
 fn show<K: NodeName, R: Wait + Drop>(
     publisher: &mut Publisher<K, Handle<K, R>>,
+    start: TxnId,
     steps: &[Step],
 ) -> Result<(), NoMemory>
     requires in_step { IsInStep (published publisher.old.handle) (pending publisher.old.handle) publisher.old.front publisher.old.kept steps.now }
-    requires chain { IsNodeChain K.schema steps.now }
+    requires chain { IsOneChain K.schema steps.now }
+    requires start { start ≡ start_of_steps steps.now }
     ensures in_step { IsInStep (published publisher.new.handle) (pending publisher.new.handle) publisher.new.front publisher.new.kept steps.now }
-    ensures shown { OnOk result (published publisher.new.handle ≡ steps.now) }
+    ensures shown { OnOk result (last_chain (published publisher.new.handle) ≡ steps.now) }
 {
-    for number in publisher.len() as usize..steps.len() {
+    let from = first_to_show(publisher, start, steps);
+    for number in from..steps.len() {
         publisher.fold(steps[number].copy()?)?;
     }
     publisher.publish()
+}
+
+// The number of the first step that wasn't folded in yet.
+#[tactic(auto, using(crate::proofs::Begins::first_same, crate::proofs::Begins::first_other))]
+fn first_to_show<K: NodeName, R: Wait + Drop>(
+    publisher: &Publisher<K, Handle<K, R>>,
+    start: TxnId,
+    steps: &[Step],
+) -> usize
+    requires begins { StepsGoOn (last_chain (all_with publisher.now.front publisher.now.kept)) steps.now }
+    requires start { start ≡ start_of_steps steps.now }
+    ensures first { HasShown (last_chain (all_with publisher.now.front publisher.now.kept)) steps.now result }
+    ensures chain { IsNodeChain K.schema (all_with publisher.now.front publisher.now.kept) }
+{
+    if publisher.start() == start {
+        publisher.chain_len() as usize
+    } else {
+        let _ = steps.len();
+        0
+    }
 }
 
 impl<K: NodeName, Q: FeedName, R: Wait + Drop> Node<K, Q, Handle<K, R>> {
@@ -68,6 +94,7 @@ impl<K: NodeName, Q: FeedName, R: Wait + Drop> Node<K, Q, Handle<K, R>> {
     }
 
     // Takes what was kept, settles and publishes.
+    #[tactic(auto, using(ovs_links::proofs::AbsorbingLemmas::goes_on))]
     fn work_off(&mut self) -> Result<(), NoMemory>
         requires in_step { IsInStep (published self.old.publisher.handle) (pending self.old.publisher.handle) self.old.publisher.front self.old.publisher.kept (steps_in self.old.intake.store) }
         ensures in_step { IsInStep (published self.new.publisher.handle) (pending self.new.publisher.handle) self.new.publisher.front self.new.publisher.kept (steps_in self.new.intake.store) }
@@ -76,7 +103,8 @@ impl<K: NodeName, Q: FeedName, R: Wait + Drop> Node<K, Q, Handle<K, R>> {
     {
         self.intake.take_kept()?;
         self.settled = self.intake.settle(self.alloc)?;
-        show(&mut self.publisher, self.intake.folded().steps())
+        let folded = self.intake.folded();
+        show(&mut self.publisher, folded.start(), folded.steps())
     }
 
     // Takes what was kept, settles and publishes, and posts what is published then.
@@ -121,7 +149,7 @@ impl<K: NodeName, Q: FeedName, R: Wait + Drop> Node<K, Q, Handle<K, R>> {
         Ok(true)
     }
 
-    /// How many steps of the chain are published.
+    /// How many steps were published, of all chains.
     pub fn published_len(&self) -> u64
         ensures value { result ≡ length (published self.now.publisher.handle) }
     {
@@ -143,7 +171,7 @@ impl<K: NodeName, Q: FeedName, R: Wait + Drop> Node<K, Q, Handle<K, R>> {
         ensures store { (result.store ≡ self.intake.store) × (result.store.folded ≡ chain_of result.store) }
         ensures settled { result.settled ≡ settled_of result.store }
         // A view that learns what is told answers from all of the chain, and reads on while the publisher lives.
-        ensures told { (result.told ≡ steps_in result.store) × (result.told ≡ published result.publisher.handle) }
+        ensures told { (last_chain result.told ≡ steps_in result.store) × (result.told ≡ published result.publisher.handle) }
         ensures sent { map (λ v. v.items) result.sent.items ≡ self.intake.feed.returned }
         ensures held { (l : Link) → Holds result.store.links l → WasSent (map (λ v. v.items) result.sent.items) l }
         ensures account { IsAccountOf result.store.links self.intake.feed.taken None result.forks result.short }

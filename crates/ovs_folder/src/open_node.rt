@@ -125,6 +125,7 @@ impl<K: NodeName, R: Wait + Drop> OpenNode<K, Handle<K, R>> {
     }
 
     // The same, where the counts are right.
+    #[tactic(auto, using(crate::proofs::Begins::none_shown))]
     fn made(
         alloc: Global,
         rt: R,

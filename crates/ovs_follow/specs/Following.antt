@@ -132,7 +132,15 @@ abbrev pub is_answer : Stage → Stage → Bool
 is_answer Asking (At id) = true
 is_answer before after = false
 
--- it was told that the source is found, where the answer to the monitor came
-abbrev pub IsFound : {D : Type 0} → (D → D → Type 0) → Stage → Stage → D → D → Type 0
-IsFound finds Asking (At id) old new = finds old new
-IsFound finds before after old new = new ≡ old
+-- from where links join up that come from here on: from the id before the first that came of this, or else from where it leads
+abbrev pub from_links : List Link → ℕ → ℕ
+from_links [] id = id
+from_links (l ∷ ls) id = l.prev
+
+abbrev pub begins_at : Heard → ℕ
+begins_at heard = from_links (links_in heard.event) (standing_at heard.stage)
+
+-- it was told that the source is found, and from where the links of the session join up, where the answer to the monitor came
+abbrev pub IsFound : {D : Type 0} → (D → ℕ → D → Type 0) → Stage → Stage → ℕ → D → D → Type 0
+IsFound finds Asking (At id) from old new = finds old from new
+IsFound finds before after from old new = new ≡ old

@@ -3,7 +3,7 @@
 ghost use Rattle.std.specs.Prelude.{◌≡◌, ◌≤◌, ◌++◌, ℕ, List, Err, OnOk, OnErr, length};
 ghost use Rattle.ovs_links.specs.Sets.{AllOf, IsOfTables};
 ghost use Rattle.ovs_upstream.specs.Hearing.{links_in};
-ghost use Rattle.ovs_follow.specs.Following.{Hears, Asks, Refuses, IsSaid, IsForSource, IsHandedOn, IsFound, IsPassedOn, standing_at};
+ghost use Rattle.ovs_follow.specs.Following.{Hears, Asks, Refuses, IsSaid, IsForSource, IsHandedOn, IsFound, IsPassedOn, begins_at, standing_at};
 
 use crate::following::Following;
 use crate::hearing::hear;
@@ -14,7 +14,7 @@ use ovs_desk::{SourceMessage, StandingAnswer};
 use ovs_json::NoMemory;
 use ovs_session::{Outbox, Refusal, Service};
 use ovs_types::TxnId;
-use ovs_upstream::{Stage, UpEvent};
+use ovs_upstream::{Heard, Stage, UpEvent};
 use ovs_wire::Message;
 use std::alloc::Global;
 use std::marker::PhantomData;
@@ -31,6 +31,18 @@ fn standing_at(stage: Stage) -> TxnId
         Stage::At(id) => id,
         _ => TxnId::zero(),
     }
+}
+
+// From where links join up that come from here on: from the id before the first that came of this, or else from where it leads.
+fn begins_at(heard: &Heard) -> TxnId
+    ensures value { result ≡ begins_at heard.now }
+{
+    if let UpEvent::Links(links) = &heard.event
+        && let Some(link) = links.as_slice().first()
+    {
+        return link.prev();
+    }
+    standing_at(heard.stage)
 }
 
 /// Follows an upstream: links go to the session's sink, and what the source asks and says to its side.
@@ -103,12 +115,12 @@ impl<S: LinkSink, D: SourceSide + Drop> Follower<S, D> {
         }
     }
 
-    // The source is found where the answer to the monitor came.
-    fn arrive(&mut self, before: Stage, after: Stage)
-        ensures found { IsFound D.finds before after self.old.source self.new.source }
+    // The source is found where the answer to the monitor came: the links of the session join up from this id.
+    fn arrive(&mut self, before: Stage, after: Stage, from: TxnId)
+        ensures found { IsFound D.finds before after from self.old.source self.new.source }
     {
         if let (Stage::Asking, Stage::At(_)) = (before, after) {
-            self.source.found_source();
+            self.source.found_source(from);
         }
     }
 
@@ -183,9 +195,10 @@ impl<S: LinkSink, D: SourceSide + Drop> Service for Follower<S, D> {
     ) -> Result<(), Refusal> {
         let heard = hear(self.alloc, session.up(), message)?;
         let before = session.up().stage();
+        let from = begins_at(&heard);
         self.hand_on(session, heard.event, out)?;
         session.go_on(heard.stage);
-        self.arrive(before, heard.stage);
+        self.arrive(before, heard.stage, from);
         Ok(())
     }
 

@@ -1,10 +1,11 @@
 //! What stands between an upstream that is the source and the sessions that ask it.
 
-ghost use Rattle.std.specs.Prelude.{◌≡◌, None, Ok, OnOk, OnErr};
+ghost use Rattle.std.specs.Prelude.{◌≡◌, ℕ, None, Ok, OnOk, OnErr};
 ghost use Rattle.ovs_desk.specs.declared.source_message.SourceMessage.{SourceMessage};
 
 use ovs_desk::{BadReply, SourceMessage};
 use ovs_json::NoMemory;
+use ovs_types::TxnId;
 use ovs_wire::Message;
 
 /// What is passed on to the source, and what it says back.
@@ -12,8 +13,8 @@ pub trait SourceSide {
     // The source said this.
     ghost hears: { Self → SourceMessage → Self → Type 0 };
 
-    // The source is found.
-    ghost finds: { Self → Self → Type 0 };
+    // The source is found, by a session whose first link comes after this id.
+    ghost finds: { Self → ℕ → Self → Type 0 };
 
     // The source is lost.
     ghost loses: { Self → Self → Type 0 };
@@ -25,9 +26,9 @@ pub trait SourceSide {
     fn heard(&mut self, message: SourceMessage) -> Result<(), BadReply>
         ensures heard { OnOk result (hears self.old message self.new) };
 
-    /// The source can be asked from now on.
-    fn found_source(&mut self)
-        ensures found { finds self.old self.new };
+    /// The source can be asked from now on, by a session whose links join up from this id.
+    fn found_source(&mut self, from: TxnId)
+        ensures found { finds self.old from self.new };
 
     /// The source can't be asked any more.
     fn lost_source(&mut self)
@@ -41,7 +42,7 @@ pub struct NoSource;
 impl SourceSide for NoSource {
     ghost hears = { λ _ _ _. Unit {0} };
 
-    ghost finds = { λ _ _. Unit {0} };
+    ghost finds = { λ _ _ _. Unit {0} };
 
     ghost loses = { λ _ _. Unit {0} };
 
@@ -57,7 +58,7 @@ impl SourceSide for NoSource {
         Ok(())
     }
 
-    fn found_source(&mut self) {}
+    fn found_source(&mut self, _from: TxnId) {}
 
     fn lost_source(&mut self) {}
 }

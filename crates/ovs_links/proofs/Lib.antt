@@ -18,3 +18,9 @@ pub mod MergeOutcomes
 pub mod OrderLemmas
 pub mod StepLemmas
 pub mod AbsorbingLemmas
+pub mod EpochLemmas
+pub mod OpeningLemmas
+pub mod PruneLemmas
+pub mod StartLemmas
+pub mod TrimLemmas
+pub mod CommitLemmas

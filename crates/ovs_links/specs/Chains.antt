@@ -1,5 +1,5 @@
 -- Chains of a set of links, from a start id and the rows of an opening database.
-use Rattle.std.specs.Prelude.{◌≡◌, ℕ, ◌≤◌, ◌++◌, true, List, [], ◌∷◌, length}
+use Rattle.std.specs.Prelude.{◌≡◌, ℕ, ◌≤◌, ◌<◌, ◌⊎◌, ◌++◌, true, List, [], ◌∷◌, length}
 use Rattle.ovs_types.specs.declared.schema.Table.{Table}
 use Rattle.ovs_rows.specs.Row.{Rows}
 use Rattle.ovs_rows.specs.After.{fits, after}
@@ -37,6 +37,11 @@ pub record IsLongestChain (tables : List Table) (start : ℕ) (opening : Rows) (
 abbrev pub IsPrefixOf : List Link → List Link → Type 0
 IsPrefixOf xs ys = (rest : List Link) × (xs ++ rest ≡ ys)
 
--- a chain that goes on from another: today one that begins with all of its links
+-- where links that join up begin: at the prev of the first, or at 0
+abbrev pub start_of : List Link → ℕ
+start_of [] = 0
+start_of (l ∷ ls) = l.prev
+
+-- a chain that goes on from another: one that begins with all of its links, or one that begins at a greater start
 pub record GrowsInto (xs ys : List Link) : Type 0 where
-  pub begins : IsPrefixOf xs ys
+  pub goes_on : IsPrefixOf xs ys ⊎ (start_of xs < start_of ys)

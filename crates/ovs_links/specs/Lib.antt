@@ -17,3 +17,6 @@ pub mod Merging
 pub mod Runs
 pub mod Outcomes
 pub mod Settling
+pub mod Epochs
+pub mod Pruning
+pub mod Restarting

@@ -3,10 +3,11 @@
 ghost use Rattle.std.specs.Prelude.{◌≡◌, ℕ, [], true, length, Some, None, IfOk, OnOk, OnErr, IfSome, MatchOption};
 ghost use Rattle.std.specs.Option.{option_copied};
 ghost use Rattle.ovs_rows.specs.After.{ArePutOf, fits};
+ghost use Rattle.ovs_links.specs.Link.{IsStart};
 ghost use Rattle.ovs_links.specs.Sets.{IsOfTables};
 ghost use Rattle.ovs_links.specs.Store.{at_number};
 ghost use Rattle.ovs_links.specs.Steps.{folded_of, folded_with, tables_in};
-ghost use Rattle.ovs_links.specs.Absorbing.{absorbed, folded_more};
+ghost use Rattle.ovs_links.specs.Absorbing.{absorbed, begins_anew, folded_more, with_admitted, with_step};
 ghost use Rattle.ovs_links.specs.StepChains.{IsFoldedChain, IsStepAt, ExtendsShown, head_after_steps, position_in, start_at};
 
 use crate::id_map::IdMap;
@@ -94,10 +95,10 @@ impl Folded {
         self.steps.get(n - 1)
     }
 
-    /// The id that the first step leads from, 0 where there is none. Of a chain it is 0.
+    /// The id that the first step leads from, 0 where there is none. Of a chain it is a start id.
     pub fn start(&self) -> TxnId
         ensures value { result ≡ start_at self.now }
-        ensures zero { IsFoldedChain self.now → result ≡ 0 }
+        ensures is_start { IsFoldedChain self.now → IsStart result }
     {
         match self.steps.first() {
             Some(step) => step.prev,
@@ -115,21 +116,22 @@ impl Folded {
         }
     }
 
-    /// How many steps there are up to this id: 0 for the id 0, k for the id of the k-th step, else none. On a chain
+    /// How many steps there are up to this id: 0 for `start`, k for the id of the k-th step, else none. On a chain
     /// each id stands at one place.
     pub fn position_of(&self, id: TxnId) -> Option<usize>
         ensures value { result ≡ position_in self.now id }
         ensures place { MatchOption result ((k : ℕ) → ¬ (ExtendsShown self.now k id)) (λ k. ExtendsShown self.now k id) }
         ensures only { IsFoldedChain self.now → (k : ℕ) → ExtendsShown self.now k id → result ≡ Some k }
     {
-        if id == TxnId::zero() {
+        if id == self.start() {
             return Some(0);
         }
         self.places.get(id)
     }
 
-    /// Adds a step, and puts each row that it touched as it is after it. The step may be one of another schema: rows that may
-    /// not stand in the tables of this database are left out. The rows are shared, not copied.
+    /// Adds a step, and puts each row that it touched as it is after it. A step from a greater start begins anew: it and its rows
+    /// stand alone then. The step may be one of another schema: rows that may not stand in the tables of this database are left
+    /// out. The rows are shared, not copied.
     ///
     /// # Errors
     /// `NoMemory` alone; nothing is changed then.
@@ -137,6 +139,30 @@ impl Folded {
         ensures value { OnOk result (self.new ≡ absorbed self.old step.now) }
         // Where all may stand in the tables, none is left out.
         ensures whole { OnOk result (ArePutOf (tables_in self.old) step.now.applied → self.new ≡ folded_more self.old step.now) }
+        ensures unchanged { OnErr result (self.new ≡ self.old) }
+    {
+        if !self.is_begun_by(step) {
+            return self.add(alloc, step);
+        }
+        let mut fresh = Folded::new(alloc, self.database.schema())?;
+        fresh.add(alloc, step)?;
+        *self = fresh;
+        Ok(())
+    }
+
+    // Whether the step comes from a greater start.
+    fn is_begun_by(&self, step: &Step) -> bool
+        ensures value { result ≡ begins_anew self.now.steps step.now }
+    {
+        let start = u128::from(self.start());
+        let prev = u128::from(step.prev);
+        start < prev && prev < 1 << 64
+    }
+
+    // Adds a step to those that are there.
+    fn add(&mut self, alloc: Global, step: &Step) -> Result<(), NoMemory>
+        ensures value { OnOk result (self.new ≡ with_admitted self.old step.now) }
+        ensures whole { OnOk result (ArePutOf (tables_in self.old) step.now.applied → self.new ≡ with_step self.old step.now) }
         ensures unchanged { OnErr result (self.new ≡ self.old) }
     {
         self.steps.reserve(1)?;

@@ -3,6 +3,7 @@
 
 mod answer;
 mod beside;
+mod epochs;
 mod folded;
 mod held;
 mod id_map;
@@ -11,13 +12,16 @@ mod laws;
 mod link;
 mod merging;
 mod outcomes;
+mod pruning;
 mod run;
 mod settling;
+mod starting;
 mod step;
 mod store;
 mod taking;
 
 pub use answer::{By, FoldError, MergeError, Settled, TakeError, Took};
+pub use epochs::{epoch_laws, opening_laws, pruning_laws};
 pub use folded::Folded;
 pub use joins::{join_associates, join_is_union, join_laws};
 pub use laws::{history_laws, link_set_laws, step_laws};

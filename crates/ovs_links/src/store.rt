@@ -1,17 +1,21 @@
 //! A store of links with their longest chain.
 
-ghost use Rattle.std.specs.Prelude.{◌≡◌, ◌≤◌, ◌+◌, ◌↔◌, [], ◌∷◌, IsTrue, IfOk, IfSome, OnOk, OnErr, Some, length, take, true};
+ghost use Rattle.std.specs.Prelude.{◌≡◌, ◌≢◌, ◌≤◌, ◌<◌, ◌+◌, ◌↔◌, [], ◌∷◌, IsTrue, IfOk, IfSome, OnOk, OnErr, Some, length, take, true, false};
 ghost use Rattle.std.specs.FinMap as map;
 ghost use Rattle.std.specs.Option.{option_copied};
+ghost use Rattle.ovs_rows.specs.Row.{no_rows};
 ghost use Rattle.ovs_rows.specs.After.{fits};
+ghost use Rattle.ovs_links.specs.Link.{IsStart};
+ghost use Rattle.ovs_links.specs.Pruning.{IsPruned};
+ghost use Rattle.ovs_links.specs.Restarting.{RestartsAs, after_restart};
 ghost use Rattle.ovs_links.specs.Sets.{Holds, Among, IsOfTables};
 ghost use Rattle.ovs_links.specs.Chains.{head_after};
 ghost use Rattle.ovs_links.specs.Steps.{folded_of};
 ghost use Rattle.ovs_links.specs.StepChains.{IsFoldedChain};
-ghost use Rattle.ovs_links.specs.Store.{Stored, IsStore, IsChainOf, tables_of, head_of, rows_of, at_number, max_links};
-ghost use Rattle.ovs_links.specs.Answers.{SettlesAs, TakesAs, AppendsAs, after_append, AreOfOneSource, IsFork};
+ghost use Rattle.ovs_links.specs.Store.{Stored, IsStore, IsChainOf, tables_of, start_in, head_of, rows_of, at_number, max_links};
+ghost use Rattle.ovs_links.specs.Answers.{SettlesAs, EndsAs, TakesAs, AppendsAs, after_append, AreOfOneSource, IsFork};
 ghost use Rattle.ovs_links.specs.Merging.{MergesAs, IsMergeFork};
-ghost use Rattle.ovs_links.specs.Outcomes.{take_answer, TellsTaking, after_take, merge_answer, TellsMerging, after_merge};
+ghost use Rattle.ovs_links.specs.Outcomes.{take_answer, TellsTaking, after_take, with_links, merge_answer, TellsMerging, after_merge};
 ghost use Rattle.ovs_links.specs.Settling.{KeepsLinks, IsWholeChain, chain_of, settled_of, after_settle};
 ghost use Rattle.ovs_links.specs.declared.link.Link.{Link};
 
@@ -21,7 +25,9 @@ use crate::folded::Folded;
 use crate::held::HeldLinks;
 use crate::link::Link;
 use crate::merging::merge_into;
+use crate::pruning::prune_below;
 use crate::settling::{add_and_fold, settle_links};
+use crate::starting::add_and_begin;
 use crate::taking::take_into;
 use ovs_rows::Database;
 use ovs_types::{NoMemory, Schema, TxnId};
@@ -33,8 +39,8 @@ pub const MAX_LINKS: usize = 1_000_000;
 
 /// Links that don't contradict each other, with the longest chain of them folded into a database.
 ///
-/// The chain begins at the id 0 with no rows. Links that don't stand on it are parked: they wait for a link before
-/// them. At all times the folded links are a beginning of the chain.
+/// The chain begins with no rows at the greatest start from which a held link fits no rows, or at the id 0. Links that don't stand on it are parked: they wait for a link before
+/// them. At all times the folded links are a beginning of the chain, or of a chain from a lower start.
 #[derive(Drop)]
 pub struct LinkStore {
     alloc: Global,
@@ -112,7 +118,7 @@ impl LinkStore {
         ensures source { AreOfOneSource (tables_of self.old) (Holds self.old.links) (Among (link ∷ [])) → ¬ (IsFork result) }
 
         // The folded links are still the longest chain, where none that was parked follows this one.
-        ensures longest { OnOk result (SettlesAs self.new Settled.Done → IsChainOf self.new self.new.folded) }
+        ensures longest { OnOk result (EndsAs self.new Settled.Done → IsChainOf self.new self.new.folded) }
     {
         if let Some(held) = self.held.with_id(link.id()) {
             return Err(TakeError::Fork {
@@ -129,6 +135,57 @@ impl LinkStore {
             return Err(TakeError::NoMemory { link });
         }
         Ok(())
+    }
+
+    /// Adds a link from a greater start that fits no rows, and folds it alone. No other link may follow the head, as
+    /// after `Done`. In this order of refusals: `Fork` where another held link has its prev, or else its id; `Full` where
+    /// the store has `MAX_LINKS` links; `NoMemory`. A refused link is handed back, and the store is as it was.
+    pub fn restart(&mut self, alloc: Global, link: Link) -> Result<(), TakeError>
+        requires of_tables { IsOfTables (tables_of self.old) link }
+        requires done { SettlesAs self.old Settled.Done }
+        requires start { IsStart link.prev }
+        requires above { start_in self.old < link.prev }
+        requires fits { fits no_rows link.change ≡ true }
+        ensures answer { RestartsAs self.old.links link result }
+        ensures after { self.new ≡ after_restart self.old link result }
+
+        // Links of one history are never refused as contradictions.
+        ensures source { AreOfOneSource (tables_of self.old) (Holds self.old.links) (Among (link ∷ [])) → ¬ (IsFork result) }
+
+        // The folded link is the longest chain, where none that was parked follows it.
+        ensures longest { OnOk result (EndsAs self.new Settled.Done → IsChainOf self.new self.new.folded) }
+    {
+        match beside_link(&self.held, &link) {
+            Beside::Same => unreachable!(),
+            Beside::Other { by, prev, id } => {
+                return Err(TakeError::Fork {
+                    link,
+                    by,
+                    held_prev: prev,
+                    held_id: id,
+                });
+            }
+            Beside::Nothing => {}
+        }
+        if self.len() >= MAX_LINKS {
+            return Err(TakeError::Full { link });
+        }
+        if let Err(NoMemory) = add_and_begin(alloc, &mut self.held, &mut self.folded, &link) {
+            return Err(TakeError::NoMemory { link });
+        }
+        Ok(())
+    }
+
+    /// Drops the links that can be reached, prev to id, from a lower start than that of the chain, and answers how many
+    /// they were. The chain has to be folded. Takes no memory.
+    pub fn prune(&mut self) -> usize
+        requires settled { IsChainOf self.old self.old.folded }
+        ensures pruned { IsPruned self.old.links self.new.links (start_in self.old) }
+        ensures kept { self.new ≡ with_links self.old self.new.links }
+        ensures count { result + map.len self.new.links ≡ map.len self.old.links }
+        ensures chain { IsChainOf self.new self.new.folded }
+    {
+        prune_below(&mut self.held, self.folded.start())
     }
 
     /// The union: adds all links of another store over the same schema, and folds nothing. In this order of
@@ -150,8 +207,8 @@ impl LinkStore {
         merge_into(self.alloc, &mut self.held, &other.held)
     }
 
-    /// Folds the longest chain. `Done` where no held link follows it, and `Stuck` where one does that doesn't fit.
-    /// After `NoMemory` the links are the same, and a longer beginning of the chain may be folded.
+    /// Folds the chain, anew where it begins at a greater start. `Done` where no held link follows it, and `Stuck` where
+    /// one does that doesn't fit. After `NoMemory` the links are the same, and a longer beginning of the chain may be folded.
     pub fn settle(&mut self, alloc: Global) -> Result<Settled, NoMemory>
         ensures links { KeepsLinks self.old self.new }
         ensures settled { IfOk result (SettlesAs self.new) }
@@ -163,6 +220,13 @@ impl LinkStore {
         ensures unfinished { OnErr result (¬ (IsChainOf self.new self.new.folded)) }
     {
         settle_links(alloc, &self.held, &mut self.folded)
+    }
+
+    /// Where the folded links begin, or 0.
+    pub fn start(&self) -> TxnId
+        ensures value { result ≡ start_in self.now }
+    {
+        self.folded.start()
     }
 
     /// The last folded id, or 0.
@@ -209,12 +273,23 @@ impl LinkStore {
         matches!(beside_link(&self.held, link), Beside::Same)
     }
 
-    /// How many links are folded up to this id: 0 for the id 0, k for the id of the k-th folded link, else none.
+    /// Whether a held link has this id. Takes no memory.
+    pub fn has_id(&self, id: TxnId) -> bool
+        ensures found { result ≡ true → (l : Link) × Holds self.now.links l × (l.id ≡ id) }
+        ensures none { result ≡ false → (l : Link) → Holds self.now.links l → l.id ≢ id }
+    {
+        match self.held.with_id(id) {
+            Some(_held) => true,
+            None => false,
+        }
+    }
+
+    /// How many links are folded up to this id: 0 for `start`, k for the id of the k-th folded link, else none.
     pub fn position_of(&self, id: TxnId) -> Option<usize>
         ensures found { IfSome result (λ k.
-            (k ≤ length self.now.folded) × (head_after 0 (take k self.now.folded) ≡ id)) }
+            (k ≤ length self.now.folded) × (head_after (start_in self.now) (take k self.now.folded) ≡ id)) }
         ensures only { (k : _) → k ≤ length self.now.folded
-            → head_after 0 (take k self.now.folded) ≡ id → result ≡ Some k }
+            → head_after (start_in self.now) (take k self.now.folded) ≡ id → result ≡ Some k }
     {
         self.folded.position_of(id)
     }

@@ -4,6 +4,7 @@ use crate::fault::Fault;
 use crate::ids::letter;
 use ovs_links::Settled;
 use ovs_node::{NodeName, Report, Told, View};
+use ovs_types::TxnId;
 use std::alloc::Global;
 
 /// The head of the store, its links, what was refused, whether the chain is whole; and, for each view that is taught what was
@@ -40,11 +41,17 @@ pub(crate) fn measured<K: NodeName, H>(
     Ok(format!(in alloc; "chain {chain} answers {answers}")?)
 }
 
+// How many steps of a chain from the id 0 a view tells after the first n.
+fn told_after<K: NodeName>(alloc: Global, view: &mut View<K>, n: usize) -> Result<usize, Fault> {
+    let (_start, steps) = view.changes_since(alloc, TxnId::zero(), n)?;
+    Ok(steps.len())
+}
+
 fn seen_by<K: NodeName>(alloc: Global, told: &Told<K>, view: View<K>) -> Result<String, Fault> {
     let mut view = view;
     view.learn(told);
     let head = letter(view.head()?);
-    let after_first = view.changes_since(alloc, 1)?.len();
-    let after_second = view.changes_since(alloc, 2)?.len();
+    let after_first = told_after(alloc, &mut view, 1)?;
+    let after_second = told_after(alloc, &mut view, 2)?;
     Ok(format!(in alloc; " | {head} {after_first} {after_second}")?)
 }

@@ -1,5 +1,5 @@
 -- Links are sent one after another.
-use Rattle.std.proofs.Common.{◌≡◌, ◌≢◌, ◌++◌, ℕ, List, [], ◌∷◌, length, Option, Some, None, IfSome, refl, sym, ap, ◌∙◌, subst, append-nil, append_assoc}
+use Rattle.std.proofs.Common.{◌≡◌, ◌≢◌, ◌++◌, ℕ, List, [], ◌∷◌, Option, Some, None, IfSome, refl, sym, ap, ◌∙◌, subst, append-nil, append_assoc}
 use Rattle.ovs_links.specs.Sets.{AllOf}
 use Rattle.ovs_links.specs.declared.link.Link.{Link}
 use Rattle.ovs_links.proofs.ChainLemmas.{AllOf-append}

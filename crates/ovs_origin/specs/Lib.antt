@@ -1,3 +1,2 @@
 pub mod Answering
 pub mod Sent
-pub mod Waiting

@@ -52,7 +52,11 @@ impl<'a, K: NodeName, R: Wait> DeskLock<K> for LockedSource<'a, K, R> {
         session: &ViewSession<K>,
     ) -> Result<Option<Message>, NoMemory> {
         let mut state = self.desk.lock(self.rt);
-        state.collect(alloc, who, is_held_back, view, session)
+        let collected = state.collect(alloc, who, is_held_back, view, session)?;
+        if state.trim_once_answered(alloc) {
+            self.bell.unpark();
+        }
+        Ok(collected)
     }
 
     fn end_session(&self, who: u64) {

@@ -1,8 +1,9 @@
 //! The source's desk of a node.
 
-ghost use Rattle.std.specs.Prelude.{◌≡◌, [], IfOk, IfSome};
+ghost use Rattle.std.specs.Prelude.{◌≡◌, true, false, Ok, IfOk, IfSome};
 ghost use Rattle.ovs_links.specs.Sets.{IsOfTables};
 ghost use Rattle.ovs_service.specs.Replies.{RepliesTo, IsAnswer};
+ghost use Rattle.ovs_source.specs.Renewing.{RenewsTo};
 
 use ovs_authority::{Ask, Authority};
 use ovs_json::NoMemory;
@@ -14,8 +15,7 @@ use ovs_wire::Message;
 use std::alloc::Global;
 use std::marker::{Model, PhantomData};
 
-/// A source's desk, whose database has the schema of the node's name, and whose links that wait are the last of its chain. A
-/// contract sees it as the desk.
+/// A source's desk, whose database has the schema of the node's name. A contract sees it as the desk.
 #[derive(Drop)]
 pub struct NodeSource<K: NodeName> {
     desk: SourceDesk,
@@ -24,7 +24,6 @@ pub struct NodeSource<K: NodeName> {
 
 impl<K: NodeName> Model for NodeSource<K> {
     ghost use Rattle.std.specs.Prelude.{◌≡◌};
-    ghost use Rattle.ovs_origin.specs.Waiting.{AreLast};
     ghost use Rattle.ovs_source.specs.SourceDesk.{Desk};
     ghost use Rattle.ovs_source.specs.contracts.source_desk.SourceDesk as desk_row;
 
@@ -34,14 +33,13 @@ impl<K: NodeName> Model for NodeSource<K> {
 
     ghost view = { λ s. s.desk };
 
-    ghost invariant = { λ s. (s.desk.source.schema ≡ K.schema) × AreLast s.desk };
+    ghost invariant = { λ s. s.desk.source.schema ≡ K.schema };
 }
 
 impl<K: NodeName> NodeSource<K> {
-    /// This desk, of whose links none waits.
+    /// This desk.
     pub fn new(desk: SourceDesk) -> NodeSource<K>
         requires schema { desk.source.schema ≡ K.schema }
-        requires none_waits { desk.made ≡ [] }
         ensures desk { result ≡ desk }
     {
         NodeSource {
@@ -70,6 +68,14 @@ impl<K: NodeName> NodeSource<K> {
         self.desk.ask(alloc, who, ask)
     }
 
+    /// `trim_if_due` of the desk. Whether an epoch has begun; where it is refused the next call tries again.
+    pub(crate) fn trim_if_due(&mut self, alloc: Global) -> bool
+        ensures begun { result ≡ true → RenewsTo self.old (Ok true) self.new }
+        ensures unchanged { result ≡ false → self.new ≡ self.old }
+    {
+        self.desk.trim_if_due(alloc) == Ok(true)
+    }
+
     /// The head of the source's chain.
     pub(crate) fn head(&self) -> TxnId {
         self.desk.source().store().head()
@@ -91,9 +97,6 @@ impl<K: NodeName> NodeSource<K> {
     pub(crate) fn next_link(&mut self) -> Option<Link>
         ensures tables { IfSome result (IsOfTables K.schema.description.tables) }
     {
-        let link = self.desk.next_link();
-        // That all links of a store are of its tables is said with its head.
-        let _head = self.desk.source().store().head();
-        link
+        self.desk.next_link()
     }
 }

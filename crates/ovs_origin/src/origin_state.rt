@@ -1,8 +1,10 @@
 //! What the lock of a source's desk guards.
 
-ghost use Rattle.std.specs.Prelude.{IfOk, IfSome};
+ghost use Rattle.std.specs.Prelude.{◌≡◌, true, false, Ok, IfOk, IfSome};
+ghost use Rattle.std.specs.BTreeMap.{btree_map_len};
 ghost use Rattle.ovs_links.specs.Sets.{IsOfTables};
 ghost use Rattle.ovs_service.specs.Replies.{RepliesTo, IsAnswer};
+ghost use Rattle.ovs_source.specs.Renewing.{RenewsTo};
 
 use crate::node_source::NodeSource;
 use crate::waiting_answers::{WaitingAnswer, WaitingAnswers, Waits};
@@ -45,11 +47,13 @@ impl<K: NodeName> OriginState<K> {
         }
     }
 
-    // The reply waits, where there is room for it, which is made before. A source's desk replies at once, and with a reply.
+    // The reply waits, where there is room for it, which is made before. A source's desk replies at once, and with a reply. An epoch that
+    // is due begins before, though replies wait: it is after so many commits, and no more.
     fn transact(&mut self, alloc: Global, who: u64, ask: Ask) -> Result<Option<Message>, NoMemory>
         ensures replied { IfOk result (λ r. RepliesTo ask.id r) }
     {
         self.answers.make_room(alloc, who)?;
+        let _has_begun = self.desk.trim_if_due(alloc);
         let Some(Message::Reply { result, error, id }) = self.desk.ask(alloc, who, ask)? else {
             return Ok(None);
         };
@@ -81,6 +85,18 @@ impl<K: NodeName> OriginState<K> {
             Ok(None) => self.desk.collect(alloc, who),
             Err(Waits) => Ok(None),
         }
+    }
+
+    /// Begins a new epoch, if that is due and no reply waits. Whether it began, so that there is a link to be sent.
+    ///
+    /// Whoever was shown the epoch before is told nothing more once the new one is shown: so what stands on the older chain is given
+    /// first.
+    pub(crate) fn trim_once_answered(&mut self, alloc: Global) -> bool
+        ensures begun { result ≡ true → RenewsTo self.old.desk (Ok true) self.new.desk }
+        ensures answered { result ≡ true → btree_map_len self.old.answers.by_session ≡ 0 }
+        ensures unchanged { result ≡ false → self.new.desk ≡ self.old.desk }
+    {
+        self.answers.is_empty() && self.desk.trim_if_due(alloc)
     }
 
     /// Ends a session.

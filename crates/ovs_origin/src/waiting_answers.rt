@@ -1,6 +1,7 @@
 //! Answers of the source that wait until what they stand for is shown.
 
-ghost use Rattle.std.specs.Prelude.{◌≡◌, true, IfOk, IfSome};
+ghost use Rattle.std.specs.Prelude.{◌≡◌, ◌↔◌, true, IsTrue, IfOk, IfSome};
+ghost use Rattle.std.specs.BTreeMap.{btree_map_len};
 ghost use Rattle.ovs_authority.specs.Answers.{reply_of};
 ghost use Rattle.ovs_origin.specs.Answering.{IsShownWhere};
 
@@ -63,6 +64,7 @@ fn take_shown<K: NodeName>(
 /// The replies that wait, for each session in the order in which they were made.
 #[derive(Drop)]
 pub(crate) struct WaitingAnswers {
+    // Of sessions for which one waits, or is about to be made.
     by_session: BTreeMap<u64, VecDeque<WaitingAnswer>>,
 }
 
@@ -72,6 +74,13 @@ impl WaitingAnswers {
         WaitingAnswers {
             by_session: BTreeMap::new(alloc),
         }
+    }
+
+    /// Whether none waits, nor is about to be made.
+    pub(crate) fn is_empty(&self) -> bool
+        ensures value { IsTrue result ↔ (btree_map_len self.now.by_session ≡ 0) }
+    {
+        self.by_session.len() == 0
     }
 
     /// Room for one more of a session.
@@ -114,7 +123,11 @@ impl WaitingAnswers {
         let Some(answers) = self.by_session.get_mut(&who) else {
             return Ok(None);
         };
-        take_shown(answers, is_held_back, view, session)
+        let first = take_shown(answers, is_held_back, view, session)?;
+        if answers.is_empty() {
+            let _none_left = self.by_session.remove(&who);
+        }
+        Ok(first)
     }
 
     /// Lets go of those that wait for a session.

@@ -1,5 +1,5 @@
 -- The monitors of a session stay those of the tables.
-use Rattle.std.proofs.Common.{◌≡◌, ℕ, zero, suc, Bool, true, false, cond, List, [], ◌∷◌, ◌++◌, Option, Some, None, Ok, Err, length, take, drop, map, position, refl, arith}
+use Rattle.std.proofs.Common.{◌≡◌, inl, ℕ, zero, suc, Bool, true, false, cond, List, [], ◌∷◌, ◌++◌, Option, Some, None, Ok, Err, length, take, drop, map, position, refl, arith}
 use Rattle.std.specs.Prelude.{Result, codes}
 use Rattle.std.specs.List.{AllByRecursion, list_all}
 use Rattle.std.specs.Option.{ok_or}
@@ -18,13 +18,13 @@ use Rattle.ovs_query.specs.declared.monitor.Notation.TheVariants.{Update, Update
 use Rattle.ovs_query.proofs.MonitorLaws.{monitor_found}
 use Rattle.ovs_query.proofs.Watching.{monitor_of_tables}
 use Rattle.ovs_links.specs.Steps.{FoldedValue, tables_in}
-use Rattle.ovs_links.specs.StepChains.{head_after_steps, position_in}
+use Rattle.ovs_links.specs.StepChains.{head_after_steps, position_in, start_at, start_of_steps}
 use Rattle.ovs_links.specs.declared.step.Step.{Step}
 use Rattle.ovs_wire.specs.declared.message.Message.{Message}
 use Rattle.ovs_wire.specs.declared.message.Message.TheVariants.{Request, Reply, Notice}
 use Rattle.ovs_reader.specs.Params.{Asking, is, in_database, text_in, id_and_requests, requests_since, has_id, new_monitor}
 use Rattle.ovs_reader.specs.Answers.{Asked, Transact, Lock, Steal, Unlock, Outcome, Replies, Asks, Starts, Cancels, get_schema, transact, transacted, monitor_or_refusal, starts, start, starts_at, start_since, monitor, cancel, locked, lock_answer, monitor_answer, answer}
-use Rattle.ovs_reader.specs.Session.{SessionValue, AreMonitorsOf, MayBeShown}
+use Rattle.ovs_reader.specs.Session.{SessionValue, AreMonitorsOf, GoesOn, MayBeShown}
 use Rattle.ovs_reader.specs.Turns.{monitors_after, answered, monitors_by, after_turn, shown}
 use Rattle.ovs_reader.specs.Telling.{moved_to, moved_past, after_pump}
 use Rattle.ovs_reader.specs.declared.refusal.RequestRefusal.TheVariants.{UnknownMonitor, UnknownMethod}
@@ -61,9 +61,9 @@ start_fits f notation params =
 since_fits : (f : FoldedValue) (params : List Data) → Fits (tables_in f) (start_since f params)
 since_fits f params =
     bound (tables_in f) (requests_since params) _ (λ asked.
-    read_fits (tables_in f) Update3 asked.1 (λ m. Ok (starts_at asked.0 m asked.2 (position_in f asked.2))) (λ m is. by asked m is (position_in f asked.2)))
+    read_fits (tables_in f) Update3 asked.1 (λ m. Ok (starts_at (start_at f) asked.0 m asked.2 (position_in f asked.2))) (λ m is. by asked m is (position_in f asked.2)))
   where
-    by : (asked : Data × Data × ℕ) (m : Monitor) → IsMonitorOf (tables_in f) m.watches → (k : Option ℕ) → Fits (tables_in f) (Ok (starts_at asked.0 m asked.2 k))
+    by : (asked : Data × Data × ℕ) (m : Monitor) → IsMonitorOf (tables_in f) m.watches → (k : Option ℕ) → Fits (tables_in f) (Ok (starts_at (start_at f) asked.0 m asked.2 k))
     by asked m is (Some k) = is
     by asked m is None = is
 
@@ -144,23 +144,27 @@ by_fits s f (Request method params id) all = by s.is_ended
 by_fits s f (Reply result error id) all = all
 by_fits s f (Notice method params) all = all
 
--- all that is shown extends itself
-whole : (ss : List Step) → head_after_steps 0 (take (length ss) ss) ≡ head_after_steps 0 ss
-whole ss i = head_after_steps 0 (take-length ss i)
+-- all that is shown goes on from itself
+whole : (f : FoldedValue) → GoesOn f (Some (start_at f)) (length f.steps) (head_after_steps 0 f.steps)
+whole f = inl (refl, (omega arith, by f.steps))
+  where
+    by : (ss : List Step) → head_after_steps (start_of_steps ss) (take (length ss) ss) ≡ head_after_steps 0 ss
+    by [] = refl
+    by (s ∷ ss) = λ i. head_after_steps s.prev (take-length (s ∷ ss) i)
 
 pub shown_again : (s : SessionValue) (f : FoldedValue) (m : Message) → MayBeShown s f → MayBeShown (after_turn s f m) f
-shown_again s f m shown = record { extends = (omega arith, whole f.steps); monitors = by_fits s f m shown.monitors; steps = shown.steps }
+shown_again s f m shown = record { extends = whole f; monitors = by_fits s f m shown.monitors; steps = shown.steps }
 
 moved_fit : (tables : List Table) (k : ℕ) (ms : List Subscription) → AreMonitorsOf tables ms → AreMonitorsOf tables (map (moved_to k) ms)
 moved_fit tables k [] all = tt
 moved_fit tables k (m ∷ ms) all = (all.0, moved_fit tables k ms all.1)
 
 pub shown_on : (s : SessionValue) (f : FoldedValue) → MayBeShown s f → MayBeShown (after_pump s f) f
-shown_on s f shown = record { extends = (omega arith, whole f.steps); monitors = moved_fit (tables_in f) (length f.steps) s.monitors shown.monitors; steps = shown.steps }
+shown_on s f shown = record { extends = whole f; monitors = moved_fit (tables_in f) (length f.steps) s.monitors shown.monitors; steps = shown.steps }
 
 past_fit : (tables : List Table) (k : ℕ) (ms : List Subscription) → AreMonitorsOf tables ms → AreMonitorsOf tables (map (moved_past k) ms)
 past_fit tables k [] all = tt
 past_fit tables k (m ∷ ms) all = (all.0, past_fit tables k ms all.1)
 
 pub shown_past : (s : SessionValue) (f : FoldedValue) (k : ℕ) → MayBeShown s f → MayBeShown (shown s f (map (moved_past k) s.monitors)) f
-shown_past s f k may = record { extends = (omega arith, whole f.steps); monitors = past_fit (tables_in f) k s.monitors may.monitors; steps = may.steps }
+shown_past s f k may = record { extends = whole f; monitors = past_fit (tables_in f) k s.monitors may.monitors; steps = may.steps }

@@ -61,6 +61,7 @@ fn source<
         listen: options.listen,
         first_commit: options.first_id,
         first_row: options.first_row,
+        trim_every: options.trim_every,
         accepts: options.accepts,
     };
     let rt = Logged::new(rt, level_of(options.verbose, false), LogLines(rt));

@@ -4,7 +4,7 @@ use Rattle.std.specs.List.{AllByRecursion}
 use Rattle.std.specs.Option.{option_to_list}
 use Rattle.serde_json.specs.Data.{Data}
 use Rattle.ovs_types.specs.Schema.{SchemaValue}
-use Rattle.ovs_links.specs.Absorbing.{folded_by}
+use Rattle.ovs_links.specs.Absorbing.{folded_by, last_chain}
 use Rattle.ovs_links.specs.declared.step.Step.{Step}
 use Rattle.ovs_authority.specs.declared.ask.Ask.{Ask}
 use Rattle.ovs_wire.specs.Message.{Says}
@@ -48,7 +48,7 @@ shown_to shown session = record { session = session; last = shown }
 
 -- each monitor was told all that was shown
 abbrev pub IsAllTold : ViewSessionValue → Type 0
-IsAllTold s = AllByRecursion (λ m. length s.last ≤ m.position) s.session.monitors
+IsAllTold s = AllByRecursion (λ m. length (last_chain s.last) ≤ m.position) s.session.monitors
 
 module _ (replies : Ask → Option Message → Type 0) where
   -- this comes of an ask: the authority's reply, where there is one

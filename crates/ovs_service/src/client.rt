@@ -68,6 +68,7 @@ fn refusal_of(error: ViewError) -> Refusal
 {
     match error {
         ViewError::Gone => Refusal::Gone,
+        ViewError::Epoch => Refusal::Epoch,
         ViewError::NoMemory => Refusal::NoMemory,
     }
 }

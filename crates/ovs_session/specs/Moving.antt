@@ -7,7 +7,7 @@ use Rattle.ovs_session.specs.declared.limits.Pace.TheVariants.{Idle}
 use Rattle.ovs_session.specs.declared.came.Came.{Came}
 use Rattle.ovs_session.specs.declared.came.Came.TheVariants as cames
 use Rattle.ovs_session.specs.declared.ended.Ended.{Ended}
-use Rattle.ovs_session.specs.declared.ended.Ended.TheVariants.{Closed, ReadFault, WriteFault, BadInput, TurnsSpent, Gone, NoMemory}
+use Rattle.ovs_session.specs.declared.ended.Ended.TheVariants.{Closed, ReadFault, WriteFault, BadInput, TurnsSpent, Gone, Epoch, NoMemory}
 use Rattle.ovs_session.specs.declared.ended.Refusal.{Refusal}
 use Rattle.ovs_session.specs.declared.ended.Refusal.TheVariants as refusals
 use Rattle.ovs_session.specs.Serving.{SessionValue, Served, IsBounded, IsDone, IsIdle}
@@ -34,6 +34,7 @@ is_final ReadFault = true
 is_final WriteFault = true
 is_final BadInput = true
 is_final Gone = true
+is_final Epoch = true
 
 -- the end is kept where it is final
 abbrev pub kept : Ended → Option Ended
@@ -48,6 +49,7 @@ ended_by (Err ended) = kept ended
 abbrev pub IsRefusedFor : Refusal → Ended → Type 0
 IsRefusedFor refusals.BadInput ended = ended ≡ BadInput
 IsRefusedFor refusals.Gone ended = ended ≡ Gone
+IsRefusedFor refusals.Epoch ended = ended ≡ Epoch
 IsRefusedFor refusals.NoMemory ended = ended ≡ NoMemory
 
 -- a session ends so for some refusal

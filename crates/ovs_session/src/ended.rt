@@ -27,6 +27,9 @@ pub enum Ended {
     /// What it is answered from is gone.
     #[error("gone")]
     Gone,
+    /// What it is answered from began anew: what it was told doesn't go on.
+    #[error("begun anew")]
+    Epoch,
     /// Memory ran out, and all that was said is written. Nothing is lost, so that it may go on.
     #[error("out of memory")]
     NoMemory,
@@ -61,6 +64,9 @@ pub enum Refusal {
     /// What it answers from is gone. The session ends.
     #[error("gone")]
     Gone,
+    /// What it answers from began anew. The session ends.
+    #[error("begun anew")]
+    Epoch,
     /// Memory ran out. The message stays held, so that the session may go on.
     #[error("out of memory")]
     NoMemory,
@@ -86,6 +92,7 @@ impl From<Refusal> for Ended {
         match refusal {
             Refusal::BadInput => Ended::BadInput,
             Refusal::Gone => Ended::Gone,
+            Refusal::Epoch => Ended::Epoch,
             Refusal::NoMemory => Ended::NoMemory,
         }
     }

@@ -1,203 +1,319 @@
--- One more commit of a source.
-use Rattle.std.proofs.Common.{◌≡◌, ◌≢◌, ℕ, suc, ◌≤◌, ◌<◌, ◌^◌, ◌⊎◌, inl, inr, List, [], ◌∷◌, ◌++◌, length, take, Bool, true, false, cond, Some, None, refl, sym, ◌∙◌, ap, subst, arith}
+-- The history of a source, with one more commit, and with another epoch.
+use Rattle.std.proofs.Common.{◌≡◌, ◌≢◌, ℕ, suc, ◌≤◌, ◌<◌, ◌^◌, ◌⊎◌, inl, inr, List, [], ◌∷◌, ◌++◌, length, None, Some, refl, sym, ◌∙◌, ap, subst, arith, ⊎_elim}
 use Rattle.std.proofs.lemmas.Bool.{cases_lt}
-use Rattle.std.proofs.lemmas.List.{take_all}
-use Rattle.std.specs.Prelude.{Ok}
-use Rattle.std.specs.Ordering.{nat_cmp, eq_by_cmp}
-use Rattle.std.specs.Cmp.{nat_cmp_total}
-use Rattle.std.specs.FinMap.{get, insert, empty, get-insert, get-empty}
+use Rattle.std.specs.Prelude.{◌↔◌, Bool, true, false, IsTrue, Ok}
+use Rattle.std.specs.Ordering.{nat_cmp}
+use Rattle.std.specs.FinMap.{FinMap, insert, empty, get-empty}
 use Rattle.ovs_types.specs.Schema.{SchemaValue}
 use Rattle.ovs_types.specs.declared.schema.Table.{Table}
-use Rattle.ovs_rows.specs.Row.{Rows, no_rows}
+use Rattle.ovs_rows.specs.Row.{Rows, AreRowsOf, no_rows}
 use Rattle.ovs_rows.specs.Change.{Actions}
 use Rattle.ovs_rows.specs.After.{after}
 use Rattle.ovs_rows.specs.DatabaseDifference.{database_difference, IsCommit}
-use Rattle.ovs_rows.proofs.Laws.{difference_after}
+use Rattle.ovs_rows.proofs.Laws.{difference_after, difference_fits, no_rows_of}
 use Rattle.ovs_rows.proofs.NoDifference.{nothing_exactly}
+use Rattle.ovs_links.specs.Link.{IsStart}
 use Rattle.ovs_links.specs.Sets.{Holds, Among}
-use Rattle.ovs_links.specs.Chains.{head_after, rows_after}
-use Rattle.ovs_links.specs.History.{Commit, IsNoId, AreDistinct, NoneIsStart, CommitsFrom, IsHistory, links_of}
-use Rattle.ovs_links.specs.Store.{Stored, tables_of, head_of, rows_of}
-use Rattle.ovs_links.specs.Answers.{SettlesAs, after_append, AreOfOneSource}
+use Rattle.ovs_links.specs.Chains.{start_of, head_after, rows_after}
+use Rattle.ovs_links.specs.Epochs.{Opens, IsOpening, Epoch, CarriesOn, EpochsFrom, EpochHistory, IsEpochHistory, IsEpochIn, commits_in, epochs_of, links_within, links_in, last_rows, latest_from, latest_of, committed, start_now, rows_now}
+use Rattle.ovs_links.specs.History.{Commit, IsNoId, AreDistinct, CommitsFrom, links_of, rows_at}
+use Rattle.ovs_links.specs.Store.{Stored, tables_of, head_of, rows_of, start_in}
+use Rattle.ovs_links.specs.Answers.{SettlesAs, NonePrev, after_append, AreOfOneSource}
 use Rattle.ovs_links.specs.declared.link.Link.{Link}
 use Rattle.ovs_links.specs.declared.answer.Settled.TheVariants.{Done}
-use Rattle.ovs_source.specs.Commits.{commits_of, history_of, IsSource, HoldsHistory, IsTaken, link_to, LeadsBy}
+use Rattle.ovs_links.proofs.MapLemmas.{insert_at, insert_other}
+use Rattle.ovs_links.proofs.TakeLemmas.{held_before}
+use Rattle.ovs_links.proofs.HistoryLemmas.{start_is_no_id}
+use Rattle.ovs_links.proofs.GrowLemmas.{head_from_start}
+use Rattle.ovs_links.proofs.EpochLemmas.{Rising, rising_of, stays, first_in, IsGoodEpoch, epoch_good, Among-left, Among-right}
+use Rattle.ovs_links.proofs.CommitLemmas.{history_committed, committed_links, latest_committed, links_push, no_commit, new_link}
+use Rattle.ovs_source.specs.Commits.{IsSourceOf, IsSource, IsContinued, IsTaken, link_to, LeadsBy}
+use Rattle.ovs_source.proofs.LinksInOrder.{committed_in_order}
 
--- ---- the last commit
+-- ---- lists of links
 
-last_rows : Rows → List Commit → Rows
-last_rows rows [] = rows
-last_rows rows (k ∷ ks) = last_rows k.rows ks
+among_within : (ts : List Table) (es : List Epoch) (e : Epoch) (l : Link) → IsEpochIn es e → Among (links_within ts e) l → Among (links_in ts es) l
+among_within ts [] e l a b = absurd a
+among_within ts (d ∷ ds) e l (inl s) b = Among-left (links_within ts d) (links_in ts ds) l (subst (λ (x : Epoch). Among (links_within ts x) l) s b)
+among_within ts (d ∷ ds) e l (inr a) b = Among-right (links_within ts d) (links_in ts ds) l (among_within ts ds e l a b)
 
-last_id : ℕ → List Commit → ℕ
-last_id from [] = from
-last_id from (k ∷ ks) = last_id k.id ks
-
-rows_of_commits : (ts : List Table) (rows : Rows) (ls : List Link) → last_rows rows (commits_of ts rows ls) ≡ rows_after ts rows ls
-unfolding last_rows
-rows_of_commits ts rows [] = refl
-rows_of_commits ts rows (l ∷ ls) = rows_of_commits ts (after ts rows l.change l.id) ls
-
-id_of_commits : (ts : List Table) (from : ℕ) (rows : Rows) (ls : List Link) → last_id from (commits_of ts rows ls) ≡ head_after from ls
-unfolding last_id
-id_of_commits ts from rows [] = refl
-id_of_commits ts from rows (l ∷ ls) = id_of_commits ts l.id (after ts rows l.change l.id) ls
-
--- ---- one more at the end
-
-commits_of-append : (ts : List Table) (rows : Rows) (ls : List Link) (l : Link)
-    → commits_of ts rows (ls ++ l ∷ []) ≡ commits_of ts rows ls ++ record { id = l.id; rows = after ts (rows_after ts rows ls) l.change l.id } ∷ []
-commits_of-append ts rows [] l = refl
-commits_of-append ts rows (m ∷ ms) l = ap (λ (ks : List Commit). record { id = m.id; rows = after ts rows m.change m.id } ∷ ks) (commits_of-append ts (after ts rows m.change m.id) ms l)
-
-rows_after-append : (ts : List Table) (rows : Rows) (ls : List Link) (l : Link) → rows_after ts rows (ls ++ l ∷ []) ≡ after ts (rows_after ts rows ls) l.change l.id
-rows_after-append ts rows [] l = refl
-rows_after-append ts rows (m ∷ ms) l = rows_after-append ts (after ts rows m.change m.id) ms l
-
-links_of-append : (ts : List Table) (start : ℕ) (opening : Rows) (ks : List Commit) (k : Commit)
-    → links_of ts start opening (ks ++ k ∷ []) ≡ links_of ts start opening ks ++ record { prev = last_id start ks; id = k.id; change = database_difference ts (last_rows opening ks) k.rows } ∷ []
-unfolding last_rows last_id
-links_of-append ts start opening [] k = refl
-links_of-append ts start opening (j ∷ ks) k = ap (λ (ls : List Link). record { prev = start; id = j.id; change = database_difference ts opening j.rows } ∷ ls) (links_of-append ts j.id j.rows ks k)
-
-no_id-append : (id : ℕ) (ks : List Commit) (k : Commit) → IsNoId id ks → k.id ≢ id → IsNoId id (ks ++ k ∷ [])
-no_id-append id [] k n d = (d, tt)
-no_id-append id (j ∷ ks) k n d = (n.0, no_id-append id ks k n.1 d)
-
-distinct-append : (ks : List Commit) (k : Commit) → AreDistinct ks → IsNoId k.id ks → AreDistinct (ks ++ k ∷ [])
-distinct-append [] k d n = (tt, tt)
-distinct-append (j ∷ ks) k d n = (no_id-append j.id ks k d.0 (λ e. n.0 (sym e)), distinct-append ks k d.1 n.1)
-
-no_start-append : (ks : List Commit) (k : Commit) → NoneIsStart ks → 2 ^ 64 ≤ k.id → NoneIsStart (ks ++ k ∷ [])
-no_start-append [] k n a = (a, tt)
-no_start-append (j ∷ ks) k n a = (n.0, no_start-append ks k n.1 a)
-
-commits-append : (ts : List Table) (rows : Rows) (ks : List Commit) (k : Commit) → CommitsFrom ts rows ks → IsCommit ts (last_rows rows ks) k.rows k.id
-    → CommitsFrom ts rows (ks ++ k ∷ [])
-unfolding last_rows
-commits-append ts rows [] k v c = (c, tt)
-commits-append ts rows (j ∷ ks) k v c = (v.0, commits-append ts j.rows ks k v.1 c)
-
-among_left : (ls : List Link) (l x : Link) → Among ls x → Among (ls ++ l ∷ []) x
-among_left [] l x a = absurd a
-among_left (m ∷ ms) l x (inl s) = inl s
-among_left (m ∷ ms) l x (inr a) = inr (among_left ms l x a)
-
-among_last : (ls : List Link) (l : Link) → Among (ls ++ l ∷ []) l
-among_last [] l = inl refl
-among_last (m ∷ ms) l = inr (among_last ms l)
-
--- ---- ids
-
--- an id at which no beginning of the chain ends is no commit's
-not_on_chain : (ts : List Table) (from : ℕ) (rows : Rows) (ls : List Link) (id : ℕ) → ((k : ℕ) → k ≤ length ls → head_after from (take k ls) ≡ id → ⊥)
-    → IsNoId id (commits_of ts rows ls)
-not_on_chain ts from rows [] id h = tt
-not_on_chain ts from rows (m ∷ ms) id h = (λ e. h 1 (omega arith) e, not_on_chain ts m.id (after ts rows m.change m.id) ms id (λ k b e. h (suc k) (omega arith) e))
-
-new_id : (s : Stored) (id : ℕ) → ¬ (IsTaken s id) → IsNoId id (history_of s)
-new_id s id n = not_on_chain (tables_of s) 0 no_rows s.folded id (λ k b e. n (inr (k, b, e)))
-
-not_start : (s : Stored) (id : ℕ) → ¬ (IsTaken s id) → 2 ^ 64 ≤ id
-not_start s id n = by_case (cases_lt id (2 ^ 64))
-  where
-    by_case : ((id < 2 ^ 64) ⊎ (2 ^ 64 ≤ id)) → 2 ^ 64 ≤ id
-    by_case (inl lt) = absurd (n (inl lt))
-    by_case (inr le) = le
-
--- the head is taken
-pub not_head : (s : Stored) (id : ℕ) → ¬ (IsTaken s id) → id ≢ head_of s
-not_head s id n e = n (inr (length s.folded, omega arith, ap (head_after 0) (take_all (length s.folded) s.folded (omega arith)) ∙ sym e))
-
-zero_is_no_id : (ks : List Commit) → NoneIsStart ks → IsNoId 0 ks
-zero_is_no_id [] n = tt
-zero_is_no_id (k ∷ ks) n = (λ e. omega (arith, n.0, e), zero_is_no_id ks n.1)
+-- the last id is where they begin, or that of one of them
+head_from : (ts : List Table) (start : ℕ) (rows : Rows) (ks : List Commit)
+    → (head_after start (links_of ts start rows ks) ≡ start) ⊎ ((x : Link) × Among (links_of ts start rows ks) x × (x.id ≡ head_after start (links_of ts start rows ks)))
+head_from ts start rows [] = inl refl
+head_from ts start rows (k ∷ ks) =
+    ⊎_elim (λ (e : head_after k.id (links_of ts k.id k.rows ks) ≡ k.id). inr (record { prev = start; id = k.id; change = database_difference ts rows k.rows }, inl refl, sym e))
+    (λ (t : (x : Link) × Among (links_of ts k.id k.rows ks) x × (x.id ≡ head_after k.id (links_of ts k.id k.rows ks))). inr (t.0, inr t.1, t.2)) (head_from ts k.id k.rows ks)
 
 head_past : (ts : List Table) (i j : ℕ) (rows : Rows) (ks : List Commit) → j ≢ i → IsNoId i ks → head_after j (links_of ts j rows ks) ≡ i → ⊥
 head_past ts i j rows [] d n e = d e
 head_past ts i j rows (k ∷ ks) d n e = head_past ts i k.id k.rows ks n.0 n.1 e
 
--- no link of a history follows its last commit
+-- no link follows the last commit
 no_next : (ts : List Table) (start : ℕ) (rows : Rows) (ks : List Commit) (l : Link) → IsNoId start ks → AreDistinct ks → Among (links_of ts start rows ks) l
     → l.prev ≡ head_after start (links_of ts start rows ks) → ⊥
 no_next ts start rows [] l f d a e = a
 no_next ts start rows (k ∷ ks) l f d (inl s) e = head_past ts start k.id k.rows ks f.0 f.1 (sym e ∙ ap (λ (x : Link). x.prev) s)
 no_next ts start rows (k ∷ ks) l f d (inr a) e = no_next ts k.id k.rows ks l d.0 d.1 a e
 
--- ---- sources
+rows_of_links : (ts : List Table) (start : ℕ) (rows : Rows) (ks : List Commit) → CommitsFrom ts rows ks → rows_after ts rows (links_of ts start rows ks) ≡ rows_at rows ks (length ks)
+rows_of_links ts start rows [] v = refl
+rows_of_links ts start rows (k ∷ ks) v =
+    let commit = v.0 in
+    ap (λ (x : Rows). rows_after ts x (links_of ts k.id k.rows ks)) (difference_after ts rows k.rows k.id commit.before commit.after commit) ∙ rows_of_links ts k.id k.rows ks v.1
 
-pub holds_history : (s : Stored) → IsSource s → HoldsHistory s
-holds_history s k = record {
-  history = k.history;
-  among = λ l h. subst (λ (ls : List Link). Among ls l) (sym k.links) (k.folded l h);
-}
+rows_of_tables : (ts : List Table) (rows : Rows) (ks : List Commit) → AreRowsOf ts rows → CommitsFrom ts rows ks → AreRowsOf ts (rows_at rows ks (length ks))
+rows_of_tables ts rows [] of v = of
+rows_of_tables ts rows (k ∷ ks) of v = let commit = v.0 in rows_of_tables ts k.rows ks commit.after v.1
 
--- no held link follows the head
-pub source_done : (s : Stored) → IsSource s → SettlesAs s Done
-source_done s k l h e = no_next (tables_of s) 0 no_rows (history_of s) l (zero_is_no_id (history_of s) k.history.no_start) k.history.distinct ((holds_history s k).among l h) (e ∙ ap (head_after 0) (sym k.links))
+-- ---- ids
 
-held_after : (s : Stored) (l : Link) → ((x : Link) → Holds s.links x → Among s.folded x) → (x : Link) → Holds (insert s.links l.prev l) x → Among (s.folded ++ l ∷ []) x
-held_after s l f x h = of (eq_by_cmp nat_cmp x.prev l.prev) (sym (get-insert nat_cmp_total s.links l.prev l x.prev) ∙ h)
-  where
-    of : (b : Bool) → cond b (Some l) (get s.links x.prev) ≡ Some x → Among (s.folded ++ l ∷ []) x
-    of true e = let same : l ≡ x = cc in subst (λ (y : Link). Among (s.folded ++ l ∷ []) y) same (among_last s.folded l)
-    of false e = among_left s.folded l x (f x e)
+-- an id that is no start is taken exactly where a held link has it
+pub taken_exactly : (s : Stored) (id : ℕ) (found : Bool) → ¬ (IsStart id) → (found ≡ true → (l : Link) × Holds s.links l × (l.id ≡ id))
+    → (found ≡ false → (l : Link) → Holds s.links l → l.id ≢ id) → IsTrue found ↔ IsTaken s id
+taken_exactly s id true past some none = (λ t. inr (some refl), λ taken. refl)
+taken_exactly s id false past some none =
+    (λ t. absurd (let clash : false ≡ true = t in cc), λ taken. ⊎_elim (λ (start : IsStart id). absurd (past start)) (λ (t : (l : Link) × Holds s.links l × (l.id ≡ id)). absurd (none refl t.0 t.1 t.2)) taken)
+
+-- ---- the latest epoch
+
+latest_among : (d : Epoch) (ds : List Epoch) → IsEpochIn (d ∷ ds) (latest_from d ds)
+latest_among d [] = inl refl
+latest_among d (e ∷ es) = inr (latest_among e es)
+
+latest_above : (ts : List Table) (floor : ℕ) (d : Epoch) (ds : List Epoch) → Rising ts floor (d ∷ ds) → floor ≤ (latest_from d ds).start
+latest_above ts floor d [] r = r.0
+latest_above ts floor d (e ∷ es) r = let above = latest_above ts (suc d.start) e es r.3 in let low = r.0 in omega (arith, above, low)
+
+latest_is_greatest : (ts : List Table) (floor : ℕ) (d : Epoch) (ds : List Epoch) (e : Epoch) → Rising ts floor (d ∷ ds) → IsEpochIn (d ∷ ds) e → e.start ≤ (latest_from d ds).start
+latest_is_greatest ts floor d [] e r (inl s) = let at = ap (λ (x : Epoch). x.start) s in omega (arith, at)
+latest_is_greatest ts floor d [] e r (inr a) = absurd a
+latest_is_greatest ts floor d (x ∷ xs) e r (inl s) =
+    let at = ap (λ (y : Epoch). y.start) s in let above = latest_above ts (suc d.start) x xs r.3 in omega (arith, at, above)
+latest_is_greatest ts floor d (x ∷ xs) e r (inr a) = latest_is_greatest ts (suc d.start) x xs e r.3 a
+
+-- it is the one from 0, or has a commit
+IsBegun : Epoch → Type 0
+IsBegun e = (e.start ≡ 0) ⊎ ((k : Commit) × (ks : List Commit) × (e.commits ≡ k ∷ ks))
+
+carried : (rows : Rows) (ks : List Commit) → CarriesOn rows ks → (k : Commit) × (more : List Commit) × (ks ≡ k ∷ more)
+carried rows [] c = absurd c
+carried rows (k ∷ ks) c = (k, ks, refl)
+
+latest_carried : (ts : List Table) (start : ℕ) (rows : Rows) (d : Epoch) (ds : List Epoch) → EpochsFrom ts start rows (d ∷ ds)
+    → (k : Commit) × (ks : List Commit) × ((latest_from d ds).commits ≡ k ∷ ks)
+latest_carried ts start rows d [] r = carried rows d.commits r.3
+latest_carried ts start rows d (e ∷ es) r = latest_carried ts d.start (last_rows d.commits) e es r.4
+
+pub start_now_is : (d : Epoch) (ds : List Epoch) → start_now d.start ds ≡ (latest_from d ds).start
+start_now_is d [] = refl
+start_now_is d (e ∷ es) = start_now_is e es
+
+pub rows_now_is : (d : Epoch) (ds : List Epoch) → rows_now (last_rows d.commits) ds ≡ last_rows (latest_from d ds).commits
+rows_now_is d [] = refl
+rows_now_is d (e ∷ es) = rows_now_is e es
+
+-- ---- a source
+
+module _ (s : Stored) (h : EpochHistory) (of : IsSourceOf s h) where
+  abbrev tables : List Table
+  tables = tables_of s
+
+  abbrev latest : Epoch
+  latest = latest_of h
+
+  abbrev first : Epoch
+  first = record { start = 0; commits = h.first }
+
+  rising : Rising tables 0 (epochs_of h)
+  rising = rising_of tables h of.history
+
+  among : IsEpochIn (epochs_of h) latest
+  among = latest_among first h.later
+
+  is_good : IsGoodEpoch tables 0 latest
+  is_good = epoch_good tables h latest of.history among
+
+  begun : IsBegun latest
+  unfolding IsBegun
+  begun = by h.later of.history.later
+    where
+      by : (ds : List Epoch) → EpochsFrom tables 0 (last_rows h.first) ds → ((latest_from first ds).start ≡ 0) ⊎ ((k : Commit) × (ks : List Commit) × ((latest_from first ds).commits ≡ k ∷ ks))
+      by [] r = inl refl
+      by (d ∷ ds) r = inr (latest_carried tables 0 (last_rows h.first) d ds r)
+
+  pub start_is : start_in s ≡ latest.start
+  unfolding IsBegun
+  start_is = ap start_of of.folded ∙ ⊎_elim from_zero from_first begun
+    where
+      any : (start : ℕ) (ks : List Commit) → start ≡ 0 → start_of (links_of tables start no_rows ks) ≡ start
+      any start [] e = sym e
+      any start (k ∷ ks) e = refl
+
+      from_zero : latest.start ≡ 0 → start_of (links_within tables latest) ≡ latest.start
+      from_zero e = any latest.start latest.commits e
+
+      from_first : ((k : Commit) × (ks : List Commit) × (latest.commits ≡ k ∷ ks)) → start_of (links_within tables latest) ≡ latest.start
+      from_first t = ap (λ (ks : List Commit). start_of (links_of tables latest.start no_rows ks)) t.2
+
+  pub rows_are : rows_of s ≡ last_rows latest.commits
+  rows_are = ap (rows_after tables no_rows) of.folded ∙ rows_of_links tables latest.start no_rows latest.commits is_good.history.commits
+
+  pub rows_of_its_tables : AreRowsOf tables (rows_of s)
+  rows_of_its_tables =
+      subst (AreRowsOf tables) (sym rows_are) (rows_of_tables tables no_rows latest.commits (no_rows_of tables) is_good.history.commits)
+
+  pub head_is : head_of s ≡ head_after latest.start (links_within tables latest)
+  head_is =
+      sym (head_from_start s.folded)
+      ∙ ap (λ (ls : List Link). head_after (start_of ls) ls) of.folded
+      ∙ ap (λ (i : ℕ). head_after i (links_within tables latest)) (sym (ap start_of of.folded) ∙ start_is)
+
+  -- no held link follows the head
+  pub none_next : (l : Link) → Holds s.links l → l.prev ≢ head_of s
+  none_next l held e =
+      let at : l.prev ≡ head_after latest.start (links_within tables latest) = e ∙ head_is in
+      let here = stays tables 0 (epochs_of h) rising of.history.distinct latest among (head_after latest.start (links_within tables latest)) l ((of.held l).0 held)
+      (head_from tables latest.start no_rows latest.commits) at in
+      no_next tables latest.start no_rows latest.commits l (start_is_no_id latest.start is_good.below latest.commits is_good.history.no_start) is_good.history.distinct here at
+
+  -- no held link comes from a start above that of the latest epoch
+  pub below_latest : (l : Link) → Holds s.links l → IsStart l.prev → l.prev ≤ start_in s
+  below_latest l held start =
+      let t = first_in tables 0 (epochs_of h) rising l ((of.held l).0 held) start in
+      let most = latest_is_greatest tables 0 first h.later t.0 rising t.1 in
+      let at = t.3 in
+      let is = start_is in
+      omega (arith, most, at, is)
+
+  opens_first : ((k : Commit) × (ks : List Commit) × (latest.commits ≡ k ∷ ks)) → (l : Link) × Opens (Holds s.links) l × (l.prev ≡ latest.start)
+  opens_first t =
+      let k = t.0 in
+      let l : Link = record { prev = latest.start; id = k.id; change = database_difference tables no_rows k.rows } in
+      let commits : CommitsFrom tables no_rows (k ∷ t.1) = subst (CommitsFrom tables no_rows) t.2 is_good.history.commits in
+      let commit = commits.0 in
+      let inside : Among (links_within tables latest) l = subst (λ (ks : List Commit). Among (links_of tables latest.start no_rows ks) l) (sym t.2) (inl refl) in (
+        l,
+        record {
+          member = (of.held l).1 (among_within tables (epochs_of h) latest l among inside);
+          from_start = is_good.below;
+          fits_none = difference_fits tables no_rows k.rows commit.before commit.after;
+        },
+        refl,
+      )
+
+  opening : IsOpening (Holds s.links) (start_in s)
+  unfolding IsBegun
+  opening = record {
+    found = ⊎_elim (λ (e : latest.start ≡ 0). inl (start_is ∙ e))
+        (λ (t : (k : Commit) × (ks : List Commit) × (latest.commits ≡ k ∷ ks)). let o = opens_first t in inr (o.0, o.1, o.2 ∙ sym start_is)) begun;
+    greatest = λ l o. below_latest l o.member o.from_start;
+  }
+
+  pub source_done : SettlesAs s Done
+  source_done = record { opening = opening; ends = none_next }
+
+  -- ---- a new id
+
+  module _ (id : ℕ) (free : ¬ (IsTaken s id)) where
+    pub new_id : IsNoId id (commits_in (epochs_of h))
+    new_id = no_commit tables (epochs_of h) id (λ l a e. free (inr (l, (of.held l).1 a, e)))
+
+    pub past_starts : 2 ^ 64 ≤ id
+    past_starts = ⊎_elim (λ (lt : id < 2 ^ 64). absurd (free (inl lt))) (λ (le : 2 ^ 64 ≤ id). le) (cases_lt id (2 ^ 64))
+
+-- no id of a commit is that of the head
+pub not_head : (s : Stored) → IsSource s → (id : ℕ) → ¬ (IsTaken s id) → id ≢ head_of s
+not_head s is id free e =
+    let latest = latest_of is.history in
+    let head = head_is s is.history is.is in
+    let past = past_starts s is.history is.is id free in
+    ⊎_elim (λ (at : head_after latest.start (links_within (tables_of s) latest) ≡ latest.start).
+    let below = (epoch_good (tables_of s) is.history latest is.is.history (latest_among (record { start = 0; commits = is.history.first }) is.history.later)).below in
+    omega (arith, e, head, at, past, below))
+    (λ (t : (x : Link) × Among (links_within (tables_of s) latest) x × (x.id ≡ head_after latest.start (links_within (tables_of s) latest))).
+    free (inr (t.0, (is.is.held t.0).1 (among_within (tables_of s) (epochs_of is.history) latest t.0 (latest_among (record { start = 0; commits = is.history.first }) is.history.later) t.1), t.2 ∙ sym head ∙ sym e)))
+    (head_from (tables_of s) latest.start no_rows latest.commits)
+
+-- ---- one more link
+
+module _ (m : FinMap nat_cmp Link) (l : Link) (none : NonePrev m l) where
+  pub holds_still : (x : Link) → Holds m x → Holds (insert m l.prev l) x
+  holds_still x held = insert_other m l.prev l x.prev (none x held) ∙ held
+
+  pub holds_new : (x : Link) → x ≡ l → Holds (insert m l.prev l) x
+  holds_new x same = insert_at m l.prev l x.prev (ap (λ (y : Link). y.prev) same) ∙ ap Some (sym same)
+
+-- the links of the set and one more are those of this list and its link
+pub held_with : (m : FinMap nat_cmp Link) (l : Link) (S T : Link → Type 0) → NonePrev m l → ((x : Link) → Holds m x ↔ S x) → ((x : Link) → S x → T x) → T l → ((x : Link) → T x → S x ⊎ (x ≡ l))
+    → (x : Link) → Holds (insert m l.prev l) x ↔ T x
+held_with m l S T none is more last only x = (
+  λ held. ⊎_elim (λ (before : Holds m x). more x ((is x).0 before)) (λ (same : x ≡ l). subst T (sym same) last) (held_before m l x held),
+  λ t. ⊎_elim (λ (before : S x). holds_still m l none x ((is x).1 before)) (λ (same : x ≡ l). holds_new m l none x same) (only x t),
+)
+
+-- ---- one more commit
 
 -- a source with one more link
 abbrev pub linked : Stored → ℕ → Rows → Stored
 linked s id rows = after_append s (link_to s id rows) (Ok tt)
 
-difference_leads_to : (s : Stored) (id : ℕ) (rows : Rows) → IsCommit (tables_of s) (rows_of s) rows id → after (tables_of s) (rows_of s) (link_to s id rows).change id ≡ rows
-difference_leads_to s id rows c = difference_after (tables_of s) (rows_of s) rows id c.before c.after c
-
 pub rows_of_linked : (s : Stored) (id : ℕ) (rows : Rows) → IsCommit (tables_of s) (rows_of s) rows id → rows_of (linked s id rows) ≡ rows
-rows_of_linked s id rows c = rows_after-append (tables_of s) no_rows s.folded (link_to s id rows) ∙ difference_leads_to s id rows c
-
-history_of_linked : (s : Stored) (id : ℕ) (rows : Rows) → IsCommit (tables_of s) (rows_of s) rows id → history_of (linked s id rows) ≡ history_of s ++ record { id = id; rows = rows } ∷ []
-history_of_linked s id rows c =
-    commits_of-append (tables_of s) no_rows s.folded (link_to s id rows)
-    ∙ ap (λ (r : Rows). history_of s ++ record { id = id; rows = r } ∷ []) (difference_leads_to s id rows c)
-
-links_of_linked : (s : Stored) (id : ℕ) (rows : Rows) → IsSource s → IsCommit (tables_of s) (rows_of s) rows id → links_of (tables_of s) 0 no_rows (history_of (linked s id rows)) ≡ s.folded ++ link_to s id rows ∷ []
-links_of_linked s id rows k c =
-    let ts = tables_of s in
-    ap (links_of ts 0 no_rows) (history_of_linked s id rows c)
-    ∙ links_of-append ts 0 no_rows (history_of s) (record { id = id; rows = rows })
-    ∙ ap (λ (ls : List Link). ls ++ record { prev = last_id 0 (history_of s); id = id; change = database_difference ts (last_rows no_rows (history_of s)) rows } ∷ []) k.links
-    ∙ ap (λ (p : ℕ). s.folded ++ record { prev = p; id = id; change = database_difference ts (last_rows no_rows (history_of s)) rows } ∷ []) (id_of_commits ts 0 no_rows s.folded)
-    ∙ ap (λ (r : Rows). s.folded ++ record { prev = head_of s; id = id; change = database_difference ts r rows } ∷ []) (rows_of_commits ts no_rows s.folded)
-
--- a source stays one
-pub source_linked : (s : Stored) (id : ℕ) (rows : Rows) → IsSource s → ¬ (IsTaken s id) → IsCommit (tables_of s) (rows_of s) rows id → IsSource (linked s id rows)
-source_linked s id rows k n c =
-    let ts = tables_of s in
-    let new : Commit = record { id = id; rows = rows } in
-    let commit : IsCommit ts (last_rows no_rows (history_of s)) rows id = subst (λ (r : Rows). IsCommit ts r rows id) (sym (rows_of_commits ts no_rows s.folded)) c in
-    record {
-      folded = held_after s (link_to s id rows) k.folded;
-      history = subst (λ (h : List Commit). IsHistory ts no_rows h) (sym (history_of_linked s id rows c)) (record {
-        distinct = distinct-append (history_of s) new k.history.distinct (new_id s id n);
-        no_start = no_start-append (history_of s) new k.history.no_start (not_start s id n);
-        commits = commits-append ts no_rows (history_of s) new k.history.commits commit;
-      });
-      links = links_of_linked s id rows k c;
-    }
-
--- its links and the new one are of one history, so they don't contradict each other
-pub one_source : (s : Stored) (id : ℕ) (rows : Rows) → IsSource s → ¬ (IsTaken s id) → IsCommit (tables_of s) (rows_of s) rows id
-    → AreOfOneSource (tables_of s) (Holds s.links) (Among (link_to s id rows ∷ []))
-one_source s id rows k n c =
-    let made = source_linked s id rows k n c in
-    let within = λ (x : Link) (a : Among (s.folded ++ link_to s id rows ∷ []) x). subst (λ (ls : List Link). Among ls x) (sym made.links) a in (
-      history_of (linked s id rows),
-      made.history,
-      (λ x h. within x (among_left s.folded (link_to s id rows) x (k.folded x h))),
-      (λ x a. within x (of_one x a)),
-    )
+rows_of_linked s id rows c = appended (tables_of s) no_rows s.folded (link_to s id rows) ∙ difference_after (tables_of s) (rows_of s) rows id c.before c.after c
   where
-    of_one : (x : Link) → Among (link_to s id rows ∷ []) x → Among (s.folded ++ link_to s id rows ∷ []) x
-    of_one x (inl e) = subst (λ (y : Link). Among (s.folded ++ link_to s id rows ∷ []) y) (sym e) (among_last s.folded (link_to s id rows))
-    of_one x (inr a) = absurd a
+    appended : (ts : List Table) (from : Rows) (ls : List Link) (l : Link) → rows_after ts from (ls ++ l ∷ []) ≡ after ts (rows_after ts from ls) l.change l.id
+    appended ts from [] l = refl
+    appended ts from (m ∷ ms) l = appended ts (after ts from m.change m.id) ms l
+
+module _ (s : Stored) (h : EpochHistory) (of : IsSourceOf s h) (id : ℕ) (rows : Rows) (free : ¬ (IsTaken s id)) (commit : IsCommit (tables_of s) (rows_of s) rows id) where
+  abbrev pub new : Commit
+  new = record { id = id; rows = rows }
+
+  -- the commit's link is the one that the source makes
+  is_new_link : new_link (tables_of s) (latest_of h) new ≡ link_to s id rows
+  is_new_link =
+      ap (λ (prev : ℕ). record { prev = prev; id = id; change = database_difference (tables_of s) (last_rows (latest_of h).commits) rows }) (sym (head_is s h of))
+      ∙ ap (λ (before : Rows). record { prev = head_of s; id = id; change = database_difference (tables_of s) before rows }) (sym (rows_are s h of))
+
+  committed_is : IsEpochHistory (tables_of s) (committed h new)
+  committed_is =
+      history_committed (tables_of s) h new of.history (subst (λ (before : Rows). IsCommit (tables_of s) before rows id) (rows_are s h of) commit) (past_starts s h of id free) (new_id s h of id free)
+
+  -- a source stays one
+  pub source_linked : IsSourceOf (linked s id rows) (committed h new)
+  source_linked =
+      let links = committed_links (tables_of s) h new in
+      let l = link_to s id rows in
+      let S : Link → Type 0 = Among (links_in (tables_of s) (epochs_of h)) in
+      let T : Link → Type 0 = Among (links_in (tables_of s) (epochs_of (committed h new))) in
+      record {
+        history = committed_is;
+        held = held_with s.links l S T (none_next s h of) of.held links.0 (subst T is_new_link links.1) (λ x t. ⊎_elim (λ (a : S x). inl a) (λ (e : x ≡ new_link (tables_of s) (latest_of h) new). inr (e ∙ is_new_link)) (links.2 x t));
+        folded =
+            ap (λ (ls : List Link). ls ++ l ∷ []) of.folded
+            ∙ ap (λ (x : Link). links_within (tables_of s) (latest_of h) ++ x ∷ []) (sym is_new_link)
+            ∙ sym (links_push (tables_of s) (latest_of h).start no_rows (latest_of h).commits new)
+            ∙ ap (links_within (tables_of s)) (sym (latest_committed h new));
+      }
+
+  pub is_continued : IsContinued (tables_of s) h (link_to s id rows) (committed h new)
+  is_continued = record {
+    commit = new;
+    id = refl;
+    is = refl;
+    links = committed_in_order (tables_of s) h new ∙ ap (λ (x : Link). links_in (tables_of s) (epochs_of h) ++ x ∷ []) is_new_link;
+  }
+
+  -- its links and the new one are of one history, so they don't contradict each other
+  pub one_source : AreOfOneSource (tables_of s) (Holds s.links) (Among (link_to s id rows ∷ []))
+  one_source =
+      let links = committed_links (tables_of s) h new in
+      let T : Link → Type 0 = Among (links_in (tables_of s) (epochs_of (committed h new))) in (
+        committed h new,
+        committed_is,
+        λ x held. links.0 x ((of.held x).0 held),
+        λ x a. ⊎_elim (λ (e : x ≡ link_to s id rows). subst T (sym (e ∙ sym is_new_link)) links.1) (λ (none : ⊥). absurd none) a,
+      )
 
 -- ---- the link that is made
 
@@ -215,7 +331,10 @@ is_link_to s id change rows l leads is = is ∙ ap (λ (c : Actions). record { p
 
 pub no_commits : (schema : SchemaValue) → IsSource (record { schema = schema; links = empty; folded = [] })
 no_commits schema = record {
-  folded = λ l h. let none : None ≡ Some l = sym (get-empty nat_cmp l.prev) ∙ h in absurd cc;
-  history = record { distinct = tt; no_start = tt; commits = tt };
-  links = refl;
+  history = record { first = []; later = [] };
+  is = record {
+    history = record { first = record { distinct = tt; no_start = tt; commits = tt }; later = tt; distinct = tt };
+    held = λ l. (λ held. (let none : None ≡ Some l = sym (get-empty nat_cmp l.prev) ∙ held in absurd cc), λ a. absurd a);
+    folded = refl;
+  };
 }

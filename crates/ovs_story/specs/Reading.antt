@@ -9,7 +9,7 @@ use Rattle.ovs_json.specs.Results.{◌>>=◌}
 use Rattle.ovs_types.specs.Id.{read_id}
 use Rattle.ovs_script.specs.LineJson.{json_of_line, with_json}
 use Rattle.ovs_world.specs.declared.event.Event.{Event}
-use Rattle.ovs_world.specs.declared.event.Event.TheVariants.{Commit, Connect, Deliver, Cut, Restart, MergeFrom, Read}
+use Rattle.ovs_world.specs.declared.event.Event.TheVariants.{Commit, Trim, Connect, Deliver, Cut, Restart, MergeFrom, Prune, Read}
 use Rattle.ovs_story.specs.declared.words.Refusal.{Refusal}
 use Rattle.ovs_story.specs.declared.words.Refusal.TheVariants.{BadLine, BadShape, BadId}
 
@@ -52,13 +52,25 @@ read_of a b = do
   operations ← ok_or (operations_of b) BadShape
   Ok (Read node operations)
 
+-- an id
+abbrev pub trim_of : Data → Result Event Refusal
+trim_of d = do
+  text ← ok_or (as_str d) BadShape
+  id ← ok_or (read_id text) BadId
+  Ok (Trim id)
+
 -- a name and one number
-abbrev pub event_of_two : Data × Data → Result Event Refusal
-event_of_two p = do
+abbrev pub event_of_number : Data × Data → Result Event Refusal
+event_of_number p = do
   number ← ok_or (number_of p.1) BadShape
   if is_word (codes "cut") p.0 then Ok (Cut number)
       else if is_word (codes "restart") p.0 then Ok (Restart number)
+      else if is_word (codes "prune") p.0 then Ok (Prune number)
       else Err BadShape
+
+-- a name and one value
+abbrev pub event_of_two : Data × Data → Result Event Refusal
+event_of_two p = if is_word (codes "trim") p.0 then trim_of p.1 else event_of_number p
 
 -- a name and two numbers
 abbrev pub event_of_numbers : Data → Data → Data → Result Event Refusal

@@ -5,13 +5,14 @@ use Rattle.serde_json.specs.Data.{Data, depth}
 use Rattle.serde_json.specs.Read.{read, max_depth}
 use Rattle.serde_json.specs.Written.{has_float, compact_text}
 use Rattle.ovs_script.specs.Refusal.{refused_line}
+use Rattle.ovs_world.specs.Headline.{IsFaithful}
 use Rattle.ovs_world.specs.Steps.{Steps}
 use Rattle.ovs_world.specs.Worlds.{WorldValue}
 use Rattle.ovs_world.specs.declared.error.WorldError.{WorldError}
 use Rattle.ovs_world.specs.declared.error.WorldError.TheVariants.{NoMemory}
 use Rattle.ovs_world.specs.declared.event.Event.{Event as Happening}
 use Rattle.ovs_world.specs.declared.event.Reply.{Reply}
-use Rattle.ovs_world.specs.declared.event.Reply.TheVariants.{Results, Session, Took, Done}
+use Rattle.ovs_world.specs.declared.event.Reply.TheVariants.{Results, Session, Took, Dropped, Done}
 use Rattle.ovs_story.specs.declared.words.Refusal.{Refusal}
 use Rattle.ovs_story.specs.declared.words.Refusal.TheVariants.{Event}
 use Rattle.ovs_story.specs.Words.{event_word}
@@ -26,6 +27,7 @@ abbrev pub IsReplyText : Reply → List ℕ → Type 0
 IsReplyText (Results results) text = IsJsonText results text
 IsReplyText (Session number) text = text ≡ codes "session " ++ decimal number
 IsReplyText (Took took held) text = text ≡ codes "took " ++ (decimal took ++ (codes " held " ++ decimal held))
+IsReplyText (Dropped count) text = text ≡ codes "dropped " ++ decimal count
 IsReplyText Done text = text ≡ codes "ok"
 
 -- the line that tells of event n: its reply, or the word for its refusal; want of memory isn't told
@@ -36,5 +38,6 @@ Tells n (Err e) line = (e ≢ NoMemory) × (line ≡ refused_line n (event_word 
 -- The line that tells of event n where a line spells it or is refused before it happens, whether it is refused, and the
 -- world then.
 abbrev pub TellsLine : WorldValue → ℕ → Result Happening Refusal → List ℕ → Bool → WorldValue → Type 0
-TellsLine w n (Ok event) line is_refused v = (answer : Result Reply WorldError) × Steps w event answer v × Tells n answer line × (is_refused ≡ is_err answer)
+TellsLine w n (Ok event) line is_refused v =
+    (answer : Result Reply WorldError) × Steps w event answer v × IsFaithful v.source v.relays × Tells n answer line × (is_refused ≡ is_err answer)
 TellsLine w n (Err refusal) line is_refused v = (line ≡ refused_line n (event_word refusal)) × (is_refused ≡ true) × (v ≡ w)

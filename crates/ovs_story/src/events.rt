@@ -1,6 +1,7 @@
 //! What becomes of an event's line.
 
 ghost use Rattle.std.specs.Prelude.{◌≡◌, ◌≢◌, IfOk, Err, option_map, string_bytes};
+ghost use Rattle.ovs_world.specs.Headline.{IsFaithful};
 ghost use Rattle.ovs_world.specs.Steps.{Steps};
 ghost use Rattle.ovs_world.specs.declared.error.WorldError.TheVariants as errors;
 ghost use Rattle.ovs_story.specs.Reading.{event_of_line};
@@ -26,6 +27,7 @@ fn happen(
     event: &Event,
 ) -> Result<Result<Reply, WorldError>, NoMemory>
     ensures steps { IfOk result (λ answer. Steps world.old event.now answer world.new) }
+    ensures faithful { IsFaithful world.new.source world.new.relays }
     ensures memory { IfOk result (λ answer. answer ≢ Err errors.NoMemory) }
 {
     match world.step(alloc, event) {

@@ -2,7 +2,7 @@
 
 ghost use Rattle.std.specs.Prelude.{◌≡◌, IfOk, option_map};
 ghost use Rattle.serde_json.specs.View.{view};
-ghost use Rattle.ovs_story.specs.Reading.{number_of, relays_of_line, numbers_of, operations_of, commit_of, read_of, event_of_two, event_of_numbers, event_of_three, event_of_json, event_of_line};
+ghost use Rattle.ovs_story.specs.Reading.{number_of, relays_of_line, numbers_of, operations_of, commit_of, trim_of, read_of, event_of_number, event_of_two, event_of_numbers, event_of_three, event_of_json, event_of_line};
 
 use crate::words::Refusal;
 use ovs_json::{is_word, read_json, three_items, two_items};
@@ -83,9 +83,21 @@ fn read_of(node: &Value, operations: &Value) -> Result<Result<Event, Refusal>, N
     }
 }
 
-// The event of a name and one value.
-fn event_of_two(name: &Value, value: &Value) -> Result<Event, Refusal>
-    ensures value { result ≡ event_of_two (view name.now, view value.now) }
+fn trim_of(id: &Value) -> Result<Event, Refusal>
+    ensures value { result ≡ trim_of (view id.now) }
+{
+    let Some(id) = id.as_str() else {
+        return Err(Refusal::BadShape);
+    };
+    match TxnId::read(id) {
+        Ok(id) => Ok(Event::Trim { id }),
+        Err(_) => Err(Refusal::BadId),
+    }
+}
+
+// The event of a name and one number.
+fn event_of_number(name: &Value, value: &Value) -> Result<Event, Refusal>
+    ensures value { result ≡ event_of_number (view name.now, view value.now) }
 {
     let Some(number) = number_of(value) else {
         return Err(Refusal::BadShape);
@@ -94,8 +106,21 @@ fn event_of_two(name: &Value, value: &Value) -> Result<Event, Refusal>
         Ok(Event::Cut { session: number })
     } else if is_word("restart", name) {
         Ok(Event::Restart { relay: number })
+    } else if is_word("prune", name) {
+        Ok(Event::Prune { relay: number })
     } else {
         Err(Refusal::BadShape)
+    }
+}
+
+// The event of a name and one value.
+fn event_of_two(name: &Value, value: &Value) -> Result<Event, Refusal>
+    ensures value { result ≡ event_of_two (view name.now, view value.now) }
+{
+    if is_word("trim", name) {
+        trim_of(value)
+    } else {
+        event_of_number(name, value)
     }
 }
 

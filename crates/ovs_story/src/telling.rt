@@ -21,6 +21,12 @@ fn counts_text(alloc: Global, took: usize, held: usize) -> Result<String, NoMemo
     Ok(format!(in alloc; "took {took} held {held}")?)
 }
 
+fn dropped_text(alloc: Global, count: usize) -> Result<String, NoMemory>
+    ensures text { IfOk result (λ text. string_bytes text ≡ codes "dropped " ++ decimal count) }
+{
+    Ok(format!(in alloc; "dropped {count}")?)
+}
+
 fn reply_text(alloc: Global, reply: &Reply) -> Result<String, NoMemory>
     ensures text { IfOk result (λ text. IsReplyText reply.now (string_bytes text)) }
 {
@@ -28,6 +34,7 @@ fn reply_text(alloc: Global, reply: &Reply) -> Result<String, NoMemory>
         Reply::Results(results) => Ok(results.as_value().to_string(alloc)?),
         Reply::Session(number) => session_text(alloc, *number),
         Reply::Took { took, held } => counts_text(alloc, *took, *held),
+        Reply::Dropped(count) => dropped_text(alloc, *count),
         Reply::Done => Ok(String::from_str(alloc, "ok")?),
     }
 }

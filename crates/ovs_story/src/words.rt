@@ -16,7 +16,7 @@ pub(crate) enum Refusal {
     BadLine(LineFault),
     /// No array that spells an event.
     BadShape,
-    /// The id of a commit is no id.
+    /// The id of a commit or of a trim is no id.
     BadId,
     /// The world refuses the event, for this reason, which is never want of memory.
     Event(WorldError),

@@ -19,7 +19,7 @@ use Rattle.ovs_views.specs.declared.name.NodeName.{Ghosts}
 
 pub source_desk_sends : IsSend source.the_row → IsSend lock_table.the_row → IsSend fresh_rows.the_row → IsSend link.the_row → IsSend source_desk.the_row
 source_desk_sends source locks fresh link =
-    view_send _ _ _ _ _ (declared_send source_desk_inside.the_type (source, (locks, (fresh, (search (variants_send, sendable, as_row_send) depth 20, (search (link, heap.crosses) depth 20, tt))))))
+    view_send _ _ _ _ _ (declared_send source_desk_inside.the_type (source, (locks, (fresh, (search (variants_send, sendable, as_row_send) depth 20, (search (link, heap.crosses) depth 20, (search (variants_send, declared_send, sendable, as_row_send) depth 20, tt)))))))
 
 node_source_sends : (K : RattleType) (k : Ghosts K.Denot) → IsSend source_desk.the_row → IsSend K → IsSend (node_source.the_row K k)
 node_source_sends K k desk name = view_send _ _ _ _ _ (inside_sends desk name)

@@ -41,6 +41,8 @@ pub struct SourcePlan {
     pub first_commit: TxnId,
     /// The id of the first row that is inserted; those after it count on.
     pub first_row: RowId,
+    /// After how many links of one epoch it begins the next, where it has more than one.
+    pub trim_every: Option<u32>,
     /// How many connections each worker takes at most.
     pub accepts: u32,
 }
@@ -52,8 +54,15 @@ pub struct SourceNode<R: Net + Log + Drop> {
     alloc: Global,
     places: Places<R>,
     ending: Arc<Ending>,
+    begins: Begins,
+}
+
+// What its desk begins with.
+#[derive(Clone, Copy, Debug, PartialEq, Eq)]
+struct Begins {
     first_commit: TxnId,
     first_row: RowId,
+    trim_every: Option<u32>,
 }
 
 impl<
@@ -80,8 +89,11 @@ impl<
             alloc,
             places,
             ending: Arc::new(alloc, ending)?,
-            first_commit: plan.first_commit,
-            first_row: plan.first_row,
+            begins: Begins {
+                first_commit: plan.first_commit,
+                first_row: plan.first_row,
+                trim_every: plan.trim_every,
+            },
         })
     }
 
@@ -156,18 +168,23 @@ fn named<
     run(rt, source, schema, parts)
 }
 
-// A desk of a source without a commit.
+// A desk of a source without a commit. It begins no other epoch where none is wanted, nor where one is after no link.
 fn desk_of<K: NodeName>(
     alloc: Global,
     schema: &Schema,
-    first_commit: TxnId,
-    first_row: RowId,
+    begins: Begins,
 ) -> Result<NodeSource<K>, TierError>
     requires schema { schema.now ≡ K.schema }
 {
     let source = Source::new(alloc, schema)?;
-    let fresh = FreshRows::new(first_row);
-    Ok(NodeSource::new(SourceDesk::new(alloc, source, fresh, first_commit)))
+    let fresh = FreshRows::new(begins.first_row);
+    let mut desk = SourceDesk::new(alloc, source, fresh, begins.first_commit);
+    if let Some(every) = begins.trim_every
+        && every > 0
+    {
+        desk.trim_every(u64::from(every));
+    }
+    Ok(NodeSource::new(desk))
 }
 
 // The desk's thread, and a worker at each of these doors.
@@ -237,16 +254,11 @@ fn run<
     let SourceNode {
         alloc,
         places,
-        first_commit,
-        first_row,
+        begins,
         ..
     } = source;
     let Places { doors, bells, .. } = places;
-    let desk = LockedSource::new(
-        rt,
-        alloc,
-        desk_of::<K>(alloc, schema, first_commit, first_row)?,
-    );
+    let desk = LockedSource::new(rt, alloc, desk_of::<K>(alloc, schema, begins)?);
     let stage = Stage {
         desk,
         bells,

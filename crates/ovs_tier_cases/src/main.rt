@@ -63,6 +63,7 @@ fn source<
         listen: any_port()?,
         first_commit: TxnId::read(FIRST_COMMIT).or(Err(Fault::Malformed))?,
         first_row: RowId::read(FIRST_ROW).or(Err(Fault::Malformed))?,
+        trim_every: None,
         accepts: MOST_CONNECTIONS,
     };
     Ok(SourceNode::open(rt, alloc, plan)?)

@@ -58,8 +58,8 @@ either tables false x y h f g e = g e
 reached_of : (s : UpSession) (known : Bool) (id : ℕ) (d : Data) (h : Heard) → reached s known id d ≡ Ok h → AreOf s.schema.description.tables h
 reached_of s true id d h = either s.schema.description.tables (id == s.asked) (placed (is_empty_object d) id) (linked s.schema.description.tables s.asked id d) h
     (placed_of s.schema.description.tables (is_empty_object d) id h) (linked_of s.schema.description.tables s.asked id d h)
-reached_of s false id d h = either s.schema.description.tables (nat_le (2 ^ 64) id) (linked s.schema.description.tables 0 id d) (placed ((id == 0) && is_empty_object d) id) h
-    (linked_of s.schema.description.tables 0 id d h) (placed_of s.schema.description.tables ((id == 0) && is_empty_object d) id h)
+reached_of s false id d h = either s.schema.description.tables (nat_le (2 ^ 64) id) (linked s.schema.description.tables 0 id d) (placed (is_empty_object d) id) h
+    (linked_of s.schema.description.tables 0 id d h) (placed_of s.schema.description.tables (is_empty_object d) id h)
 
 opened_of : (s : UpSession) (d : Data) (h : Heard) → opened s d ≡ Ok h → AreOf s.schema.description.tables h
 opened_of s d h = by (says s.schema.description (read_description d))

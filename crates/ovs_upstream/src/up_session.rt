@@ -342,7 +342,7 @@ impl UpSession {
         } else if known {
             linked(alloc, &self.schema, self.asked, id, updates)
         } else if id.is_start() {
-            placed(id == TxnId::zero() && nothing, id)
+            placed(nothing, id)
         } else {
             linked(alloc, &self.schema, TxnId::zero(), id, updates)
         }

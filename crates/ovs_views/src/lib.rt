@@ -2,6 +2,7 @@
 #![tactic(auto)]
 
 mod board;
+mod chain_front;
 mod name;
 mod publisher;
 mod shown;
@@ -10,6 +11,7 @@ mod view_error;
 mod view_session;
 
 pub use board::{Board, teach};
+pub use chain_front::ChainFront;
 pub use name::{Front, NodeName, StepHistory, Told};
 pub use publisher::{Handle, Publisher};
 pub use shown::{NextStep, Shown};

@@ -2,9 +2,12 @@
 
 ghost use Rattle.std.specs.Prelude.{◌≡◌, ◌++◌, ◌∷◌, ◌^◌, ◌<◌, [], None, length, OnOk, OnErr, IfOk};
 ghost use Rattle.left_right.specs.Handles.{published, pending};
+ghost use Rattle.ovs_links.specs.Absorbing.{last_chain};
+ghost use Rattle.ovs_links.specs.StepChains.{start_of_steps};
 ghost use Rattle.ovs_links.specs.Steps.{folded_of};
 ghost use Rattle.ovs_views.specs.Published.{AreHandedOn, IsNodeChain, all_with};
 
+use crate::chain_front::ChainFront;
 use crate::name::{Front, NodeName, StepHistory, Told};
 use crate::shown::{NextStep, Shown};
 use crate::view::View;
@@ -12,7 +15,7 @@ use crate::view_error::NoPlace;
 use left_right::WriteHandle;
 use ovs_history::Book;
 use ovs_links::{Folded, Step};
-use ovs_types::NoMemory;
+use ovs_types::{NoMemory, TxnId};
 use std::alloc::Global;
 use std::sync::Wait;
 
@@ -24,7 +27,7 @@ pub type Handle<K, R> = WriteHandle<Shown<K>, NextStep<K>, R>;
 pub struct Publisher<K: NodeName, H> {
     book: Book<Step, StepHistory<K>>,
     // What was handed on to the copies.
-    pub(crate) front: Front<K>,
+    pub(crate) front: ChainFront<K>,
     // In the history, and not handed on yet for want of memory.
     pub(crate) kept: Option<NextStep<K>>,
     pub(crate) handle: H,
@@ -54,7 +57,7 @@ impl<K: NodeName, R: Wait + Drop> Publisher<K, Handle<K, R>> {
         match WriteHandle::new(alloc, rt, first, second, views) {
             Ok(handle) => Ok(Publisher {
                 book,
-                front,
+                front: ChainFront::new(front),
                 kept: None,
                 handle,
             }),
@@ -94,7 +97,7 @@ impl<K: NodeName, R: Wait + Drop> Publisher<K, Handle<K, R>> {
         ensures kept { OnOk result (all_with self.new.front self.new.kept ≡ self.old.front ++ step ∷ []) }
         ensures unchanged { OnErr result (self.new.kept ≡ self.old.kept) }
     {
-        if self.front.len() >= 1 << 62 {
+        if self.front.front().len() >= 1 << 62 {
             return Err(NoMemory);
         }
         let mut front = self.front.again();
@@ -105,7 +108,7 @@ impl<K: NodeName, R: Wait + Drop> Publisher<K, Handle<K, R>> {
         Ok(())
     }
 
-    /// Folds in the next step of the chain.
+    /// Folds in the next step of the chain, or one that begins anew at a greater start.
     ///
     /// # Errors
     /// `NoMemory` alone; then nothing of what was folded in or is seen is changed.
@@ -169,14 +172,30 @@ impl<K: NodeName, R: Wait + Drop> Publisher<K, Handle<K, R>> {
 }
 
 impl<K: NodeName, H> Publisher<K, H> {
-    /// How many steps were folded in.
-    pub fn len(&self) -> u64
-        ensures value { result ≡ length (all_with self.now.front self.now.kept) }
-        ensures chain { IsNodeChain K.schema (all_with self.now.front self.now.kept) }
+    // All that was folded in.
+    fn all(&self) -> &ChainFront<K>
+        ensures value { result.now ≡ all_with self.now.front self.now.kept }
     {
         match &self.kept {
-            Some(next) => next.front.len(),
-            None => self.front.len(),
+            Some(next) => &next.front,
+            None => &self.front,
         }
+    }
+
+    /// Where the chain of what was folded in begins, 0 where there is none.
+    pub fn start(&self) -> TxnId
+        ensures value { result ≡ start_of_steps (last_chain (all_with self.now.front self.now.kept)) }
+        ensures chain { IsNodeChain K.schema (all_with self.now.front self.now.kept) }
+    {
+        let all = self.all();
+        let _ = all.front().len();
+        all.start()
+    }
+
+    /// How many steps that chain has.
+    pub fn chain_len(&self) -> u64
+        ensures value { result ≡ length (last_chain (all_with self.now.front self.now.kept)) }
+    {
+        self.all().chain_len()
     }
 }

@@ -2,9 +2,12 @@
 
 ghost use Rattle.std.specs.Prelude.{◌≡◌, ◌<◌, [], IfSome, IfNone, length};
 ghost use Rattle.ovs_links.specs.Steps.{folded_of};
-ghost use Rattle.ovs_links.specs.Absorbing.{folded_by};
+ghost use mathlib.Core.List.{IsPrefix};
+ghost use Rattle.ovs_links.specs.Absorbing.{folded_by, last_chain};
+ghost use Rattle.ovs_links.specs.StepChains.{start_of_steps};
 ghost use Rattle.ovs_views.specs.Published.{GoesOn, is_shown};
 
+use crate::chain_front::ChainFront;
 use crate::name::{Front, NodeName};
 use left_right::Absorb;
 use ovs_links::{Folded, Step};
@@ -76,15 +79,36 @@ impl<K: NodeName> Shown<K> {
         Some(known.longer(&self.front))
     }
 
-    /// Whether the id is 0 or that of one of the steps that are known; `None` where fewer are shown.
+    /// Whether the last chain of the steps that are known begins at an id or at a greater start, or has a step of that id. `None`
+    /// where fewer steps are shown, and of an id that isn't 0 also where none of the chain that is shown is known: what they began
+    /// with is gone then.
     pub(crate) fn has_by(&self, known: &Front<K>, id: TxnId) -> Option<bool>
         ensures value { IfSome result (λ has. has ≡ is_shown known.now id) }
     {
-        let _all = self.since(known)?;
+        if id == TxnId::zero() {
+            return Some(true);
+        }
+        let of_chain = self.known_of_chain(known)?;
+        if u128::from(id) <= u128::from(self.folded.start()) {
+            return Some(true);
+        }
         match self.folded.position_of(id) {
-            Some(position) => Some(position as u64 <= known.len()),
+            Some(position) => Some(position as u64 <= of_chain),
             None => Some(false),
         }
+    }
+
+    // How many steps of the chain that is shown are known, where some are: they are the last chain of those that are known.
+    fn known_of_chain(&self, known: &Front<K>) -> Option<u64>
+        ensures value { IfSome result (λ n. (n ≡ length (last_chain known.now)) × IsPrefix (last_chain known.now) (last_chain self.now) × (start_of_steps (last_chain known.now) ≡ start_of_steps (last_chain self.now))) }
+    {
+        let all = self.since(known)?;
+        let chain = self.folded.chain_len() as u64;
+        let before = all.len() - chain;
+        if known.len() <= before {
+            return None;
+        }
+        Some(known.len() - before)
     }
 }
 
@@ -92,7 +116,7 @@ impl<K: NodeName> Shown<K> {
 #[derive(Drop)]
 pub struct NextStep<K: NodeName> {
     pub(crate) step: Step,
-    pub(crate) front: Front<K>,
+    pub(crate) front: ChainFront<K>,
 }
 
 impl<K: NodeName> Model for NextStep<K> {
@@ -120,11 +144,12 @@ impl<K: NodeName> Absorb<NextStep<K>> for Shown<K> {
     // The steps that are published come one after the other, so the refusal of another is never met: it stands for the condition
     // that `left_right` doesn't hand on.
     fn absorb_first(&mut self, next: &NextStep<K>, _other: &Shown<K>) -> Result<(), AllocError> {
-        let (old, new) = (self.front.len(), next.front.len());
+        let after = next.front.front();
+        let (old, new) = (self.front.len(), after.len());
         if new <= old || new - old != 1 {
             return Err(AllocError);
         }
-        let front = self.front.longer(&next.front);
+        let front = self.front.longer(after);
         let _ = front.len();
         match self.folded.absorb(self.alloc, &next.step) {
             Ok(()) => {

@@ -7,11 +7,11 @@ ghost use Rattle.serde_json.specs.View.{view, items_view, items_of};
 ghost use Rattle.serde_json.specs.Data.{array};
 ghost use Rattle.ovs_query.specs.Answer.{only_reads, results};
 ghost use Rattle.ovs_query.specs.RowWriting.{select_json};
-ghost use Rattle.ovs_links.specs.StepChains.{head_after_steps, position_in};
+ghost use Rattle.ovs_links.specs.StepChains.{head_after_steps, position_in, start_at};
 ghost use Rattle.ovs_links.specs.Absorbing.{folded_by};
 ghost use Rattle.ovs_reader.specs.Turns.{seen_turn, turn, after_turn};
 ghost use Rattle.ovs_reader.specs.Telling.{told_some, after_some};
-ghost use Rattle.ovs_views.specs.Published.{GoesOn, is_shown};
+ghost use Rattle.ovs_views.specs.Published.{GoesOn, is_shown, since_start};
 
 use crate::name::{Front, NodeName, Told};
 use crate::shown::Shown;
@@ -97,7 +97,29 @@ impl<K: NodeName> View<K> {
         Ok(id)
     }
 
-    /// Whether the id is 0 or that of a step.
+    /// Where the chain begins, 0 where there is none, and the id after its last step, as `head`.
+    ///
+    /// # Errors
+    /// `Gone`; then nothing is changed.
+    pub fn ends(&mut self) -> Result<(TxnId, TxnId), Gone>
+        ensures later { OnOk result (GoesOn K.schema self.old self.new) }
+        ensures start { IfOk result (λ r. r.0 ≡ start_at (folded_by K.schema self.new)) }
+        ensures head { IfOk result (λ r. r.1 ≡ head_after_steps 0 (folded_by K.schema self.new).steps) }
+        ensures unchanged { OnErr result (self.new ≡ self.old) }
+    {
+        let (front, start, head) = match self.handle.enter() {
+            None => return Err(Gone),
+            Some(shown) => (
+                shown.since(&self.known).ok_or(Gone)?,
+                shown.folded().start(),
+                shown.folded().head(),
+            ),
+        };
+        self.known = front;
+        Ok((start, head))
+    }
+
+    /// Whether the id is that of a step, or where the chain begins.
     ///
     /// # Errors
     /// `Gone`; then nothing is changed.
@@ -117,10 +139,11 @@ impl<K: NodeName> View<K> {
         Ok(known)
     }
 
-    /// Whether the id is 0 or that of a step that the session was shown.
+    /// Whether the session was shown where an id stands: the chain that it was shown last begins at the id or at a greater start, or
+    /// has a step of this id.
     ///
     /// # Errors
-    /// `Gone`.
+    /// `Gone`; of an id that isn't 0 also where none of the chain that is shown now was shown to the session.
     pub fn has_shown(&mut self, session: &ViewSession<K>, id: TxnId) -> Result<bool, Gone>
         ensures value { IfOk result (λ has. has ≡ is_shown session.now.last id) }
         ensures same { self.new ≡ self.old }
@@ -173,24 +196,37 @@ impl<K: NodeName> View<K> {
         Ok(results)
     }
 
-    /// Copies of the steps after the first n, none past the end. Their rows are shared.
+    /// Where the chain begins, and copies of its steps after the first n, none past the end; all of them where it begins at
+    /// another start than this. Their rows are shared.
     ///
     /// # Errors
     /// `Gone` or `NoMemory`; then nothing is changed.
-    pub fn changes_since(&mut self, alloc: Global, n: usize) -> Result<Vec<Step>, ViewError>
+    pub fn changes_since(
+        &mut self,
+        alloc: Global,
+        start: TxnId,
+        n: usize,
+    ) -> Result<(TxnId, Vec<Step>), ViewError>
         ensures later { OnOk result (GoesOn K.schema self.old self.new) }
-        ensures value { IfOk result (λ steps. steps.items ≡ drop n (folded_by K.schema self.new).steps) }
+        ensures start { IfOk result (λ r. r.0 ≡ start_at (folded_by K.schema self.new)) }
+        ensures value { IfOk result (λ r. r.1.items ≡ since_start (folded_by K.schema self.new) start n) }
         ensures unchanged { OnErr result (self.new ≡ self.old) }
     {
-        let (front, steps) = match self.handle.enter() {
+        let (front, begins, steps) = match self.handle.enter() {
             None => return Err(ViewError::Gone),
             Some(shown) => {
                 let front = shown.since(&self.known).ok_or(Gone)?;
-                (front, copies_after(alloc, n, shown.folded().steps())?)
+                let begins = shown.folded().start();
+                let first = if start == begins { n } else { 0 };
+                (
+                    front,
+                    begins,
+                    copies_after(alloc, first, shown.folded().steps())?,
+                )
             }
         };
         self.known = front;
-        Ok(steps)
+        Ok((begins, steps))
     }
 
     /// A session's answer to a message (RFC 7047 section 4.1; ovsdb-server(7)).

@@ -1,5 +1,6 @@
 //! Why a view gives no answer.
 
+use ovs_reader::ShownError;
 use ovs_types::NoMemory;
 use thiserror::Error;
 
@@ -14,6 +15,9 @@ pub enum ViewError {
     /// There is no entry to what is published, or only one that is behind what was seen or told.
     #[error("what is published can't be read")]
     Gone,
+    /// The chain began at a greater start than the one that the session was shown last: its connection has to be closed.
+    #[error("the chain began anew")]
+    Epoch,
     /// Memory ran out.
     #[error("out of memory")]
     NoMemory,
@@ -38,6 +42,19 @@ impl From<NoMemory> for ViewError {
 
     fn from(_want: NoMemory) -> ViewError {
         ViewError::NoMemory
+    }
+}
+
+impl From<ShownError> for ViewError {
+    ghost use Rattle.ovs_views.specs.Published.{AreAlike};
+
+    ghost from_gives = { AreAlike };
+
+    fn from(error: ShownError) -> ViewError {
+        match error {
+            ShownError::Epoch => ViewError::Epoch,
+            ShownError::NoMemory => ViewError::NoMemory,
+        }
     }
 }
 

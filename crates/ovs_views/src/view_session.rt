@@ -1,8 +1,8 @@
 //! The session of a reader at a node.
 
-ghost use Rattle.std.specs.Prelude.{◌≡◌, ◌<◌, [], true, length, IfOk, IfErr, OnOk, OnErr};
+ghost use Rattle.std.specs.Prelude.{◌≡◌, ◌<◌, [], true, false, length, IfOk, IfErr, MatchResult, OnOk, OnErr};
 ghost use Rattle.ovs_links.specs.Absorbing.{folded_by};
-ghost use Rattle.ovs_reader.specs.Session.{new_session};
+ghost use Rattle.ovs_reader.specs.Session.{new_session, is_over};
 ghost use Rattle.ovs_reader.specs.Turns.{seen_turn, turn, after_turn};
 ghost use Rattle.ovs_reader.specs.Telling.{told_some, after_some};
 ghost use Rattle.ovs_views.specs.Published.{GoesOn};
@@ -58,7 +58,8 @@ impl<K: NodeName> ViewSession<K> {
     /// Answers a message (RFC 7047 section 4.1) from what is shown.
     ///
     /// # Errors
-    /// `Gone` only where that is less than what the session was shown before; `NoMemory`. Then nothing is changed.
+    /// `Gone` only where that is less than what the session was shown before; `Epoch` only where its chain begins at a greater start
+    /// than the one that the session was shown last, and then for all that is shown later; `NoMemory`. Then nothing is changed.
     pub fn take_message(
         &mut self,
         alloc: Global,
@@ -69,6 +70,8 @@ impl<K: NodeName> ViewSession<K> {
         ensures turn { IfOk result (λ t. seen_turn t ≡ turn self.old.session (folded_by K.schema shown.now) message) }
         ensures after { OnOk result (self.new ≡ record { session = after_turn self.old.session (folded_by K.schema shown.now) message; last = shown.now }) }
         ensures gone { IfErr result (λ e. e ≡ ViewError.Gone → length shown.now < length self.old.last) }
+        ensures epoch { MatchResult result (λ _. is_over self.old.session.start (folded_by K.schema shown.now) ≡ false)
+            (λ e. e ≡ ViewError.Epoch → is_over self.old.session.start (folded_by K.schema shown.now) ≡ true) }
         ensures unchanged { OnErr result (self.new ≡ self.old) }
     {
         let last = shown.since(&self.last).ok_or(Gone)?;
@@ -81,7 +84,8 @@ impl<K: NodeName> ViewSession<K> {
     /// once so many are told. Fewer mean that nothing is left to be told; what is left, the next call tells.
     ///
     /// # Errors
-    /// `Gone` only where that is less than what the session was shown before; `NoMemory`. Then nothing is changed.
+    /// `Gone` only where that is less than what the session was shown before; `Epoch` as `take_message`; `NoMemory`. Then nothing is
+    /// changed.
     pub fn pump(
         &mut self,
         alloc: Global,
@@ -93,6 +97,8 @@ impl<K: NodeName> ViewSession<K> {
         ensures told { IfOk result (λ ms. ms.items ≡ told_some most self.old.session.monitors (folded_by K.schema shown.now).steps) }
         ensures after { OnOk result (self.new ≡ record { session = after_some most self.old.session (folded_by K.schema shown.now); last = shown.now }) }
         ensures gone { IfErr result (λ e. e ≡ ViewError.Gone → length shown.now < length self.old.last) }
+        ensures epoch { MatchResult result (λ _. is_over self.old.session.start (folded_by K.schema shown.now) ≡ false)
+            (λ e. e ≡ ViewError.Epoch → is_over self.old.session.start (folded_by K.schema shown.now) ≡ true) }
         ensures unchanged { OnErr result (self.new ≡ self.old) }
     {
         let last = shown.since(&self.last).ok_or(Gone)?;
@@ -110,7 +116,7 @@ impl<K: NodeName> ViewSession<K> {
 
     /// Ends the session: its monitors are gone, and from now on nothing is answered or told.
     pub fn end(&mut self)
-        ensures value { self.new ≡ record { session = record { monitors = []; shown = self.old.session.shown; head = self.old.session.head; is_ended = true }; last = self.old.last } }
+        ensures value { self.new ≡ record { session = record { monitors = []; start = self.old.session.start; shown = self.old.session.shown; head = self.old.session.head; is_ended = true }; last = self.old.last } }
     {
         self.session.end();
     }

@@ -16,9 +16,11 @@ use Rattle.ovs_types.specs.contracts.schema.Description as description_row
 use Rattle.ovs_types.specs.declared.schema.Table.{Table}
 use Rattle.ovs_rows.specs.Row.{Rows, no_rows}
 use Rattle.ovs_rows.specs.After.{after}
-use Rattle.ovs_links.specs.Chains.{head_after}
+use Rattle.ovs_links.specs.Chains.{head_after, start_of}
+use Rattle.ovs_links.specs.Link.{IsStart}
 use Rattle.ovs_links.specs.Steps.{FoldedValue, folded_of, steps_of}
-use Rattle.ovs_links.specs.StepChains.{position_in}
+use Rattle.ovs_links.specs.StepChains.{position_in, start_at}
+use Rattle.ovs_links.proofs.StepLemmas.{start_steps}
 use Rattle.ovs_links.specs.declared.link.Link.{Link}
 use Rattle.ovs_query.specs.MonitorReading.{read_monitor}
 use Rattle.ovs_query.specs.declared.monitor.Notation.TheVariants.{Update3}
@@ -80,12 +82,16 @@ found_at tables start id rows (l ∷ chain) i k e = by (found_at tables l.id id 
     by others false at e = (let later = others e in (suc later.0, omega (arith, later.1), omega (arith, later.2), later.3))
 
 stands_at : (schema : _) (chain : List Link) (asked k : ℕ) → position_in (folded_of schema chain) asked ≡ Some k → IsAt chain asked k
-stands_at schema chain asked k e = by (asked == 0) refl e
+stands_at schema chain asked k e = by (asked == start_at (folded_of schema chain)) refl e
   where
-    by : (b : Bool) → (asked == 0) ≡ b → cond b (Some 0) (position_from (λ s. s.id == asked) 1 (steps_of schema.description.tables no_rows chain)) ≡ Some k → IsAt chain asked k
-    by true at e = (let same : 0 ≡ k = cc e in let none : asked ≡ 0 = eqb-true asked 0 at in subst (IsAt chain asked) same (omega arith, sym none))
+    begins : start_at (folded_of schema chain) ≡ start_of chain
+    begins = start_steps schema.description.tables no_rows chain
+
+    by : (b : Bool) → (asked == start_at (folded_of schema chain)) ≡ b → cond b (Some 0) (position_from (λ s. s.id == asked) 1 (steps_of schema.description.tables no_rows chain)) ≡ Some k → IsAt chain asked k
+    by true at e =
+        (let same : 0 ≡ k = cc e in let first : asked ≡ start_at (folded_of schema chain) = eqb-true asked (start_at (folded_of schema chain)) at in subst (IsAt chain asked) same (omega arith, sym (first ∙ begins)))
     by false at e =
-        let found = found_at schema.description.tables 0 asked no_rows chain 1 k e in
+        let found = found_at schema.description.tables (start_of chain) asked no_rows chain 1 k e in
         let same : suc found.0 ≡ k = omega (arith, found.1) in
         subst (IsAt chain asked) same (omega (arith, found.2), found.3)
 
@@ -103,14 +109,14 @@ module _ (schema : SchemaValue) (chain : List Link) (asked : ℕ) (can : CanBeAs
 
   -- what comes of the request once its params are read
   abbrev started : Data × Data × ℕ → Asking answers.Outcome
-  started parts = answers.monitor_or_refusal (read_monitor Update3 tables parts.1) >>= λ monitor. Ok (answers.starts_at parts.0 monitor parts.2 (position_in folded parts.2))
+  started parts = answers.monitor_or_refusal (read_monitor Update3 tables parts.1) >>= λ monitor. Ok (answers.starts_at (start_at folded) parts.0 monitor parts.2 (position_in folded parts.2))
 
   starts : answers.answer [] folded (codes "monitor_cond_since") (monitor_params schema asked)
-      ≡ Ok (answers.starts_at (string (codes "relay")) (whole_monitor tables) asked (position_in folded asked))
+      ≡ Ok (answers.starts_at (start_at folded) (string (codes "relay")) (whole_monitor tables) asked (position_in folded asked))
   starts =
       ap (λ b. cond b (Ok behind_name) (Err UnknownDatabase) >>= answers.start_since folded) (same_name schema.description.name)
       ∙ ap (λ o. (ok_or o BadParams >>= λ since. Ok (string (codes "relay"), requests tables, since)) >>= started) can.id_back
-      ∙ ap (λ r. answers.monitor_or_refusal r >>= λ monitor. Ok (answers.starts_at (string (codes "relay")) monitor asked (position_in folded asked))) (read_whole schema asked can)
+      ∙ ap (λ r. answers.monitor_or_refusal r >>= λ monitor. Ok (answers.starts_at (start_at folded) (string (codes "relay")) monitor asked (position_in folded asked))) (read_whole schema asked can)
 
   -- a relay's monitor at this place
   abbrev made : ℕ → Subscription
@@ -141,12 +147,12 @@ module _ (schema : SchemaValue) (chain : List Link) (asked : ℕ) (can : CanBeAs
   is_relays : (k : ℕ) → IsRelayMonitor tables (made k)
   is_relays k = record { named = refl; notation = refl; whole = shows_all schema asked can }
 
-pub monitor_answered : (schema : SchemaValue) (chain : List Link) (s : SessionValue) (asked : ℕ) → CanBeAsked schema asked → s.is_ended ≡ false → s.monitors ≡ []
+pub monitor_answered : (schema : SchemaValue) (chain : List Link) (s : SessionValue) (asked : ℕ) → IsStart (start_of chain) → CanBeAsked schema asked → s.is_ended ≡ false → s.monitors ≡ []
     → (m : Subscription) × (reply : Message) × IsRelayMonitor schema.description.tables m × (m.position ≤ length chain)
     × ((turn s (folded_of schema chain) (monitor_request schema asked)).out ≡ Some reply)
     × ((after_turn s (folded_of schema chain) (monitor_request schema asked)).monitors ≡ m ∷ [])
     × TellsPlace schema.description.tables chain asked m.position (talk_of reply)
-monitor_answered schema chain s asked can goes_on new = by (position_in (folded_of schema chain) asked) refl
+monitor_answered schema chain s asked below can goes_on new = by (position_in (folded_of schema chain) asked) refl
   where
     by : (o : Option ℕ) → position_in (folded_of schema chain) asked ≡ o
         → (m : Subscription) × (reply : Message) × IsRelayMonitor schema.description.tables m × (m.position ≤ length chain)
@@ -154,7 +160,7 @@ monitor_answered schema chain s asked can goes_on new = by (position_in (folded_
         × ((after_turn s (folded_of schema chain) (monitor_request schema asked)).monitors ≡ m ∷ [])
         × TellsPlace schema.description.tables chain asked m.position (talk_of reply)
     by (Some k) at =
-        let comes = starts schema chain asked can ∙ ap (λ o. Ok (answers.starts_at (string (codes "relay")) (whole_monitor schema.description.tables) asked o)) at in
+        let comes = starts schema chain asked can ∙ ap (λ o. Ok (answers.starts_at (start_at (folded_of schema chain)) (string (codes "relay")) (whole_monitor schema.description.tables) asked o)) at in
         let place = stands_at schema chain asked k at in (
           made schema chain asked can k,
           reply schema chain asked can true asked,
@@ -165,12 +171,15 @@ monitor_answered schema chain s asked can goes_on new = by (position_in (folded_
           subst (TellsPlace schema.description.tables chain asked k) (sym (says_place schema chain asked can true asked can.id_back)) (inl (refl, refl, place)),
         )
     by None at =
-        let comes = starts schema chain asked can ∙ ap (λ o. Ok (answers.starts_at (string (codes "relay")) (whole_monitor schema.description.tables) asked o)) at in (
+        let start = start_at (folded_of schema chain) in
+        let begins : start ≡ start_of chain = start_steps schema.description.tables no_rows chain in
+        let comes = starts schema chain asked can ∙ ap (λ o. Ok (answers.starts_at (start_at (folded_of schema chain)) (string (codes "relay")) (whole_monitor schema.description.tables) asked o)) at in (
           made schema chain asked can 0,
-          reply schema chain asked can false 0,
+          reply schema chain asked can false start,
           is_relays schema chain asked can 0,
           omega arith,
-          out_is schema chain asked can s goes_on new 0 false 0 comes,
-          monitors_are schema chain asked can s goes_on new 0 false 0 comes,
-          subst (TellsPlace schema.description.tables chain asked 0) (sym (says_place schema chain asked can false 0 (id_reads_back 0 (omega arith)))) (inl (refl, refl, refl)),
+          out_is schema chain asked can s goes_on new 0 false start comes,
+          monitors_are schema chain asked can s goes_on new 0 false start comes,
+          subst (TellsPlace schema.description.tables chain asked 0) (sym (says_place schema chain asked can false start (id_reads_back start (omega (arith, below, begins)))))
+              (inl (begins, refl, refl)),
         )

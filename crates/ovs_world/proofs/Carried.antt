@@ -12,31 +12,31 @@ use Rattle.ovs_wire.specs.declared.message.Message.{Message}
 use Rattle.ovs_wire.specs.Frames.{Ending, Rest, Fault, IsBalanced, IsObject, IsTooLarge, HasFault, AreFrames}
 use Rattle.ovs_wire.specs.Framing.{Framing, IsNew, Feeds, FeedsAfter, Takes, Answers}
 use Rattle.ovs_wire.specs.Texts.{Remain}
-use Rattle.ovs_wire.specs.Message.{Says, Spells, Reads, IsWritten}
+use Rattle.ovs_wire.specs.Message.{Says, Spells, Reads}
 use Rattle.ovs_wire.proofs.Beginnings.{cut_anywhere}
 use Rattle.ovs_wire.proofs.Cuts.{only_object, only_fault}
 use Rattle.ovs_wire.proofs.Over.{object_or_large}
 use Rattle.ovs_wire.proofs.Spelling.{one_message}
 use Rattle.ovs_wire.proofs.Unique.{once}
-use Rattle.ovs_world.specs.Carrying.{Line, IsIdle, IsFaulty, Carries, Sends, Receives, Moves, MeetsLarge}
+use Rattle.ovs_world.specs.Carrying.{IsTextOf, Line, IsIdle, IsFaulty, Carries, Sends, Receives, Moves, MeetsLarge}
 
 pub carries_nothing : (line : Line) → IsIdle line → Carries line []
 carries_nothing line is = record {
   coming = [];
-  texts = subst (λ (w : List (List ℕ)). AllZip IsWritten [] (w ++ [])) (sym is.0.0) tt;
+  texts = subst (λ (w : List (List ℕ)). AllZip IsTextOf [] (w ++ [])) (sym is.0.0) tt;
   whole = subst (All IsObject) (sym is.0.0) (All-nil IsObject);
   rest = subst (λ (e : Ending). Remain e line.flight []) (sym is.0.1) is.1;
 }
 
 -- ---- feeding
 
-texts_balanced : (messages : List Message) (texts : List (List ℕ)) → AllZip IsWritten messages texts → All IsBalanced texts
+texts_balanced : (messages : List Message) (texts : List (List ℕ)) → AllZip IsTextOf messages texts → All IsBalanced texts
 texts_balanced [] [] are = All-nil IsBalanced
-texts_balanced (m ∷ ms) (t ∷ ts) are = All-cons IsBalanced t ts are.0.balanced (texts_balanced ms ts are.1)
+texts_balanced (m ∷ ms) (t ∷ ts) are = All-cons IsBalanced t ts are.0.written.balanced (texts_balanced ms ts are.1)
 texts_balanced [] (t ∷ ts) are = absurd are
 texts_balanced (m ∷ ms) [] are = absurd are
 
-others_balanced : (messages : List Message) (waiting coming : List (List ℕ)) → AllZip IsWritten messages (waiting ++ coming)
+others_balanced : (messages : List Message) (waiting coming : List (List ℕ)) → AllZip IsTextOf messages (waiting ++ coming)
     → All IsBalanced coming
 others_balanced messages [] coming are = texts_balanced messages coming are
 others_balanced (m ∷ ms) (t ∷ waiting) coming are = others_balanced ms waiting coming are.1
@@ -44,14 +44,14 @@ others_balanced [] (t ∷ waiting) coming are = absurd are
 
 fed_by : (ending : Ending) (old new : Framing) (flight piece left : List ℕ) (messages : List Message)
     (coming : List (List ℕ)) → flight ≡ piece ++ left → FeedsAfter ending old piece new
-    → AllZip IsWritten messages (old.waiting ++ coming) → All IsObject old.waiting → Remain ending flight coming
+    → AllZip IsTextOf messages (old.waiting ++ coming) → All IsObject old.waiting → Remain ending flight coming
     → ending ≡ old.ending → Carries (record { framing = new; flight = left }) messages
 fed_by (Rest rest) old new flight piece left messages coming parts feeds texts whole remain same =
     let all : (rest ++ piece) ++ left ≡ concat coming = append_assoc rest piece left ∙ ap (λ l. rest ++ l) (sym parts) ∙ remain in
     let cut = cut_anywhere coming (rest ++ piece) left feeds.found new.ending (others_balanced messages old.waiting coming texts) all feeds.frames in
     record {
       coming = cut.1.0;
-      texts = subst (λ (l : List (List ℕ)). AllZip IsWritten messages l)
+      texts = subst (λ (l : List (List ℕ)). AllZip IsTextOf messages l)
           (ap (λ l. old.waiting ++ l) (sym cut.1.1) ∙ sym (append_assoc old.waiting feeds.found cut.1.0)
           ∙ ap (λ l. l ++ cut.1.0) (sym feeds.waiting)) texts;
       whole = subst (All IsObject) (sym feeds.waiting) (All-append IsObject old.waiting feeds.found whole cut.0);
@@ -60,7 +60,7 @@ fed_by (Rest rest) old new flight piece left messages coming parts feeds texts w
 fed_by (Fault fault) old new flight piece left messages coming parts feeds texts whole remain same =
     record {
       coming = coming;
-      texts = subst (λ (n : Framing). AllZip IsWritten messages (n.waiting ++ coming)) (sym feeds) texts;
+      texts = subst (λ (n : Framing). AllZip IsTextOf messages (n.waiting ++ coming)) (sym feeds) texts;
       whole = subst (λ (n : Framing). All IsObject n.waiting) (sym feeds) whole;
       rest = subst (λ (n : Framing). Remain n.ending left coming) (sym feeds)
           (subst (λ (e : Ending). Remain e left coming) same remain);
@@ -122,8 +122,8 @@ carries_refused old new flight piece left messages e carries parts feeds answer 
 
 -- ---- sending
 
-written_more : (ms : List Message) (ts : List (List ℕ)) (m : Message) (t : List ℕ) → AllZip IsWritten ms ts → IsWritten m t
-    → AllZip IsWritten (ms ++ m ∷ []) (ts ++ t ∷ [])
+written_more : (ms : List Message) (ts : List (List ℕ)) (m : Message) (t : List ℕ) → AllZip IsTextOf ms ts → IsTextOf m t
+    → AllZip IsTextOf (ms ++ m ∷ []) (ts ++ t ∷ [])
 written_more [] [] m t are is = (is, tt)
 written_more (n ∷ ms) (x ∷ ts) m t are is = (are.0, written_more ms ts m t are.1 is)
 written_more [] (x ∷ ts) m t are is = absurd are
@@ -140,11 +140,11 @@ remain_more (Rest rest) flight t texts remain =
 remain_more (Fault fault) flight t texts remain =
     (remain.0, remain.1 ++ t ∷ [], ap (λ l. l ++ t ∷ []) remain.2, remain.3)
 
-pub carries_sent : (line : Line) (messages : List Message) (m : Message) (t : List ℕ) → Carries line messages → IsWritten m t
+pub carries_sent : (line : Line) (messages : List Message) (m : Message) (t : List ℕ) → Carries line messages → IsTextOf m t
     → Carries (record { framing = line.framing; flight = line.flight ++ t }) (messages ++ m ∷ [])
 carries_sent line messages m t carries is = record {
   coming = carries.coming ++ t ∷ [];
-  texts = subst (λ (l : List (List ℕ)). AllZip IsWritten (messages ++ m ∷ []) l)
+  texts = subst (λ (l : List (List ℕ)). AllZip IsTextOf (messages ++ m ∷ []) l)
       (append_assoc line.framing.waiting carries.coming (t ∷ []))
       (written_more messages (line.framing.waiting ++ carries.coming) m t carries.texts is);
   whole = carries.whole;
@@ -154,10 +154,10 @@ carries_sent line messages m t carries is = record {
 -- ---- taking out
 
 -- an object nests no deeper than what can be read, and says the message that was written
-object_says : (m : Message) (t : List ℕ) → IsWritten m t → IsObject t → Says t m
-object_says m t written object =
-    let at = written.nested.reached in
-    written.says (omega (arith, object.limits.nests at.0, at.1))
+object_says : (m : Message) (t : List ℕ) → IsTextOf m t → IsObject t → Says t m
+object_says m t text object =
+    let at = text.written.nested.reached in
+    text.written.says (omega (arith, object.limits.nests at.0, at.1))
 
 -- the first message, which the text says, and what the channel carries without it
 pub record Took (line : Line) (text : List ℕ) (messages : List Message) : Type 0 where
@@ -168,7 +168,7 @@ pub record Took (line : Line) (text : List ℕ) (messages : List Message) : Type
   pub rest : Carries line more
 
 took_by : (old new : Framing) (flight text : List ℕ) (messages : List Message) (coming : List (List ℕ))
-    → new.ending ≡ old.ending → AllZip IsWritten messages (text ∷ (new.waiting ++ coming))
+    → new.ending ≡ old.ending → AllZip IsTextOf messages (text ∷ (new.waiting ++ coming))
     → All IsObject (text ∷ new.waiting) → Remain old.ending flight coming
     → Took (record { framing = new; flight = flight }) text messages
 took_by old new flight text [] coming same texts whole remain = absurd texts
@@ -190,7 +190,7 @@ pub carries_taken : (old new : Framing) (flight text : List ℕ) (messages : Lis
     → Took (record { framing = new; flight = flight }) text messages
 carries_taken old new flight text messages carries takes =
     took_by old new flight text messages carries.coming takes.1
-    (subst (λ (l : List (List ℕ)). AllZip IsWritten messages (l ++ carries.coming)) takes.0 carries.texts)
+    (subst (λ (l : List (List ℕ)). AllZip IsTextOf messages (l ++ carries.coming)) takes.0 carries.texts)
     (subst (All IsObject) takes.0 carries.whole) carries.rest
 
 -- the message that was read is the first
@@ -244,8 +244,8 @@ fine n = Ok n
 
 -- a message that was sent and fed whole, where nothing else was on its way
 pub passes : (old mid new : Line) (m : Message) (n : ℕ) → IsIdle old → Sends old m mid → n ≡ length mid.flight → Moves mid n new → Answers new.framing.ending (fine n)
-    → (text : List ℕ) × IsWritten m text × IsWhole text new.framing × (new.flight ≡ [])
-passes old mid new m n idle sends all moves answers = (text, sends.1, whole (whole_or_large old.framing new.framing text idle.0 feeds sends.1.balanced), moves.1 ∙ drop_of_length-le mid.flight (omega (arith, all)))
+    → (text : List ℕ) × IsTextOf m text × IsWhole text new.framing × (new.flight ≡ [])
+passes old mid new m n idle sends all moves answers = (text, sends.1, whole (whole_or_large old.framing new.framing text idle.0 feeds sends.1.written.balanced), moves.1 ∙ drop_of_length-le mid.flight (omega (arith, all)))
   where
     text : List ℕ
     text = sends.0
@@ -266,7 +266,7 @@ passes old mid new m n idle sends all moves answers = (text, sends.1, whole (who
     whole (inr large) = absurd (no_fault new.framing.ending large.1.0 large.1.1 answers)
 
 -- and what is taken out then is the message
-pub passed_this : (m other : Message) (text : List ℕ) (now new : Line) → IsWritten m text → IsWhole text now.framing → now.flight ≡ [] → Receives now other new
+pub passed_this : (m other : Message) (text : List ℕ) (now new : Line) → IsTextOf m text → IsWhole text now.framing → now.flight ≡ [] → Receives now other new
     → (other ≡ m) × IsIdle new
 passed_this m other text now new written whole none receives =
     let waits : text ∷ [] ≡ receives.0 ∷ new.framing.waiting = sym whole.waiting ∙ receives.2.0 in
@@ -278,8 +278,8 @@ passed_this m other text now new written whole none receives =
 
 -- a fault tells that the message is too large
 pub stopped_large : (old mid : Line) (now : Framing) (m : Message) (n : ℕ) (fault : FrameError) → IsIdle old → Sends old m mid → n ≡ length mid.flight → Feeds mid.framing (take n mid.flight) now
-    → now.ending ≡ Fault fault → (text : List ℕ) × IsWritten m text × IsTooLarge text
-stopped_large old mid now m n fault idle sends all fed is = (text, sends.1, large (whole_or_large old.framing now text idle.0 feeds sends.1.balanced))
+    → now.ending ≡ Fault fault → (text : List ℕ) × IsTextOf m text × IsTooLarge text
+stopped_large old mid now m n fault idle sends all fed is = (text, sends.1, large (whole_or_large old.framing now text idle.0 feeds sends.1.written.balanced))
   where
     text : List ℕ
     text = sends.0
@@ -303,9 +303,9 @@ meets_large line messages carries none faulty = let is = over line.framing.endin
     over (Rest rest) f r = absurd f
     over (Fault fault) f r = r
 
-    zipped : (large : List ℕ) (more : List (List ℕ)) → carries.coming ≡ large ∷ more → AllZip IsWritten messages (large ∷ more)
-    zipped large more e = subst (AllZip IsWritten messages) (ap (λ (ts : List (List ℕ)). ts ++ carries.coming) none ∙ e) carries.texts
+    zipped : (large : List ℕ) (more : List (List ℕ)) → carries.coming ≡ large ∷ more → AllZip IsTextOf messages (large ∷ more)
+    zipped large more e = subst (AllZip IsTextOf messages) (ap (λ (ts : List (List ℕ)). ts ++ carries.coming) none ∙ e) carries.texts
 
-    split : (ms : List Message) (is : (large : List ℕ) × (more : List (List ℕ)) × (carries.coming ≡ large ∷ more) × IsTooLarge large) → Carries line ms → AllZip IsWritten ms (is.0 ∷ is.1) → MeetsLarge line
+    split : (ms : List Message) (is : (large : List ℕ) × (more : List (List ℕ)) × (carries.coming ≡ large ∷ more) × IsTooLarge large) → Carries line ms → AllZip IsTextOf ms (is.0 ∷ is.1) → MeetsLarge line
     split [] is c z = absurd z
     split (m ∷ ms) is c z = record { waiting = none; faulty = faulty; message = m; more = ms; carried = c; large = (is.0, z.0, is.3) }

@@ -1,6 +1,6 @@
 -- What the calls of a delivery do, move by move.
 use Rattle.std.specs.List.{AllByRecursion}
-use Rattle.std.proofs.Common.{◌≡◌, ◌≤◌, ◌<◌, ◌-◌, inl, inr, ℕ, zero, suc, Option, Some, None, List, [], ◌∷◌, length, map, get_or, slice_set, refl, sym, ◌∙◌, ap, subst, arith}
+use Rattle.std.proofs.Common.{◌≡◌, ◌≤◌, ◌<◌, ◌-◌, ⊎_elim, inl, inr, ℕ, zero, suc, true, false, Option, Some, None, List, [], ◌∷◌, length, map, get_or, slice_set, refl, sym, ◌∙◌, ap, subst, arith}
 use Rattle.std.proofs.lemmas.List.{length-set}
 use Rattle.ovs_links.specs.Steps.{FoldedValue}
 use Rattle.ovs_links.specs.Store.{Stored}
@@ -16,18 +16,18 @@ use Rattle.ovs_world.specs.Carrying.{Line, IsWhole, Carries, Moves, Chokes, Send
 use Rattle.ovs_world.specs.Deliveries.{scene, Tell, Feed, Choke, Hear, Does, Leads, holding, followed, IsToldOut, IsQuiet, IsScene}
 use Rattle.ovs_world.specs.Leading.{IsLed}
 use Rattle.ovs_world.specs.Nodes.{IsNode, Extends, node_at, folded_in, held, plus, counts_of}
-use Rattle.ovs_world.specs.Sessions.{Pumps, PumpsIdle, Goes, HearsNext, with_line}
+use Rattle.ovs_world.specs.Sessions.{IsSilent, Replies, Pumps, PumpsIdle, Goes, HearsNext, is_behind, with_line}
 use Rattle.ovs_world.specs.declared.holding.Counts.{Counts}
 use Rattle.ovs_world.specs.declared.session.Session.{Session}
-use Rattle.ovs_world.proofs.Led.{led_pumped, led_fed}
+use Rattle.ovs_world.proofs.Led.{led_grows, led_pumped, led_fed}
 use Rattle.ovs_world.proofs.Moving.{leads_none, leads_one}
-use Rattle.ovs_world.proofs.Scenes.{node_of, grow_set, tier_set, holding_is, any_default, node_grows, led_grows}
+use Rattle.ovs_world.proofs.Scenes.{node_of, grow_set, tier_set, holding_is, any_default, node_grows}
 
 -- ---- what a session keeps
 
 goes_ends : (f : FoldedValue) (s t : Session) (event : UpEvent) → Goes f s event t → (t.relay ≡ s.relay) × (t.upstream ≡ s.upstream)
 goes_ends f s t (Links ls) goes = (ap (λ (x : Session). x.relay) goes, ap (λ (x : Session). x.upstream) goes)
-goes_ends f s t (Send m) goes = goes.ends
+goes_ends f s t (Send m) goes = (goes.ends.0, goes.ends.1)
 goes_ends f s t (ReplyFor n a) goes = (ap (λ (x : Session). x.relay) goes, ap (λ (x : Session). x.upstream) goes)
 goes_ends f s t (Locked name) goes = (ap (λ (x : Session). x.relay) goes, ap (λ (x : Session). x.upstream) goes)
 goes_ends f s t (Stolen name) goes = (ap (λ (x : Session). x.relay) goes, ap (λ (x : Session). x.upstream) goes)
@@ -46,7 +46,8 @@ all_framing old new (m ∷ ms) sends = all_framing sends.0 new ms sends.2 ∙ ap
 
 goes_framing : (f : FoldedValue) (s t : Session) (event : UpEvent) → Goes f s event t → t.downward.framing ≡ s.downward.framing
 goes_framing f s t (Links ls) goes = ap (λ (x : Session). x.downward.framing) goes
-goes_framing f s t (Send m) goes = any_framing s.downward t.downward _ goes.reply
+goes_framing f s t (Send m) goes =
+    ⊎_elim (λ (silent : IsSilent f s t). ap (λ (l : Line). l.framing) silent.downward) (λ (replies : Replies f s m t). any_framing s.downward t.downward _ replies.reply) goes.answered
 goes_framing f s t (ReplyFor n a) goes = ap (λ (x : Session). x.downward.framing) goes
 goes_framing f s t (Locked name) goes = ap (λ (x : Session). x.downward.framing) goes
 goes_framing f s t (Stolen name) goes = ap (λ (x : Session). x.downward.framing) goes
@@ -105,8 +106,9 @@ after_hearing source node relays s t links d store stands node_is next led is_no
     let long : length (slice_set relays i store) ≡ length relays = length-set relays i store in
     let relay = stands.between.relay in
     let upstream = stands.between.upstream in
+    let tier = tier_set source relays i store stands.tier is_node in
     record {
-      tier = tier_set source relays i store stands.tier is_node;
+      tier = tier;
       between = record {
         relay = (omega (arith, ends.0, relay.0), omega (arith, ends.0, relay.1, long));
         upstream = omega (arith, ends.1, upstream, long);
@@ -133,7 +135,7 @@ did_hear source node relays s t links d store counts told new stands node_is nex
 
 pumped_ends : (f : FoldedValue) (s t : Session) → PumpsIdle f s t → (t.relay ≡ s.relay) × (t.upstream ≡ s.upstream)
 pumped_ends f s t (inl none) = (ap (λ (x : Session). x.relay) none.1, ap (λ (x : Session). x.upstream) none.1)
-pumped_ends f s t (inr pumps) = pumps.1.ends
+pumped_ends f s t (inr pumps) = (pumps.1.ends.0, pumps.1.ends.1)
 
 pub pumped_framing : (f : FoldedValue) (s t : Session) → PumpsIdle f s t → t.downward.framing ≡ s.downward.framing
 pumped_framing f s t (inl none) = ap (λ (x : Session). x.downward.framing) none.1
@@ -144,7 +146,7 @@ quiet_framing s t same quiet = record { heard = ap (λ (x : Framing). x.waiting)
 
 module _ (source node : Stored) (relays : List Stored) (s t : Session) (stands : IsScene source relays s) (node_is : node ≡ node_at source relays s.upstream)
     (pumps : PumpsIdle (folded_in node) s t) where
-  pub after_pumping : (s.downward.flight ≡ [] → AreToldReadably s.reader.monitors (folded_in node).steps) → MayBeShown t.reader (folded_in node) → IsScene source relays t
+  pub after_pumping : (s.downward.flight ≡ [] → is_behind (folded_in node) s ≡ false → AreToldReadably s.reader.monitors (folded_in node).steps) → MayBeShown t.reader (folded_in node) → IsScene source relays t
   after_pumping readable shown =
       let ends = pumped_ends (folded_in node) s t pumps in
       let relay = stands.between.relay in
@@ -163,8 +165,8 @@ module _ (source node : Stored) (relays : List Stored) (s t : Session) (stands :
 
       by : PumpsIdle (folded_in node) s t → IsLed source node t
       by (inl none) = subst (IsLed source node) (sym none.1) led
-      by (inr tells) = led_pumped source node stands.tier.is_source
-          (subst (IsNode source) (sym node_is) (node_of source relays stands.tier s.upstream)) s t led tells.1 (readable tells.0) shown
+      by (inr tells) = led_pumped source node (subst (IsNode source) (sym node_is) (node_of source relays stands.tier s.upstream)) s t led tells.1
+          (readable tells.0 tells.1.goes_on) shown
 
   pub did_pump : (counts : Counts) → Leads source 0 (scene relays s counts) (scene relays t counts)
   did_pump counts = by pumps
@@ -174,9 +176,9 @@ module _ (source node : Stored) (relays : List Stored) (s t : Session) (stands :
       by (inr tells) = leads_one source Tell (scene relays s counts) (scene relays t counts) 0 refl
           (tells.0, subst (λ (n : Stored). Pumps (folded_in n) s t) node_is tells.1, refl, refl)
 
-  -- where nothing is in flight then, nothing is left to be told
+  -- where nothing is in flight then, nothing is left to be told, or the session is gone
   pub told_out : length t.downward.flight ≡ 0 → (counts : Counts) → IsToldOut (followed source (scene relays t counts)) t
-  told_out none counts = (empty t.downward.flight none, subst (λ (f : FoldedValue). AllByRecursion (λ (m : Subscription). m.position ≡ length f.steps) t.reader.monitors) followed_is (by pumps))
+  told_out none counts = subst (λ (f : FoldedValue). IsToldOut f t) followed_is (by pumps)
     where
       empty : (xs : List ℕ) → length xs ≡ 0 → xs ≡ []
       empty [] e = refl
@@ -189,10 +191,14 @@ module _ (source node : Stored) (relays : List Stored) (s t : Session) (stands :
       moved k [] = tt
       moved k (m ∷ ms) = (refl, moved k ms)
 
-      by : PumpsIdle (folded_in node) s t → AllByRecursion (λ (m : Subscription). m.position ≡ length (folded_in node).steps) t.reader.monitors
-      by (inl still) = absurd (let some : 0 < length s.downward.flight = still.0 in let same : length t.downward.flight ≡ length s.downward.flight = ap (λ (x : Session). length x.downward.flight) still.1 in omega (arith, some, same, none))
-      by (inr tells) = subst (λ (r : SessionValue). AllByRecursion (λ (m : Subscription). m.position ≡ length (folded_in node).steps) r.monitors) (sym tells.1.reader)
-          (moved (length (folded_in node).steps) s.reader.monitors)
+      by : PumpsIdle (folded_in node) s t → IsToldOut (folded_in node) t
+      by (inl still) = ⊎_elim
+          (λ (some : 0 < length s.downward.flight). absurd (let same : length t.downward.flight ≡ length s.downward.flight = ap (λ (x : Session). length x.downward.flight) still.1 in omega (arith, some, same, none)))
+          (λ (behind : is_behind (folded_in node) s ≡ true). inr (empty t.downward.flight none, ap (λ (x : Session). is_behind (folded_in node) x) still.1 ∙ behind)) still.0
+      by (inr tells) = inl (
+        empty t.downward.flight none,
+        subst (λ (r : SessionValue). AllByRecursion (λ (m : Subscription). m.position ≡ length (folded_in node).steps) r.monitors) (sym tells.1.reader) (moved (length (folded_in node).steps) s.reader.monitors),
+      )
 
 -- ---- bytes reach the relay
 
@@ -204,7 +210,7 @@ after_feeding source relays s t stands is keeps =
       between = record {
         relay = stands.between.relay;
         upstream = stands.between.upstream;
-        led = led_fed source (node_at source relays s.upstream) stands.tier.is_source (node_of source relays stands.tier s.upstream) s t.downward stands.between.led keeps;
+        led = led_fed source (node_at source relays s.upstream) s t.downward stands.between.led keeps;
       };
     })
 

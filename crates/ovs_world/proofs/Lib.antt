@@ -1,7 +1,9 @@
 pub mod Carried
 pub mod Telling
 pub mod Asking
+pub mod Lines
 pub mod Answering
+pub mod Asked
 pub mod Heard
 pub mod Led
 pub mod Counting
@@ -14,6 +16,7 @@ pub mod Settled
 pub mod Opened
 pub mod Restarted
 pub mod Merged
+pub mod Pruned
 pub mod Longer
 pub mod Broken
 pub mod Refused

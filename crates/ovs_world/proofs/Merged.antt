@@ -6,43 +6,42 @@ use Rattle.ovs_types.specs.Schema.{SchemaValue}
 use Rattle.ovs_links.specs.Answers.{AreOfOneSource}
 use Rattle.ovs_links.specs.Join.{Agree, join}
 use Rattle.ovs_links.specs.Outcomes.{with_links, merge_answer, merged}
-use Rattle.ovs_links.specs.Settling.{KeepsLinks, IsWholeChain, chain_of, after_settle}
-use Rattle.ovs_links.specs.Sets.{Among, Holds}
+use Rattle.ovs_links.specs.Settling.{KeepsLinks, after_settle}
+use Rattle.ovs_links.specs.Sets.{Holds}
 use Rattle.ovs_links.specs.Store.{Stored, IsStore, tables_of, max_links}
 use Rattle.ovs_links.specs.declared.link.Link.{Link}
 use Rattle.ovs_links.proofs.JoinLemmas.{in_join, join_left, join_is_set}
-use Rattle.ovs_source.specs.Commits.{IsSource, history_of}
+use Rattle.ovs_source.specs.Commits.{IsSource}
 use Rattle.ovs_world.specs.Nodes.{IsNode, IsTier, Extends, Grow, LeavesMerge, MergesNodes, LeavesMergeOfNodes, node_at}
 use Rattle.ovs_world.specs.Worlds.{IsWorld}
 use Rattle.ovs_world.specs.declared.session.Session.{Session}
-use Rattle.ovs_world.proofs.Counting.{few_among, chain_few}
+use Rattle.ovs_world.proofs.Counting.{few_held}
 use Rattle.ovs_world.proofs.Held.{node_settled}
 use Rattle.ovs_world.proofs.Opened.{sessions_grow, relay_at}
 use Rattle.ovs_world.proofs.Scenes.{node_of, tier_set, grow_set}
 
-module _ (source s t : Stored) (is : IsSource source) (store : IsStore source) (node : IsNode source s) (other : IsNode source t) where
-  joined_within : (l : Link) → Holds (join s.links t.links) l → Among source.folded l
+module _ (source s t : Stored) (node : IsNode source s) (other : IsNode source t) where
+  joined_within : (l : Link) → Holds (join s.links t.links) l → Holds source.links l
   joined_within l h = ⊎_elim (λ (a : Holds s.links l). node.within l a) (λ (b : Holds t.links l). other.within l b) (in_join s.links t.links l h)
 
   -- the links are of one history, so none contradicts another
-  pub one_source : AreOfOneSource (tables_of s) (Holds s.links) (Holds t.links)
-  one_source = subst (λ (v : SchemaValue). AreOfOneSource v.description.tables (Holds s.links) (Holds t.links)) (sym node.schema) (
-    history_of source,
+  pub one_source : IsSource source → AreOfOneSource (tables_of s) (Holds s.links) (Holds t.links)
+  one_source is = subst (λ (v : SchemaValue). AreOfOneSource v.description.tables (Holds s.links) (Holds t.links)) (sym node.schema) (
     is.history,
-    λ l h. subst (λ (ls : List Link). Among ls l) (sym is.links) (node.within l h),
-    λ l h. subst (λ (ls : List Link). Among ls l) (sym is.links) (other.within l h),
+    is.is.history,
+    λ l h. (is.is.held l).0 (node.within l h),
+    λ l h. (is.is.held l).0 (other.within l h),
   )
 
   -- and there is room for all of them
-  pub room : Agree s.links t.links → max_links < len (join s.links t.links) → ⊥
-  room agree full =
-      let few = few_among source.folded (join s.links t.links) (join_is_set s.links t.links node.store.set other.store.set agree).keyed joined_within in
-      let most = chain_few source store in
+  pub room : IsStore source → Agree s.links t.links → max_links < len (join s.links t.links) → ⊥
+  room store agree full =
+      let few = few_held (join s.links t.links) source.links (join_is_set s.links t.links node.store.set other.store.set agree).keyed store.set.keyed joined_within in
+      let most = store.few in
       omega (arith, few, most, full)
 
-  pub merged_node : (new : Stored) → KeepsLinks (with_links s (join s.links t.links)) new → IsStore new
-      → IsWholeChain (with_links s (join s.links t.links)) (chain_of (with_links s (join s.links t.links))) → IsNode source new
-  merged_node new keeps is_store whole = node_settled source is (with_links s (join s.links t.links)) new node.schema joined_within keeps is_store whole
+  pub merged_node : (new : Stored) → KeepsLinks (with_links s (join s.links t.links)) new → IsStore new → IsNode source new
+  merged_node new keeps is_store = node_settled source (with_links s (join s.links t.links)) new node.schema joined_within keeps is_store
 
   pub merged_extends : (new : Stored) → KeepsLinks (with_links s (join s.links t.links)) new → IsStore new → Extends s new
   merged_extends new keeps is_store = record {
@@ -127,8 +126,8 @@ module _ (source : Stored) (relays : List Stored) (into from : ℕ) (places : Ar
         after_is,
       )
 
-      pub tier_merged : ((x : Stored) → IsSource x → IsStore x → IsNode x s → IsNode x o → IsNode x new) → IsTier source after
-      tier_merged node = subst (IsTier source) (sym after_is) (tier_set source relays (into - 1) new tier (node source tier.is_source tier.store is_s is_o))
+      pub tier_merged : ((x : Stored) → IsNode x s → IsNode x o → IsNode x new) → IsTier source after
+      tier_merged node = subst (IsTier source) (sym after_is) (tier_set source relays (into - 1) new tier (node source is_s is_o))
 
       pub grow_merged : Extends s new → Grow relays after
       grow_merged more = subst (Grow relays) (sym after_is) (grow_set source relays (into - 1) s new tier
@@ -139,4 +138,4 @@ pub world_grown : (source : Stored) (fresh : ℕ) (ss ts us : List Stored) (os :
     → IsTier source ts → Grow ss ts → us ≡ ts → IsWorld (record { source = source; fresh = fresh; relays = us; sessions = os })
 world_grown source fresh ss ts us os w tier grow us_is =
     subst (λ (x : List Stored). IsWorld (record { source = source; fresh = fresh; relays = x; sessions = os })) (sym us_is)
-    (record { tier = tier; sessions = sessions_grow source ss ts os w.tier.store grow w.sessions })
+    (record { tier = tier; sessions = sessions_grow source ss ts os tier grow w.sessions })

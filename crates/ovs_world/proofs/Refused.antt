@@ -11,7 +11,7 @@ use Rattle.ovs_world.specs.Sessions.{IsNotPassed}
 use Rattle.ovs_world.specs.Steps.{StopsDelivery, RefusesDelivery, RefusesConnect}
 use Rattle.ovs_world.specs.Worlds.{WorldValue, AreTwo}
 use Rattle.ovs_world.specs.declared.error.WorldError.{WorldError}
-use Rattle.ovs_world.specs.declared.error.WorldError.TheVariants.{BadCount, NoSuchNode, NoSession, IdTaken, RowIdsSpent, Full, NotReadOnly, TooLarge, NoMemory}
+use Rattle.ovs_world.specs.declared.error.WorldError.TheVariants.{BadCount, NoSuchNode, NoSession, IdTaken, RowIdsSpent, EpochsSpent, Full, NotReadOnly, TooLarge, NoMemory}
 
 pub stopped : (w : WorldValue) (number bytes : ℕ) (e : WorldError) (v : WorldValue) → StopsDelivery w number bytes e v → RefusesDelivery w number bytes e v
 stopped w number bytes BadCount v s = s
@@ -19,6 +19,7 @@ stopped w number bytes NoSuchNode v s = s
 stopped w number bytes NoSession v s = absurd s.breaks
 stopped w number bytes IdTaken v s = s
 stopped w number bytes RowIdsSpent v s = s
+stopped w number bytes EpochsSpent v s = s
 stopped w number bytes Full v s = s
 stopped w number bytes NotReadOnly v s = s
 stopped w number bytes TooLarge v s = s
@@ -32,6 +33,7 @@ unopened w relay upstream schema NoSuchNode two same p = absurd p
 unopened w relay upstream schema NoSession two same p = absurd p
 unopened w relay upstream schema IdTaken two same p = absurd p
 unopened w relay upstream schema RowIdsSpent two same p = absurd p
+unopened w relay upstream schema EpochsSpent two same p = absurd p
 unopened w relay upstream schema Full two same p = absurd p
 unopened w relay upstream schema NotReadOnly two same p = absurd p
 

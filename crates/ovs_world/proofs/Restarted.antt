@@ -1,17 +1,18 @@
 -- A relay begins anew.
 use Rattle.std.specs.List.{AllByRecursion}
-use Rattle.std.proofs.Common.{◌≡◌, ◌≢◌, ◌≤◌, ◌<◌, ◌-◌, ◌==◌, ◌||◌, if◌then◌else◌, ℕ, zero, suc, Bool, true, false, Option, Some, None, List, [], ◌∷◌, ◌++◌, length, map, take, drop, get_or, set, slice_set, get_or-set_other, refl, sym, ◌∙◌, ap, subst, arith, eq-eqb}
+use Rattle.std.proofs.Common.{◌≡◌, ◌≢◌, ◌≤◌, ◌<◌, ◌-◌, ◌==◌, ◌||◌, if◌then◌else◌, ℕ, zero, suc, Bool, true, false, Option, Some, None, List, [], ◌∷◌, ◌++◌, length, map, take, drop, get_or, set, slice_set, refl, sym, ◌∙◌, ap, subst, arith, eq-eqb}
 use Rattle.std.proofs.lemmas.List.{length-set}
 use Rattle.ovs_links.specs.Store.{Stored}
 use Rattle.ovs_world.specs.Leading.{IsLed}
-use Rattle.ovs_world.specs.Nodes.{IsNode, node_at}
+use Rattle.ovs_world.specs.Nodes.{IsNode}
 use Rattle.ovs_world.specs.Worlds.{IsOpen, IsWorld, cut_of, empty_store}
 use Rattle.ovs_world.specs.declared.session.Session.{Session}
 use Rattle.ovs_world.proofs.Faithful.{empty_is_store, none_held}
+use Rattle.ovs_world.proofs.Opened.{other_node}
 use Rattle.ovs_world.proofs.Scenes.{tier_set}
 
 empty_node : (source : Stored) → IsNode source (empty_store source.schema)
-empty_node source = record { schema = refl; store = empty_is_store source.schema; within = λ l held. absurd (none_held l held); front = refl }
+empty_node source = record { schema = refl; store = empty_is_store source.schema; within = λ l held. absurd (none_held l held) }
 
 second_false : (a b : Bool) → a || b ≡ false → b ≡ false
 second_false true b e = absurd (let f : true ≡ false = e in cc)
@@ -24,14 +25,6 @@ module _ (source : Stored) (ss : List Stored) (r : ℕ) (place : (0 < r) × (r �
   abbrev anew : List Stored
   anew = slice_set ss (r - 1) (empty_store source.schema)
 
-  -- the other nodes are as they were
-  same_node : (n : ℕ) → n ≢ r → node_at source ss n ≡ node_at source anew n
-  same_node zero other = refl
-  same_node (suc i) other =
-      let first = place.0 in
-      let apart : i ≢ r - 1 = λ e. other (omega (arith, e, first)) in
-      sym (get_or-set_other ss (r - 1) i (empty_store source.schema) source apart)
-
   open_anew : (o : Option Session) → IsOpen source ss o → IsOpen source anew (cut_of r o)
   open_anew None is = is
   open_anew (Some s) is = by (s.relay == r || s.upstream == r) refl
@@ -43,7 +36,7 @@ module _ (source : Stored) (ss : List Stored) (r : ℕ) (place : (0 < r) × (r �
           let long : length anew ≡ length ss = length-set ss (r - 1) (empty_store source.schema) in
           let relay = is.0.relay in
           let upstream = is.0.upstream in
-          (record { relay = (relay.0, omega (arith, relay.1, long)); upstream = omega (arith, upstream, long); led = subst (λ (n : Stored). IsLed source n s) (same_node s.upstream other) is.0.led }, is.1)
+          (record { relay = (relay.0, omega (arith, relay.1, long)); upstream = omega (arith, upstream, long); led = subst (λ (n : Stored). IsLed source n s) (other_node source ss r (empty_store source.schema) place.0 s.upstream other) is.0.led }, is.1)
 
   sessions_anew : (os : List (Option Session)) → AllByRecursion (IsOpen source ss) os → AllByRecursion (IsOpen source anew) (map (cut_of r) os)
   sessions_anew [] a = tt

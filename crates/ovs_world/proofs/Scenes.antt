@@ -1,20 +1,11 @@
--- Sessions between nodes of which some take links.
+-- Nodes of which some take links.
 use Rattle.std.specs.List.{AllByRecursion}
-use Rattle.std.proofs.Common.{◌≡◌, ◌≤◌, ◌<◌, ℕ, zero, suc, List, [], ◌∷◌, length, get_or, slice_set, refl, sym, ◌∙◌, ap, arith}
-use Rattle.std.proofs.Math.Seq.{take-length}
-use Rattle.ovs_links.proofs.GrowLemmas.{grown_length, grows_itself, grows_on}
+use Rattle.std.proofs.Common.{◌≡◌, ◌<◌, ℕ, zero, suc, List, [], ◌∷◌, length, get_or, slice_set, refl, ◌∙◌, ap, arith}
+use Rattle.ovs_links.proofs.GrowLemmas.{grows_itself, grows_on}
 use Rattle.ovs_links.specs.Store.{Stored, IsStore}
 use Rattle.ovs_links.specs.declared.link.Link.{Link}
-use Rattle.ovs_reader.specs.declared.subscription.Subscription.{Subscription}
-use Rattle.ovs_reader.proofs.Showing.{more_shown}
-use Rattle.ovs_source.specs.Commits.{IsSource}
-use Rattle.ovs_upstream.specs.declared.up_session.Stage.{Stage}
-use Rattle.ovs_upstream.specs.declared.up_session.Stage.TheVariants.{Opening, Asking, At, Ended}
-use Rattle.ovs_wire.specs.declared.message.Message.{Message}
 use Rattle.ovs_world.specs.Deliveries.{holding}
-use Rattle.ovs_world.specs.Leading.{HasMonitor, Awaits, IsLed}
 use Rattle.ovs_world.specs.Nodes.{IsNode, Extends, IsTier, Grow, node_at, held}
-use Rattle.ovs_world.specs.declared.session.Session.{Session}
 
 -- ---- nodes
 
@@ -29,15 +20,15 @@ extends_on s t u a b = record {
   grows = grows_on s.folded t.folded u.folded a.grows b.grows;
 }
 
-source_node : (source : Stored) → IsSource source → IsStore source → IsNode source source
-source_node source is store = record { schema = refl; store = store; within = is.folded; front = sym (take-length source.folded) }
+source_node : (source : Stored) → IsStore source → IsNode source source
+source_node source store = record { schema = refl; store = store; within = λ l held. held }
 
 pub node_of : (source : Stored) (relays : List Stored) → IsTier source relays → (n : ℕ) → IsNode source (node_at source relays n)
-node_of source relays tier zero = source_node source tier.is_source tier.store
+node_of source relays tier zero = source_node source tier.store
 node_of source relays tier (suc n) = at relays tier.each n
   where
     at : (ss : List Stored) → AllByRecursion (IsNode source) ss → (n : ℕ) → IsNode source (get_or ss n source)
-    at [] a n = source_node source tier.is_source tier.store
+    at [] a n = source_node source tier.store
     at (s ∷ ss) a zero = a.0
     at (s ∷ ss) a (suc n) = at ss a.1 n
 
@@ -105,35 +96,3 @@ node_grows source ss ts store g (suc n) = at ss ts g n
     at (s ∷ ss) [] g n = absurd g
     at (s ∷ ss) (t ∷ ts) g zero = g.0
     at (s ∷ ss) (t ∷ ts) g (suc n) = at ss ts g.1 n
-
-has_more : (source : Stored) (n k : ℕ) (monitors : List Subscription) (m : Subscription) → n ≤ k → HasMonitor source n monitors m → HasMonitor source k monitors m
-has_more source n k monitors m le has = record { only = has.only; relay = has.relay; within = omega (arith, has.within, le) }
-
-awaits_more : (source : Stored) (n k asked : ℕ) (stage : Stage) (monitors : List Subscription) (messages : List Message) → n ≤ k
-    → Awaits source n asked stage monitors messages → Awaits source k asked stage monitors messages
-awaits_more source n k asked Opening monitors messages le a = a
-awaits_more source n k asked Asking monitors messages le a = record {
-  monitor = a.monitor;
-  has = has_more source n k monitors a.monitor le a.has;
-  answer = a.answer;
-  more = a.more;
-  are = a.are;
-  place = a.place;
-  tells = a.tells;
-  links = a.links;
-}
-awaits_more source n k asked (At id) monitors messages le a =
-    record { monitor = a.monitor; has = has_more source n k monitors a.monitor le a.has; place = a.place; stands = a.stands; links = a.links }
-awaits_more source n k asked Ended monitors messages le a = a
-
-pub led_grows : (source node more : Stored) (s : Session) → Extends node more → IsLed source node s → IsLed source more s
-led_grows source node more s extends is = record {
-  schema = is.schema;
-  says = is.says;
-  goes_on = is.goes_on;
-  shown = more_shown node more s.reader extends.store extends.schema extends.grows is.shown;
-  idle = is.idle;
-  messages = is.messages;
-  carried = is.carried;
-  awaits = awaits_more source (length node.folded) (length more.folded) s.up.asked s.up.stage s.reader.monitors is.messages (grown_length node.folded more.folded extends.grows) is.awaits;
-}

@@ -1,6 +1,6 @@
 -- Nodes that are settled, and stay so.
 use Rattle.std.specs.List.{AllByRecursion, AllZip}
-use Rattle.std.proofs.Common.{◌≡◌, ◌≤◌, ◌-◌, ◌⊎◌, inl, inr, ℕ, zero, suc, List, [], ◌∷◌, length, get_or, slice_set, refl, sym, subst, ap, arith}
+use Rattle.std.proofs.Common.{◌≡◌, ◌≤◌, ◌-◌, ◌⊎◌, inl, inr, ℕ, zero, suc, List, [], ◌∷◌, length, get_or, slice_set, refl, sym, ◌∙◌, subst, ap, arith}
 use Rattle.std.specs.FinMap.{empty}
 use Rattle.ovs_types.specs.Schema.{SchemaValue}
 use Rattle.ovs_rows.specs.Row.{no_rows}
@@ -8,26 +8,28 @@ use Rattle.ovs_links.specs.Chains.{IsChain}
 use Rattle.ovs_links.specs.Outcomes.{taken_all}
 use Rattle.ovs_links.specs.Settling.{chain_of, after_settle}
 use Rattle.ovs_links.specs.Sets.{Holds}
-use Rattle.ovs_links.specs.Store.{Stored, IsStore, tables_of}
+use Rattle.ovs_links.specs.Store.{Stored, IsStore, start_in, tables_of}
 use Rattle.ovs_links.specs.declared.link.Link.{Link}
+use Rattle.ovs_links.proofs.ChainLemmas.{holds_by_prev, longest_from_no_next}
 use Rattle.ovs_links.proofs.ChainOutcomes.{followed_is_whole}
-use Rattle.ovs_links.proofs.LongestLemmas.{chain_within}
+use Rattle.ovs_links.proofs.GrowLemmas.{head_from_start}
 use Rattle.ovs_source.specs.Commits.{IsSource}
+use Rattle.ovs_source.proofs.Histories.{source_done}
 use Rattle.ovs_world.specs.Deliveries.{Scene, Move, Tell, Feed, Choke, Hear, Does, DoesAll, holding}
 use Rattle.ovs_world.specs.Nodes.{IsNode, IsTier, IsSettled, node_at, held}
 use Rattle.ovs_world.specs.Worlds.{empty_store}
-use Rattle.ovs_world.proofs.Counting.{few_among}
 use Rattle.ovs_world.proofs.Faithful.{none_held}
 
 -- the source is
 pub source_settled : (s : Stored) → IsSource s → IsStore s → IsSettled s
-source_settled s is store = record {
-  chain = store.chain;
-  longest = λ ms c.
-      (let within = chain_within (tables_of s) 0 no_rows s.links (omega arith) store.set store.ends ms c in
-      let few = few_among s.folded s.links store.set.keyed is.folded in
-      omega (arith, within, few));
-}
+source_settled s is store =
+    let done = source_done s is.history is.is in
+    record {
+      start = start_in s;
+      opening = done.opening;
+      longest = longest_from_no_next (Holds s.links) (holds_by_prev s.links) (tables_of s) (start_in s) no_rows s.folded store.chain
+          (λ l held at fits. done.ends l held (at ∙ head_from_start s.folded));
+    }
 
 -- and a store that has settled
 pub settled_store : (s : Stored) → IsStore (after_settle s) → IsSettled (after_settle s)
@@ -36,7 +38,11 @@ settled_store s store = (followed_is_whole (after_settle s) store).longest
 
 -- and one with no link
 pub none_settled : (schema : SchemaValue) → IsSettled (empty_store schema)
-none_settled schema = record { chain = record { members = tt; joined = tt }; longest = none }
+none_settled schema = record {
+  start = 0;
+  opening = record { found = inl refl; greatest = λ l o. absurd (none_held l o.member) };
+  longest = record { chain = record { members = tt; joined = tt }; longest = none };
+}
   where
     none : (ms : List Link) → IsChain schema.description.tables 0 no_rows (Holds empty) ms → length ms ≤ 0
     none [] c = omega arith

@@ -11,6 +11,7 @@ use Rattle.ovs_rows.specs.After.{after}
 use Rattle.ovs_rows.specs.DatabaseDifference.{database_difference}
 use Rattle.ovs_rows.specs.Row.{Rows, no_rows, AreRowsOf}
 use Rattle.ovs_rows.proofs.Laws.{difference_after}
+use Rattle.ovs_links.specs.Epochs.{Epoch, links_within}
 use Rattle.ovs_links.specs.History.{Commit, CommitsFrom, IsHistory, links_of}
 use Rattle.ovs_links.specs.Steps.{step_of, steps_of}
 use Rattle.ovs_links.specs.declared.link.Link.{Link}
@@ -138,13 +139,13 @@ get_taken (suc n) [] j l e = e
 get_taken (suc n) (x ∷ ls) zero l e = e
 get_taken (suc n) (x ∷ ls) (suc j) l e = get_taken n ls j l e
 
-pub told_links : (tables : List Table) (h : List Commit) (n : ℕ) (m : Subscription) → IsHistory tables no_rows h → n ≤ length h → IsRelayMonitor tables m → m.position ≤ n
-    → AreToldReadably (m ∷ []) (steps_of tables no_rows (take n (links_of tables 0 no_rows h)))
-    → TellLinks tables (links_of tables 0 no_rows h) m.position n (told (m ∷ []) (steps_of tables no_rows (take n (links_of tables 0 no_rows h))))
-told_links tables h n m history le relay within reads =
-    let ls = links_of tables 0 no_rows h in
-    let long : length (take n ls) ≡ n = let all = length_links tables 0 no_rows h in omega (arith, length-take n ls, all, le) in
+pub told_links : (tables : List Table) (e : Epoch) (n : ℕ) (m : Subscription) → IsHistory tables no_rows e.commits → n ≤ length e.commits → IsRelayMonitor tables m → m.position ≤ n
+    → AreToldReadably (m ∷ []) (steps_of tables no_rows (take n (links_within tables e)))
+    → TellLinks tables (links_within tables e) m.position n (told (m ∷ []) (steps_of tables no_rows (take n (links_within tables e))))
+told_links tables e n m history le relay within reads =
+    let ls = links_within tables e in
+    let long : length (take n ls) ≡ n = let all = length_links tables e.start no_rows e.commits in omega (arith, length-take n ls, all, le) in
     let total : 0 + length (take n ls) ≡ n = omega (arith, long) in
     subst (λ t. TellLinks tables ls m.position t (told (m ∷ []) (steps_of tables no_rows (take n ls)))) total
-    (early tables ls m relay 0 no_rows (take n ls) (omega arith) (omega (arith, long, within)) (of_commits tables n 0 no_rows h history.commits)
-    (λ j l e. (let same : j ≡ 0 + j = omega arith in subst (λ i. slice_get ls i ≡ Some l) same (get_taken n ls j l e))) reads)
+    (early tables ls m relay 0 no_rows (take n ls) (omega arith) (omega (arith, long, within)) (of_commits tables n e.start no_rows e.commits history.commits)
+    (λ j l at. (let same : j ≡ 0 + j = omega arith in subst (λ i. slice_get ls i ≡ Some l) same (get_taken n ls j l at))) reads)

@@ -1,11 +1,17 @@
 -- What one direction of a connection has on its way.
-use Rattle.std.specs.Prelude.{◌≡◌, ℕ, List, [], ◌∷◌, ◌++◌, Option, Some, None, All, take, drop}
+use Rattle.std.specs.Prelude.{◌≡◌, ℕ, false, List, [], ◌∷◌, ◌++◌, Option, Some, None, All, length, take, drop}
 use Rattle.std.specs.List.{AllZip}
+use Rattle.serde_json.specs.Written.{has_float, compact_text}
 use Rattle.ovs_wire.specs.declared.message.Message.{Message}
 use Rattle.ovs_wire.specs.Frames.{IsObject, IsTooLarge, Ending, Rest, Fault}
 use Rattle.ovs_wire.specs.Framing.{Framing, IsNew, Feeds, Takes}
 use Rattle.ovs_wire.specs.Texts.{Remain}
-use Rattle.ovs_wire.specs.Message.{Says, IsWritten}
+use Rattle.ovs_wire.specs.Message.{Says, IsWritten, json}
+
+-- what is written for the message: its JSON as compact text, unless that has a number that isn't whole
+pub record IsTextOf (m : Message) (t : List ℕ) : Type 0 where
+  pub written : IsWritten m t
+  pub compact : has_float (json m) ≡ false → t ≡ compact_text (json m)
 
 -- what the receiving end has framed, and the bytes in flight
 pub record Line : Type 0 where
@@ -19,7 +25,7 @@ IsIdle line = IsNew line.framing × (line.flight ≡ [])
 -- the message's text came behind what was in flight
 abbrev pub Sends : Line → Message → Line → Type 0
 Sends old message new =
-    (text : List ℕ) × IsWritten message text × (new ≡ record { framing = old.framing; flight = old.flight ++ text })
+    (text : List ℕ) × IsTextOf message text × (new ≡ record { framing = old.framing; flight = old.flight ++ text })
 
 -- the messages' texts came, one after another
 abbrev pub SendsAll : Line → List Message → Line → Type 0
@@ -39,6 +45,14 @@ Receives old m new = (text : List ℕ) × Says text m × Takes old.framing text 
 abbrev pub Moves : Line → ℕ → Line → Type 0
 Moves old n new = Feeds old.framing (take n old.flight) new.framing × (new.flight ≡ drop n old.flight)
 
+-- the message's text is sent, all of it is fed to the receiving end, and the message that it says is taken out
+pub record Passes (old : Line) (m : Message) (new : Line) : Type 0 where
+  pub sent : Line
+  pub sends : Sends old m sent
+  pub fed : Line
+  pub feeds : Moves sent (length sent.flight) fed
+  pub receives : Receives fed m new
+
 -- no fault has come
 abbrev pub IsWhole : Ending → Type 0
 IsWhole (Rest rest) = Unit {0}
@@ -55,13 +69,13 @@ pub record Chokes (old : Line) (n : ℕ) (new : Line) : Type 0 where
 
 -- the message's text is above the limits
 abbrev pub IsLarge : Message → Type 0
-IsLarge message = (text : List ℕ) × IsWritten message text × IsTooLarge text
+IsLarge message = (text : List ℕ) × IsTextOf message text × IsTooLarge text
 
 -- these messages were sent and weren't taken out yet: those that are whole at the receiving end, and those of which
 -- bytes are still to come, or of which the first is above the limits
 pub record Carries (line : Line) (messages : List Message) : Type 0 where
   pub coming : List (List ℕ)
-  pub texts : AllZip IsWritten messages (line.framing.waiting ++ coming)
+  pub texts : AllZip IsTextOf messages (line.framing.waiting ++ coming)
   pub whole : All IsObject line.framing.waiting
   pub rest : Remain line.framing.ending line.flight coming
 

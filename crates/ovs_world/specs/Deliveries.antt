@@ -1,15 +1,16 @@
 -- A delivery to a session, as the moves that it is made of.
-use Rattle.std.specs.Prelude.{◌≡◌, ◌≤◌, ◌<◌, ◌+◌, ◌-◌, ◌⊎◌, ℕ, zero, suc, List, [], ◌∷◌, length}
+use Rattle.std.specs.Prelude.{◌≡◌, ◌≤◌, ◌<◌, ◌+◌, ◌-◌, ◌⊎◌, ℕ, zero, suc, List, [], ◌∷◌, length, slice_set}
 use Rattle.std.specs.List.{AllByRecursion}
+use Rattle.ovs_links.specs.Sets.{Among, Holds}
 use Rattle.ovs_links.specs.Steps.{FoldedValue}
 use Rattle.ovs_links.specs.Store.{Stored}
 use Rattle.ovs_links.specs.declared.link.Link.{Link}
 use Rattle.ovs_world.specs.Carrying.{Line, Moves, Chokes, MeetsLarge, IsWhole}
 use Rattle.ovs_world.specs.Leading.{IsLed}
-use Rattle.ovs_world.specs.Nodes.{IsTier, Grow, node_at, folded_in, held, plus, counts_of}
+use Rattle.ovs_world.specs.Nodes.{IsTier, node_at, folded_in, held, plus, counts_of}
 use Rattle.ovs_world.specs.declared.error.WorldError.{WorldError}
 use Rattle.ovs_world.specs.declared.error.WorldError.TheVariants.{TooLarge, NoMemory}
-use Rattle.ovs_world.specs.Sessions.{Pumps, HearsNext, AsksLargeNext, with_line}
+use Rattle.ovs_world.specs.Sessions.{Pumps, HearsNext, IsGone, AsksLargeNext, with_line}
 use Rattle.ovs_world.specs.declared.holding.Counts.{Counts}
 use Rattle.ovs_world.specs.declared.session.Session.{Session}
 
@@ -79,9 +80,9 @@ pub record IsQuiet (s : Session) : Type 0 where
   pub heard : s.downward.framing.waiting ≡ []
   pub whole : IsWhole s.downward.framing.ending
 
--- nothing is in flight, and nothing is left to be told
+-- nothing is in flight, and nothing is left to be told, or the session is gone
 abbrev pub IsToldOut : FoldedValue → Session → Type 0
-IsToldOut f s = (s.downward.flight ≡ []) × AllByRecursion (λ m. m.position ≡ length f.steps) s.reader.monitors
+IsToldOut f s = ((s.downward.flight ≡ []) × AllByRecursion (λ m. m.position ≡ length f.steps) s.reader.monitors) ⊎ IsGone f s
 
 -- n bytes reach the relay, or, if there are fewer, all that the node has to tell; and the relay has heard all that is whole
 pub record Delivers (source : Stored) (n : ℕ) (a b : Scene) : Type 0 where
@@ -93,16 +94,27 @@ pub record Delivers (source : Stored) (n : ℕ) (a b : Scene) : Type 0 where
 
 -- ---- a delivery that breaks off
 
+-- it took at most some of these links, and settled or not
+abbrev pub TakesSome : Stored → List Link → Stored → Type 0
+TakesSome s links t = (l : Link) → Holds t.links l → Holds s.links l ⊎ Among links l
+
+-- of the first message that waits the relay may have taken some links
+abbrev pub TakesSomeNext : Stored → Session → List Stored → List Stored → Type 0
+TakesSomeNext source s relays left =
+    (left ≡ relays)
+    ⊎ ((links : List Link) × (t : Session) × HearsNext (folded_in (node_at source relays s.upstream)) s links t
+    × ((store : Stored) × TakesSome (node_at source relays s.relay) links store × (left ≡ slice_set relays (s.relay - 1) store)))
+
 -- the first message that waits isn't heard: what the relay has to ask is above the limits; or memory ran out
-abbrev pub StopsHearing : Session → List Stored → WorldError → List Stored → Type 0
-StopsHearing s relays TooLarge left = AsksLargeNext s × (left ≡ relays)
-StopsHearing s relays NoMemory left = Unit {0}
-StopsHearing s relays e left = ⊥
+abbrev pub StopsHearing : Stored → Session → List Stored → WorldError → List Stored → Type 0
+StopsHearing source s relays TooLarge left = AsksLargeNext s × (left ≡ relays)
+StopsHearing source s relays NoMemory left = TakesSomeNext source s relays left
+StopsHearing source s relays e left = ⊥
 
 -- the same of a later one, to which moves lead
 abbrev pub StopsHearingAll : Stored → Scene → WorldError → List Stored → Type 0
 StopsHearingAll source a TooLarge left = (b : Scene) × Leads source 0 a b × AsksLargeNext b.session × (left ≡ b.relays)
-StopsHearingAll source a NoMemory left = Unit {0}
+StopsHearingAll source a NoMemory left = (b : Scene) × Leads source 0 a b × TakesSomeNext source b.session b.relays left
 StopsHearingAll source a e left = ⊥
 
 -- the next message is above the limits, and those before it were heard; or what the relay has to ask at the next one is
@@ -114,16 +126,23 @@ pub record MeetsTooLarge (source : Stored) (n : ℕ) (a : Scene) (relays : List 
   pub large : MeetsLarge at.session.downward ⊎ AsksLargeNext at.session
   pub left : relays ≡ at.relays
 
--- why it breaks off, and which relays it leaves: want of memory may come at each move, and of the links that were heard
--- some may be taken then
+-- memory ran out behind some moves, and of the message that is heard next some links may be taken
+pub record RunsOut (source : Stored) (n : ℕ) (a : Scene) (relays : List Stored) : Type 0 where
+  pub fed : ℕ
+  pub within : fed ≤ n
+  pub at : Scene
+  pub moves : Leads source fed a at
+  pub left : TakesSomeNext source at.session at.relays relays
+
+-- why it breaks off, and which relays it leaves
 abbrev pub BreaksOff : Stored → ℕ → Scene → WorldError → List Stored → Type 0
 BreaksOff source n a TooLarge relays = MeetsTooLarge source n a relays
-BreaksOff source n a NoMemory relays = Grow a.relays relays
+BreaksOff source n a NoMemory relays = RunsOut source n a relays
 BreaksOff source n a e relays = ⊥
 
 -- ---- what is so of a session between two nodes
 
--- a session between a relay and a node that leads it along the source's chain
+-- a session between a relay and a node that leads it along links of the source
 pub record IsBetween (source : Stored) (relays : List Stored) (s : Session) : Type 0 where
   pub relay : (0 < s.relay) × (s.relay ≤ length relays)
   pub upstream : s.upstream ≤ length relays

@@ -1,31 +1,31 @@
--- The nodes of a tier: a source, and relays with links of its chain.
-use Rattle.std.specs.Prelude.{◌≡◌, ◌⊎◌, ◌+◌, ◌-◌, ◌^◌, ℕ, min, List, ◌∷◌, Ok, length, take, slice_index_or, slice_set}
+-- The nodes of a tier: a source, and relays with links of its history.
+use Rattle.std.specs.Prelude.{◌≡◌, ◌⊎◌, ◌+◌, ◌-◌, ◌^◌, ℕ, min, List, ◌∷◌, Ok, length, slice_index_or, slice_set}
 use Rattle.std.specs.List.{AllByRecursion, AllZip}
 use Rattle.std.specs.FinMap.{len}
 use Rattle.ovs_links.specs.Chains.{GrowsInto}
-use Rattle.ovs_links.specs.Outcomes.{taken_all, merge_answer, merged}
+use Rattle.ovs_links.specs.Outcomes.{taken_all, with_links, merge_answer, merged}
+use Rattle.ovs_links.specs.Pruning.{IsPruned}
 use Rattle.ovs_links.specs.Settling.{KeepsLinks, after_settle}
-use Rattle.ovs_links.specs.Sets.{Holds, Among}
+use Rattle.ovs_links.specs.Sets.{Holds}
 use Rattle.ovs_links.specs.Steps.{FoldedValue, folded_of}
-use Rattle.ovs_links.specs.Store.{Stored, IsStore, IsChainOf}
+use Rattle.ovs_links.specs.Store.{Stored, IsStore, IsChainOf, start_in}
 use Rattle.ovs_links.specs.declared.link.Link.{Link}
 use Rattle.ovs_source.specs.Commits.{IsSource}
 use Rattle.ovs_world.specs.declared.holding.Counts.{Counts}
 
 -- ---- one node
 
--- a store with links of the source's chain alone, of which it has folded the first
+-- a store with links of the source alone
 pub record IsNode (source s : Stored) : Type 0 where
   pub schema : s.schema ≡ source.schema
   pub store : IsStore s
-  pub within : (l : Link) → Holds s.links l → Among source.folded l
-  pub front : s.folded ≡ take (length s.folded) source.folded
+  pub within : (l : Link) → Holds s.links l → Holds source.links l
 
 -- it has folded the longest chain of its links
 abbrev pub IsSettled : Stored → Type 0
 IsSettled s = IsChainOf s s.folded
 
--- the same store later: what was held is, and what was folded is
+-- the same store later: what was held is, and what was folded is, or links from a greater start
 pub record Extends (s t : Stored) : Type 0 where
   pub schema : t.schema ≡ s.schema
   pub store : IsStore t
@@ -35,6 +35,12 @@ pub record Extends (s t : Stored) : Type 0 where
 -- the store after it took links, and settled
 abbrev pub held : Stored → List Link → Stored
 held s ls = after_settle (taken_all s ls)
+
+-- the same store without the n links that can be reached from a lower start than that of its chain, which stays folded
+pub record DropsOld (s : Stored) (n : ℕ) (t : Stored) : Type 0 where
+  pub pruned : IsPruned s.links t.links (start_in s)
+  pub kept : t ≡ with_links s t.links
+  pub count : n + len t.links ≡ len s.links
 
 -- ---- a source and its relays
 

@@ -1,5 +1,6 @@
 -- A session between a relay and the node that it follows: what its calls do.
-use Rattle.std.specs.Prelude.{◌≡◌, ◌<◌, ◌⊎◌, ℕ, List, [], length}
+use Rattle.std.specs.Prelude.{◌≡◌, ◌<◌, ◌⊎◌, ℕ, List, [], Bool, true, false, length, nat_lt}
+use Rattle.ovs_links.specs.StepChains.{start_at}
 use Rattle.ovs_links.specs.Steps.{FoldedValue}
 use Rattle.ovs_links.specs.declared.link.Link.{Link}
 use Rattle.ovs_reader.specs.Telling.{told, after_pump}
@@ -12,24 +13,48 @@ use Rattle.ovs_upstream.specs.declared.up_event.UpEvent.TheVariants.{Links, Send
 use Rattle.ovs_upstream.specs.declared.up_session.Stage.{Stage}
 use Rattle.ovs_wire.specs.declared.message.Message.{Message}
 use Rattle.ovs_world.specs.Asking.{schema_reply}
-use Rattle.ovs_world.specs.Carrying.{Line, IsIdle, IsLarge, Chokes, Sends, SendsAll, SendsAny, Receives}
+use Rattle.ovs_world.specs.Carrying.{Line, IsIdle, IsLarge, Chokes, Passes, Sends, SendsAll, SendsAny, Receives}
 use Rattle.ovs_world.specs.declared.error.WorldError.{WorldError}
 use Rattle.ovs_world.specs.declared.error.WorldError.TheVariants.{TooLarge, NoMemory}
 use Rattle.ovs_world.specs.declared.session.Session.{Session}
 
--- a request reaches the node at once, whole, and what the node replies from all that it has folded is in flight
-pub record Asks (f : FoldedValue) (old : Session) (request : Message) (new : Session) : Type 0 where
-  pub ends : (new.relay ≡ old.relay) × (new.upstream ≡ old.upstream)
-  pub up : new.up ≡ old.up
+-- the chain that the node has folded begins at a greater start than the one that the session tells
+abbrev pub is_behind : FoldedValue → Session → Bool
+is_behind f s = nat_lt s.begun (start_at f)
+
+-- its ends are those that they were, and the start of the chain that it tells
+abbrev pub HasEndsOf : Session → Session → Type 0
+HasEndsOf old new = (new.relay ≡ old.relay) × (new.upstream ≡ old.upstream) × (new.begun ≡ old.begun)
+
+-- the node replies from all that it has folded
+pub record Replies (f : FoldedValue) (old : Session) (request : Message) (new : Session) : Type 0 where
+  pub goes_on : is_behind f old ≡ false
   pub reader : new.reader ≡ after_turn old.reader f request
-  pub arrived : IsIdle new.upward
   pub reply : SendsAny old.downward (turn old.reader f request).out new.downward
 
--- a session opens: the request for the schema was answered
+-- it has begun anew, and replies nothing
+pub record IsSilent (f : FoldedValue) (old new : Session) : Type 0 where
+  pub behind : is_behind f old ≡ true
+  pub reader : new.reader ≡ old.reader
+  pub downward : new.downward ≡ old.downward
+
+-- a request passes up as bytes, all of it at once, and what the node replies is in flight
+pub record Asks (f : FoldedValue) (old : Session) (request : Message) (new : Session) : Type 0 where
+  pub ends : HasEndsOf old new
+  pub up : new.up ≡ old.up
+  pub passed : Passes old.upward request new.upward
+  pub arrived : IsIdle new.upward
+  pub answered : IsSilent f old new ⊎ Replies f old request new
+
+-- a session opens, which tells the node's chain: the request for the schema was answered
 pub record Opens (f : FoldedValue) (relay upstream asked : ℕ) (new : Session) : Type 0 where
   pub ends : (new.relay ≡ relay) × (new.upstream ≡ upstream)
+  pub begun : new.begun ≡ start_at f
   pub up : new.up ≡ opening f.database.schema asked
   pub reader : new.reader ≡ after_turn new_session f (schema_request f.database.schema)
+  pub request : Line
+  pub unused : IsIdle request
+  pub passed : Passes request (schema_request f.database.schema) new.upward
   pub upward : IsIdle new.upward
   pub before : Line
   pub idle : IsIdle before
@@ -37,20 +62,22 @@ pub record Opens (f : FoldedValue) (relay upstream asked : ℕ) (new : Session) 
 
 -- the node tells what it has folded and hasn't told
 pub record Pumps (f : FoldedValue) (old new : Session) : Type 0 where
-  pub ends : (new.relay ≡ old.relay) × (new.upstream ≡ old.upstream)
+  pub ends : HasEndsOf old new
+  pub goes_on : is_behind f old ≡ false
   pub up : new.up ≡ old.up
   pub reader : new.reader ≡ after_pump old.reader f
   pub upward : new.upward ≡ old.upward
   pub told : SendsAll old.downward (told old.reader.monitors f.steps) new.downward
 
--- the same where nothing is in flight, else nothing
+-- the same where nothing is in flight and the session isn't behind, else nothing
 abbrev pub PumpsIdle : FoldedValue → Session → Session → Type 0
-PumpsIdle f old new = (0 < length old.downward.flight × (new ≡ old)) ⊎ ((old.downward.flight ≡ []) × Pumps f old new)
+PumpsIdle f old new =
+    (((0 < length old.downward.flight) ⊎ (is_behind f old ≡ true)) × (new ≡ old)) ⊎ ((old.downward.flight ≡ []) × Pumps f old new)
 
 -- the relay's end at this stage, with this line behind it
 abbrev pub moved_on : Session → Stage → Line → Session
 moved_on s stage line =
-    record { relay = s.relay; upstream = s.upstream; up = at_stage s.up stage; reader = s.reader; upward = s.upward; downward = line }
+    record { relay = s.relay; upstream = s.upstream; begun = s.begun; up = at_stage s.up stage; reader = s.reader; upward = s.upward; downward = line }
 
 -- what the relay's end has to send goes up
 abbrev pub Goes : FoldedValue → Session → UpEvent → Session → Type 0
@@ -80,6 +107,10 @@ pub record HearsNext (f : FoldedValue) (old : Session) (links : List Link) (new 
   pub hears : Hears f (with_line old line) message links new
 
 -- ---- what ends a session
+
+-- nothing is in flight, and nothing more will be
+abbrev pub IsGone : FoldedValue → Session → Type 0
+IsGone f s = (s.downward.flight ≡ []) × (is_behind f s ≡ true)
 
 -- memory ran out, or this message is above the limits
 abbrev pub IsNotPassed : Message → WorldError → Type 0

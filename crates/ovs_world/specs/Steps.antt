@@ -2,19 +2,22 @@
 use Rattle.std.specs.Prelude.{◌≡◌, ◌-◌, ◌⊎◌, ◌++◌, ℕ, List, [], ◌∷◌, true, false, None, Result, Ok, Err, slice_set}
 use Rattle.serde_json.specs.Data.{Data}
 use Rattle.ovs_types.specs.Schema.{SchemaValue}
+use Rattle.ovs_links.specs.Settling.{KeepsLinks}
+use Rattle.ovs_links.specs.Store.{Stored}
 use Rattle.ovs_source.specs.declared.error.SourceError.{SourceError}
+use Rattle.ovs_source.specs.declared.trim_error.TrimError.{TrimError}
 use Rattle.ovs_upstream.specs.Requests.{schema_request}
 use Rattle.ovs_world.specs.Carrying.{IsLarge}
 use Rattle.ovs_world.specs.Deliveries.{scene, BreaksOff}
 use Rattle.ovs_world.specs.Nodes.{Grow, LeavesMergeOfNodes, no_counts}
-use Rattle.ovs_world.specs.Refusals.{refusal_of_source}
-use Rattle.ovs_world.specs.Worlds.{WorldValue, HasNode, HasRelay, IsCount, AreTwo, IsOpenAt, NoneIsOpenAt, new_world, with_relays, only_read, Commits, CommitsTo, Connects, Brings, Cuts, Restarts, Merges, Reads}
+use Rattle.ovs_world.specs.Refusals.{refusal_of_source, refusal_of_trim}
+use Rattle.ovs_world.specs.Worlds.{WorldValue, HasNode, HasRelay, IsCount, AreTwo, IsOpenAt, NoneIsOpenAt, new_world, node_of, with_relays, only_read, Commits, CommitsTo, Trims, Renews, Connects, Brings, Cuts, Restarts, Merges, Prunes, Reads}
 use Rattle.ovs_world.specs.declared.error.WorldError.{WorldError}
 use Rattle.ovs_world.specs.declared.error.WorldError.TheVariants.{BadCount, NoSuchNode, NoSession, NotReadOnly, TooLarge, NoMemory}
 use Rattle.ovs_world.specs.declared.event.Event.{Event}
-use Rattle.ovs_world.specs.declared.event.Event.TheVariants.{Commit, Connect, Deliver, Cut, Restart, MergeFrom, Read}
+use Rattle.ovs_world.specs.declared.event.Event.TheVariants.{Commit, Trim, Connect, Deliver, Cut, Restart, MergeFrom, Prune, Read}
 use Rattle.ovs_world.specs.declared.event.Reply.{Reply}
-use Rattle.ovs_world.specs.declared.event.Reply.TheVariants.{Results, Session, Took, Done}
+use Rattle.ovs_world.specs.declared.event.Reply.TheVariants.{Results, Session, Took, Dropped, Done}
 use Rattle.ovs_world.specs.declared.session.Session as sessions
 
 -- ---- why an event is refused, and what is left
@@ -22,6 +25,10 @@ use Rattle.ovs_world.specs.declared.session.Session as sessions
 -- as the source's transaction is
 abbrev pub RefusesCommit : WorldValue → ℕ → List Data → WorldError → WorldValue → Type 0
 RefusesCommit w id operations e v = (fault : SourceError) × (e ≡ refusal_of_source fault) × Commits w id operations (Err fault) v
+
+-- as the source's trim is
+abbrev pub RefusesTrim : WorldValue → ℕ → WorldError → WorldValue → Type 0
+RefusesTrim w id e v = (fault : TrimError) × (e ≡ refusal_of_trim fault) × Trims w id (Err fault) v
 
 abbrev pub RefusesConnect : WorldValue → ℕ → ℕ → WorldError → Type 0
 RefusesConnect w relay upstream NoSuchNode = ¬ (AreTwo w relay upstream)
@@ -32,17 +39,17 @@ RefusesConnect w relay upstream e = ⊥
 -- the delivery breaks off, and the session is cut
 pub record StopsDelivery (w : WorldValue) (number bytes : ℕ) (e : WorldError) (v : WorldValue) : Type 0 where
   pub before : sessions.Session
-  pub is_open : IsOpenAt w.sessions number before
+  pub is_open : IsOpenAt w number before
   pub grow : Grow w.relays v.relays
   pub breaks : BreaksOff w.source bytes (scene w.relays before no_counts) e v.relays
   pub world : v ≡ with_relays w v.relays (slice_set w.sessions (number - 1) None)
 
 abbrev pub RefusesDelivery : WorldValue → ℕ → ℕ → WorldError → WorldValue → Type 0
-RefusesDelivery w number bytes NoSession v = NoneIsOpenAt w.sessions number × (v ≡ w)
+RefusesDelivery w number bytes NoSession v = NoneIsOpenAt w number × (v ≡ w)
 RefusesDelivery w number bytes e v = StopsDelivery w number bytes e v
 
 abbrev pub RefusesCut : WorldValue → ℕ → WorldError → Type 0
-RefusesCut w number NoSession = NoneIsOpenAt w.sessions number
+RefusesCut w number NoSession = NoneIsOpenAt w number
 RefusesCut w number e = ⊥
 
 abbrev pub RefusesRestart : WorldValue → ℕ → WorldError → Type 0
@@ -60,6 +67,18 @@ RefusesMerge w into from NoSuchNode v = ¬ (AreTwo w into from) × (v ≡ w)
 RefusesMerge w into from NoMemory v = StopsMerge w into from v
 RefusesMerge w into from e v = ⊥
 
+-- the relay has the same links, of which less is folded than could be
+pub record StopsPrune (w : WorldValue) (relay : ℕ) (v : WorldValue) : Type 0 where
+  pub node : HasRelay w relay
+  pub store : Stored
+  pub keeps : KeepsLinks (node_of w relay) store
+  pub world : v ≡ with_relays w (slice_set w.relays (relay - 1) store) w.sessions
+
+abbrev pub RefusesPrune : WorldValue → ℕ → WorldError → WorldValue → Type 0
+RefusesPrune w relay NoSuchNode v = ¬ (HasRelay w relay) × (v ≡ w)
+RefusesPrune w relay NoMemory v = StopsPrune w relay v
+RefusesPrune w relay e v = ⊥
+
 abbrev pub RefusesRead : WorldValue → ℕ → List Data → WorldError → Type 0
 RefusesRead w node operations NoSuchNode = ¬ (HasNode w node)
 RefusesRead w node operations NotReadOnly = HasNode w node × (only_read operations ≡ false)
@@ -73,6 +92,9 @@ abbrev pub Steps : WorldValue → Event → Result Reply WorldError → WorldVal
 Steps w (Commit id operations) (Ok (Results results)) v = CommitsTo w id operations results v
 Steps w (Commit id operations) (Ok reply) v = ⊥
 Steps w (Commit id operations) (Err e) v = RefusesCommit w id operations e v
+Steps w (Trim id) (Ok Done) v = Renews w id v
+Steps w (Trim id) (Ok reply) v = ⊥
+Steps w (Trim id) (Err e) v = RefusesTrim w id e v
 Steps w (Connect relay upstream) (Ok (Session number)) v = Connects w relay upstream number v
 Steps w (Connect relay upstream) (Ok reply) v = ⊥
 Steps w (Connect relay upstream) (Err e) v = RefusesConnect w relay upstream e × (v ≡ w)
@@ -88,6 +110,9 @@ Steps w (Restart relay) (Err e) v = RefusesRestart w relay e × (v ≡ w)
 Steps w (MergeFrom into from) (Ok Done) v = Merges w into from v
 Steps w (MergeFrom into from) (Ok reply) v = ⊥
 Steps w (MergeFrom into from) (Err e) v = RefusesMerge w into from e v
+Steps w (Prune relay) (Ok (Dropped n)) v = Prunes w relay n v
+Steps w (Prune relay) (Ok reply) v = ⊥
+Steps w (Prune relay) (Err e) v = RefusesPrune w relay e v
 Steps w (Read node operations) (Ok (Results results)) v = Reads w node operations results × (v ≡ w)
 Steps w (Read node operations) (Ok reply) v = ⊥
 Steps w (Read node operations) (Err e) v = RefusesRead w node operations e × (v ≡ w)

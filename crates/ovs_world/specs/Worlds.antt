@@ -6,14 +6,17 @@ use Rattle.ovs_types.specs.Schema.{SchemaValue}
 use Rattle.serde_json.specs.Data.{Data, array}
 use Rattle.serde_json.specs.View.{items_of}
 use Rattle.ovs_query.specs.Answer.{only_reads, AreResults}
+use Rattle.ovs_links.specs.Settling.{after_settle}
 use Rattle.ovs_links.specs.Store.{Stored, tables_of, head_of, rows_of}
 use Rattle.ovs_links.specs.declared.link.Link.{Link}
 use Rattle.ovs_source.specs.Transacting.{Asked, TransactsTo}
+use Rattle.ovs_source.specs.Trimming.{TrimsTo}
 use Rattle.ovs_source.specs.declared.error.SourceError.{SourceError}
+use Rattle.ovs_source.specs.declared.trim_error.TrimError.{TrimError}
 use Rattle.ovs_source.specs.declared.transacting.Outcome.{Outcome}
 use Rattle.ovs_world.specs.Deliveries.{scene, Delivers, IsBetween, IsQuiet}
-use Rattle.ovs_world.specs.Nodes.{IsTier, IsSettled, MergesNodes, node_at, folded_in, no_counts}
-use Rattle.ovs_world.specs.Sessions.{Opens}
+use Rattle.ovs_world.specs.Nodes.{IsTier, IsSettled, MergesNodes, DropsOld, node_at, folded_in, no_counts}
+use Rattle.ovs_world.specs.Sessions.{Opens, IsGone}
 use Rattle.ovs_world.specs.declared.holding.Counts.{Counts}
 use Rattle.ovs_world.specs.declared.session.Session.{Session}
 
@@ -64,13 +67,25 @@ abbrev pub AreSettled : WorldValue → Type 0
 AreSettled w = (n : ℕ) → IsSettled (node_of w n)
 
 -- sessions are counted from 1
-abbrev pub IsOpenAt : List (Option Session) → ℕ → Session → Type 0
-IsOpenAt sessions zero s = ⊥
-IsOpenAt sessions (suc n) s = slice_get sessions n ≡ Some (Some s)
+abbrev pub StandsAt : List (Option Session) → ℕ → Session → Type 0
+StandsAt sessions zero s = ⊥
+StandsAt sessions (suc n) s = slice_get sessions n ≡ Some (Some s)
 
--- there was no session of this number, or it was cut
-abbrev pub NoneIsOpenAt : List (Option Session) → ℕ → Type 0
-NoneIsOpenAt sessions n = (s : Session) → ¬ (IsOpenAt sessions n s)
+-- there is a session, and it isn't gone
+abbrev pub GoesOn : Stored → List Stored → Option Session → Type 0
+GoesOn source relays None = ⊥
+GoesOn source relays (Some s) = ¬ (IsGone (folded_in (node_at source relays s.upstream)) s)
+
+-- a session of this number was opened, and was neither cut nor is it gone
+abbrev pub IsOpenIn : Stored → List Stored → List (Option Session) → ℕ → Session → Type 0
+IsOpenIn source relays sessions n s = StandsAt sessions n s × GoesOn source relays (Some s)
+
+abbrev pub IsOpenAt : WorldValue → ℕ → Session → Type 0
+IsOpenAt w n s = IsOpenIn w.source w.relays w.sessions n s
+
+-- there was no session of this number, or it was cut, or it is gone
+abbrev pub NoneIsOpenAt : WorldValue → ℕ → Type 0
+NoneIsOpenAt w n = (s : Session) → ¬ (IsOpenAt w n s)
 
 -- ---- what an event changes
 
@@ -94,6 +109,17 @@ pub record Commits (w : WorldValue) (id : ℕ) (operations : List Data) (answer 
 abbrev pub CommitsTo : WorldValue → ℕ → List Data → Data → WorldValue → Type 0
 CommitsTo w id operations results v = (made : Option Link) × Commits w id operations (Ok (record { results = results; link = made })) v
 
+-- the source answers a trim
+pub record Trims (w : WorldValue) (id : ℕ) (answer : Result Link TrimError) (v : WorldValue) : Type 0 where
+  pub trims : TrimsTo w.source id answer v.source
+  pub fresh : v.fresh ≡ w.fresh
+  pub relays : v.relays ≡ w.relays
+  pub sessions : v.sessions ≡ w.sessions
+
+-- it begins a new epoch
+abbrev pub Renews : WorldValue → ℕ → WorldValue → Type 0
+Renews w id v = (link : Link) × Trims w id (Ok link) v
+
 -- a relay asks another node for what comes after its last id
 pub record Connects (w : WorldValue) (relay upstream number : ℕ) (v : WorldValue) : Type 0 where
   pub nodes : AreTwo w relay upstream
@@ -105,7 +131,7 @@ pub record Connects (w : WorldValue) (relay upstream number : ℕ) (v : WorldVal
 -- so many bytes reach the relay
 pub record Brings (w : WorldValue) (number bytes : ℕ) (counts : Counts) (v : WorldValue) : Type 0 where
   pub before : Session
-  pub is_open : IsOpenAt w.sessions number before
+  pub is_open : IsOpenAt w number before
   pub relays : List Stored
   pub after : Session
   pub delivers : Delivers w.source bytes (scene w.relays before no_counts) (scene relays after counts)
@@ -114,7 +140,7 @@ pub record Brings (w : WorldValue) (number bytes : ℕ) (counts : Counts) (v : W
 -- the session is cut
 pub record Cuts (w : WorldValue) (number : ℕ) (v : WorldValue) : Type 0 where
   pub before : Session
-  pub is_open : IsOpenAt w.sessions number before
+  pub is_open : IsOpenAt w number before
   pub world : v ≡ with_sessions w (slice_set w.sessions (number - 1) None)
 
 -- the session, unless the relay is one of its ends
@@ -132,6 +158,13 @@ pub record Merges (w : WorldValue) (into from : ℕ) (v : WorldValue) : Type 0 w
   pub nodes : AreTwo w into from
   pub merges : MergesNodes w.source w.relays into from v.relays
   pub world : v ≡ with_relays w v.relays w.sessions
+
+-- a relay settles, and drops n links: its chain stays, and so does each session
+pub record Prunes (w : WorldValue) (relay n : ℕ) (v : WorldValue) : Type 0 where
+  pub node : HasRelay w relay
+  pub store : Stored
+  pub drops : DropsOld (after_settle (node_of w relay)) n store
+  pub world : v ≡ with_relays w (slice_set w.relays (relay - 1) store) w.sessions
 
 -- the operations only read
 abbrev pub only_read : List Data → Bool

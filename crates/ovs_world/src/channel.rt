@@ -2,9 +2,8 @@
 ghost use Rattle.std.specs.Prelude.{◌≡◌, ◌⊎◌, ◌∷◌, ◌++◌, [], ℕ, List, length, take, drop, min, None, OnOk, OnErr, IfOk, IfSome};
 ghost use Rattle.std.specs.Option.{option_copied};
 ghost use Rattle.ovs_wire.specs.Framing.{Feeds, Answers};
-ghost use Rattle.ovs_wire.specs.Message.{IsWritten, Says};
 ghost use Rattle.ovs_wire.specs.declared.message.Message.{Message};
-ghost use Rattle.ovs_world.specs.Carrying.{Line, IsIdle, Carries, Sends, SendsAll, SendsAny, Receives, Moves};
+ghost use Rattle.ovs_world.specs.Carrying.{IsTextOf, Line, IsIdle, Carries, Sends, SendsAll, SendsAny, Passes, Receives, Moves};
 ghost use Rattle.ovs_wire.specs.Frames.{IsTooLarge};
 
 use crate::error::WorldError;
@@ -23,7 +22,7 @@ pub(crate) struct Channel {
 }
 
 impl Model for Channel {
-    ghost use Rattle.std.specs.Prelude.{◌≤◌, ℕ, List, length, drop, refl};
+    ghost use Rattle.std.specs.Prelude.{◌≡◌, ◌≤◌, ℕ, List, length, drop, refl};
     ghost use Rattle.std.specs.Coded.{code_by, coded×, coded_ℕ, coded_list};
     ghost use Rattle.ovs_wire.specs.Framing.{Framing};
     ghost use Rattle.ovs_wire.specs.contracts.framing.framer.Framer as framer_row;
@@ -36,7 +35,8 @@ impl Model for Channel {
 
     ghost view = { λ c. record { framing = c.framer; flight = drop c.fed c.sent.items } };
 
-    ghost invariant = { λ c. c.fed ≤ length c.sent.items };
+    // where all was fed, nothing is kept
+    ghost invariant = { λ c. (c.fed ≤ length c.sent.items) × (c.fed ≡ length c.sent.items → c.fed ≡ 0) };
 }
 
 impl Channel {
@@ -105,8 +105,8 @@ impl Channel {
     /// The channel can't be used after either.
     pub(crate) fn pass(&mut self, alloc: Global, message: &Message) -> Result<Message, WorldError>
         requires idle { IsIdle self.old }
-        ensures passed { IfOk result (λ m. (m ≡ message.now) × IsIdle self.new) }
-        ensures large { result ≡ Err WorldError.TooLarge → (text : List ℕ) × IsWritten message.now text × IsTooLarge text }
+        ensures passed { IfOk result (λ m. (m ≡ message.now) × IsIdle self.new × Passes self.old message.now self.new) }
+        ensures large { result ≡ Err WorldError.TooLarge → (text : List ℕ) × IsTextOf message.now text × IsTooLarge text }
         ensures refused { (e : _) → result ≡ Err e → (e ≡ WorldError.TooLarge) ⊎ (e ≡ WorldError.NoMemory) }
     {
         self.send(alloc, message)?;

@@ -25,7 +25,7 @@ fn hear_next(
     ensures scene { OnOk result (IsScene source.now relays.new session.new) }
     ensures heard { result ≡ Ok true → (links : List Link) × Does source.now (Hear links) (scene relays.old session.old counts.old) (scene relays.new session.new counts.new) }
     ensures ending { OnOk result (session.new.downward.framing.ending ≡ session.old.downward.framing.ending) }
-    ensures refused { IfErr result (λ e. StopsHearing session.old relays.old e relays.new) }
+    ensures refused { IfErr result (λ e. StopsHearing source.now session.old relays.old e relays.new) }
     ensures none { result ≡ Ok false → (session.old.downward.framing.waiting ≡ []) × (scene relays.new session.new counts.new ≡ scene relays.old session.old counts.old) }
 {
     let followed = node(source, relays, session.upstream);

@@ -3,7 +3,7 @@
 ghost use Rattle.std.specs.Prelude.{◌≡◌};
 ghost use Rattle.ovs_world.specs.Refusals.{world_word};
 
-use ovs_source::SourceError;
+use ovs_source::{SourceError, TrimError};
 use ovs_types::NoMemory;
 use ovs_wire::FrameError;
 use thiserror::Error;
@@ -17,15 +17,18 @@ pub enum WorldError {
     /// There is no node of this number; or a relay is wanted, and it is the source's; or another node is wanted.
     #[error("no such node")]
     NoSuchNode,
-    /// There was no session of this number, or it was cut.
+    /// There was no session of this number, or it was cut, or its node's chain began anew and nothing is in flight.
     #[error("no such session")]
     NoSession,
-    /// The id is a start id, or that of a commit.
+    /// The id is a start id, or that of a link of the source.
     #[error("the id is taken")]
     IdTaken,
     /// Fewer row ids are left than the operations insert rows.
     #[error("too few row ids are left")]
     RowIdsSpent,
+    /// There is no epoch after the source's.
+    #[error("no epoch is left")]
+    EpochsSpent,
     /// A store has no room for another link.
     #[error("the store is full")]
     Full,
@@ -51,6 +54,7 @@ impl WorldError {
             WorldError::NoSession => "no-session",
             WorldError::IdTaken => "id-taken",
             WorldError::RowIdsSpent => "row-ids-spent",
+            WorldError::EpochsSpent => "epochs-spent",
             WorldError::Full => "full",
             WorldError::NotReadOnly => "not-read-only",
             WorldError::TooLarge => "too-large",
@@ -98,6 +102,22 @@ impl From<SourceError> for WorldError {
             SourceError::RowIdsSpent => WorldError::RowIdsSpent,
             SourceError::Full => WorldError::Full,
             SourceError::NoMemory => WorldError::NoMemory,
+        }
+    }
+}
+
+impl From<TrimError> for WorldError {
+    ghost use Rattle.std.specs.Prelude.{◌≡◌};
+    ghost use Rattle.ovs_world.specs.Refusals.{refusal_of_trim};
+
+    ghost from_gives = { λ error e. e ≡ refusal_of_trim error };
+
+    fn from(error: TrimError) -> WorldError {
+        match error {
+            TrimError::IdTaken => WorldError::IdTaken,
+            TrimError::EpochsSpent => WorldError::EpochsSpent,
+            TrimError::Full => WorldError::Full,
+            TrimError::NoMemory => WorldError::NoMemory,
         }
     }
 }

@@ -9,6 +9,8 @@ use ovs_wire::Params;
 pub enum Event {
     /// The source carries out operations, and what they change is a commit of this id.
     Commit { id: TxnId, operations: Params },
+    /// The source begins a new epoch, whose first commit has this id and inserts all rows.
+    Trim { id: TxnId },
     /// A relay opens a session with another node.
     Connect { relay: usize, upstream: usize },
     /// Up to so many bytes of what is on its way in a session reach the session's relay.
@@ -19,6 +21,8 @@ pub enum Event {
     Restart { relay: usize },
     /// A relay gets all links that another node holds.
     MergeFrom { into: usize, from: usize },
+    /// A relay settles, and drops the links that its chain no longer needs: those of lower starts.
+    Prune { relay: usize },
     /// A node carries out operations that only read.
     Read { node: usize, operations: Params },
 }
@@ -32,6 +36,8 @@ pub enum Reply {
     Session(usize),
     /// How many links the relay was told that it didn't hold, and how many that it did.
     Took { took: usize, held: usize },
+    /// How many links were dropped.
+    Dropped(usize),
     /// The event has happened, and there is nothing to tell of it.
     Done,
 }

@@ -1,15 +1,17 @@
 //! Stores of the nodes: which one is meant, and what becomes of links that a relay is told.
 
 ghost use Rattle.std.specs.Prelude.{◌≡◌, ◌≢◌, ◌≤◌, ◌<◌, ℕ, Ok, IfOk, IfErr, OnOk, length};
+ghost use Rattle.ovs_links.specs.Chains.{GrowsInto};
 ghost use Rattle.ovs_links.specs.declared.answer.By.{By};
 ghost use Rattle.ovs_links.specs.declared.answer.TakeError.TheVariants as TakeError;
 ghost use Rattle.ovs_links.specs.declared.link.Link.{Link};
 ghost use Rattle.ovs_links.specs.Outcomes.{merge_answer, merged};
-ghost use Rattle.ovs_links.specs.Settling.{after_settle};
-ghost use Rattle.ovs_links.specs.Sets.{AllOf, Among, IsOfTables};
+ghost use Rattle.ovs_links.specs.Settling.{KeepsLinks, after_settle};
+ghost use Rattle.ovs_links.specs.Sets.{AllOf, Holds, IsOfTables};
 ghost use Rattle.ovs_links.specs.Store.{Stored, IsStore, tables_of};
 ghost use Rattle.ovs_source.specs.Commits.{IsSource};
-ghost use Rattle.ovs_world.specs.Nodes.{IsNode, IsTier, Extends, Grow, LeavesMerge, MergesNodes, LeavesMergeOfNodes, held, node_at, plus, counts_of, no_counts};
+ghost use Rattle.ovs_world.specs.Deliveries.{TakesSome};
+ghost use Rattle.ovs_world.specs.Nodes.{IsNode, IsSettled, IsTier, Extends, Grow, LeavesMerge, MergesNodes, LeavesMergeOfNodes, DropsOld, held, node_at, plus, counts_of, no_counts};
 
 use crate::error::WorldError;
 use ovs_links::{Link, LinkStore, MergeError, TakeError, take_all};
@@ -70,11 +72,12 @@ pub(crate) fn hold(
     store: &mut LinkStore,
     links: Vec<Link>,
 ) -> Result<Counts, WorldError>
-    requires node { (source : Stored) × IsSource source × IsStore source × IsNode source store.old × AllOf (Among source.folded) links.items }
+    requires node { (source : Stored) × IsStore source × IsNode source store.old × AllOf (Holds source.links) links.items }
     requires of_tables { AllOf (IsOfTables (tables_of store.old)) links.items }
     ensures held { IfOk result (λ counts. (store.new ≡ held store.old links.items) × (counts ≡ counts_of store.old links.items)) }
-    ensures node { (source : Stored) → IsSource source → IsNode source store.old → AllOf (Among source.folded) links.items → IsNode source store.new }
+    ensures node { (source : Stored) → IsNode source store.old → AllOf (Holds source.links) links.items → IsNode source store.new }
     ensures extends { Extends store.old store.new }
+    ensures some { TakesSome store.old links.items store.new }
     ensures memory { IfErr result (λ e. e ≡ WorldError.NoMemory) }
 {
     let before = store.len();
@@ -108,7 +111,7 @@ pub(crate) fn merge_stores(
     requires nodes { (source : Stored) × IsSource source × IsStore source × IsNode source store.old × IsNode source other.now }
     ensures merged { OnOk result ((merge_answer store.old.links other.now.links ≡ Ok tt) × (store.new ≡ after_settle (merged store.old other.now))) }
     ensures memory { IfErr result (λ e. (e ≡ WorldError.NoMemory) × LeavesMerge store.old other.now store.new) }
-    ensures node { (source : Stored) → IsSource source → IsStore source → IsNode source store.old → IsNode source other.now → IsNode source store.new }
+    ensures node { (source : Stored) → IsNode source store.old → IsNode source other.now → IsNode source store.new }
     ensures extends { Extends store.old store.new }
 {
     match store.merge(other) {
@@ -119,6 +122,24 @@ pub(crate) fn merge_stores(
     }
     store.settle(alloc)?;
     Ok(())
+}
+
+/// Settles, and drops the links that can be reached from a lower start than that of the chain. How many they were.
+///
+/// # Errors
+/// `NoMemory`: the store has the same links, and less is folded than could be.
+pub(crate) fn prune_store(alloc: Global, store: &mut LinkStore) -> Result<usize, WorldError>
+    ensures drops { IfOk result (λ n. DropsOld (after_settle store.old) n store.new) }
+    ensures settled { OnOk result (IsSettled store.new) }
+    ensures memory { IfErr result (λ e. (e ≡ WorldError.NoMemory) × KeepsLinks store.old store.new) }
+    ensures node { (source : Stored) → IsNode source store.old → IsNode source store.new }
+    ensures grows { GrowsInto store.old.folded store.new.folded }
+{
+    let _ = store.settle(alloc)?;
+    let dropped = store.prune();
+    // It is still one, as of every call that looks at its head.
+    let _ = store.head();
+    Ok(dropped)
 }
 
 /// Merges the links of a node into the store of a relay, which is another, and settles. Their numbers are those of the world.

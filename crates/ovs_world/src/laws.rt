@@ -2,7 +2,10 @@
 ghost use Rattle.std.specs.Prelude.{◌≡◌, ◌≤◌, ◌∷◌, [], ℕ, List, false, Ok, Some, length, take};
 ghost use Rattle.ovs_types.specs.declared.schema.Table.{Table};
 ghost use Rattle.ovs_rows.specs.Row.{no_rows};
-ghost use Rattle.ovs_links.specs.History.{Commit, IsHistory, links_of};
+ghost use Rattle.ovs_links.specs.Chains.{start_of};
+ghost use Rattle.ovs_links.specs.Epochs.{Epoch, links_within};
+ghost use Rattle.ovs_links.specs.History.{IsHistory};
+ghost use Rattle.ovs_links.specs.Link.{IsStart};
 ghost use Rattle.ovs_links.specs.Steps.{steps_of};
 ghost use Rattle.ovs_reader.specs.Telling.{told, AreToldReadably};
 ghost use Rattle.ovs_reader.specs.declared.subscription.Subscription.{Subscription};
@@ -25,7 +28,7 @@ ghost use Rattle.ovs_world.specs.Awaiting.{IsRelayMonitor, TellsPlace, TellLinks
 /// as its own, and then asks for the monitor of all columns; that monitor is made, and the reply says where the id that
 /// was asked for stands in the node's chain, or that all links will be told.
 ///
-/// Where a node has folded the first links of a history, what it tells a relay's monitor are these links, one by one, from
+/// Where a node has folded the first links of an epoch, what it tells a relay's monitor are these links, one by one, from
 /// the monitor's position on.
 pub fn relay_laws()
     ensures schema { (f : FoldedValue) (s : SessionValue) → s.is_ended ≡ false
@@ -33,13 +36,13 @@ pub fn relay_laws()
         × ((after_turn s f (schema_request f.database.schema)).monitors ≡ s.monitors) }
     ensures asks { (schema : SchemaValue) (asked : ℕ) → read_description schema.json ≡ Ok schema.description
         → hears (opening schema asked) (schema_reply schema) ≡ heard Asking (Send (monitor_request schema asked)) }
-    ensures monitor { (schema : SchemaValue) (chain : List Link) (s : SessionValue) (asked : ℕ) → CanBeAsked schema asked
+    ensures monitor { (schema : SchemaValue) (chain : List Link) (s : SessionValue) (asked : ℕ) → IsStart (start_of chain) → CanBeAsked schema asked
         → s.is_ended ≡ false → s.monitors ≡ []
         → (m : Subscription) × (reply : Message) × IsRelayMonitor schema.description.tables m × (m.position ≤ length chain)
         × ((turn s (folded_of schema chain) (monitor_request schema asked)).out ≡ Some reply)
         × ((after_turn s (folded_of schema chain) (monitor_request schema asked)).monitors ≡ m ∷ [])
         × TellsPlace schema.description.tables chain asked m.position (talk_of reply) }
-    ensures told { (tables : List Table) (h : List Commit) (n : ℕ) (m : Subscription) → IsHistory tables no_rows h → n ≤ length h
-        → IsRelayMonitor tables m → m.position ≤ n → AreToldReadably (m ∷ []) (steps_of tables no_rows (take n (links_of tables 0 no_rows h)))
-        → TellLinks tables (links_of tables 0 no_rows h) m.position n (told (m ∷ []) (steps_of tables no_rows (take n (links_of tables 0 no_rows h)))) }
+    ensures told { (tables : List Table) (e : Epoch) (n : ℕ) (m : Subscription) → IsHistory tables no_rows e.commits → n ≤ length e.commits
+        → IsRelayMonitor tables m → m.position ≤ n → AreToldReadably (m ∷ []) (steps_of tables no_rows (take n (links_within tables e)))
+        → TellLinks tables (links_within tables e) m.position n (told (m ∷ []) (steps_of tables no_rows (take n (links_within tables e)))) }
 {}

@@ -1,26 +1,25 @@
 //! A session between a relay and the node that it follows: both ends, and what passes between them.
 
-ghost use Rattle.std.specs.Prelude.{◌≡◌, ◌==◌, ◌||◌, [], List, length, min, None, Some, Ok, Err, IfOk, IfErr, IfSome, OnOk};
+ghost use Rattle.std.specs.Prelude.{◌≡◌, ◌↔◌, ◌==◌, ◌||◌, [], List, length, min, false, None, Some, Ok, Err, IsTrue, IfOk, IfErr, IfSome, OnOk};
 ghost use Rattle.ovs_types.specs.SchemaReading.{read_description};
 ghost use Rattle.ovs_reader.specs.Telling.{AreToldReadably};
-ghost use Rattle.ovs_source.specs.Commits.{IsSource};
 ghost use Rattle.ovs_wire.specs.declared.message.Message.{Message};
 ghost use Rattle.ovs_world.specs.Carrying.{IsIdle, IsWhole, Moves, Carries};
 ghost use Rattle.ovs_world.specs.Leading.{IsLed};
 ghost use Rattle.ovs_world.specs.Nodes.{IsNode, folded_in};
-ghost use Rattle.ovs_world.specs.Sessions.{Opens, Asks, Goes, PumpsIdle, Hears, HearsNext, IsNotPassed, IsNotSent, IsNotFed, IsUnheard, IsUnheardNext, with_line};
+ghost use Rattle.ovs_world.specs.Sessions.{Opens, Asks, Goes, PumpsIdle, Hears, HearsNext, IsNotPassed, IsNotSent, IsNotFed, IsGone, IsUnheard, IsUnheardNext, is_behind, with_line};
 ghost use Rattle.ovs_upstream.specs.Hearing.{hears, links_in};
 ghost use Rattle.ovs_upstream.specs.Requests.{CanBeAsked, schema_request};
 ghost use Rattle.ovs_upstream.specs.declared.up_session.Heard.{Heard};
 ghost use Rattle.ovs_upstream.specs.declared.up_session.Stage.TheVariants as Stage;
-ghost use Rattle.ovs_links.specs.Sets.{AllOf, Among, IsOfTables};
+ghost use Rattle.ovs_links.specs.Sets.{AllOf, Holds, IsOfTables};
 ghost use Rattle.ovs_links.specs.Store.{Stored, IsStore, tables_of};
-ghost use Rattle.ovs_reader.specs.Session.{MayBeShown};
+ghost use Rattle.ovs_reader.specs.Session.{MayBeShown, is_over};
 
 use crate::channel::Channel;
 use crate::error::WorldError;
 use ovs_links::{Link, LinkStore};
-use ovs_reader::ReaderSession;
+use ovs_reader::{ReaderSession, ShownError};
 use ovs_types::{NoMemory, TxnId};
 use ovs_upstream::{UpError, UpEvent, UpSession};
 use ovs_wire::{Message, MessageError};
@@ -40,6 +39,8 @@ pub(crate) struct Session {
     pub(crate) relay: usize,
     /// The node that it follows; 0 is the source.
     pub(crate) upstream: usize,
+    // Where the chain begins that the session tells: that which the node had folded when it was opened.
+    begun: TxnId,
     // The relay's end.
     up: UpSession,
     // The node's end.
@@ -74,6 +75,7 @@ impl Session {
         let mut session = Session {
             relay,
             upstream,
+            begun: node.folded().start(),
             up,
             reader: ReaderSession::new(alloc),
             upward: Channel::new(alloc),
@@ -83,38 +85,45 @@ impl Session {
         Ok(session)
     }
 
-    // Passes a request up, and puts the node's reply in flight.
+    // Passes a request up, and puts the node's reply in flight. There is none where the node's chain has begun anew.
     fn ask(&mut self, alloc: Global, request: &Message, node: &LinkStore) -> Result<(), WorldError>
         requires shown { MayBeShown self.old.reader (folded_in node.now) }
+        requires begun { is_over self.old.reader.start (folded_in node.now) ≡ is_behind (folded_in node.now) self.old }
         requires idle { IsIdle self.old.upward }
         ensures asks { OnOk result (Asks (folded_in node.now) self.old request.now self.new) }
         ensures shown { OnOk result (MayBeShown self.new.reader (folded_in node.now)) }
         ensures refused { IfErr result (IsNotPassed request.now) }
     {
         let request = self.upward.pass(alloc, request)?;
-        let turn = boxed(
-            alloc,
-            self.reader.take_message(alloc, request, node.folded())?,
-        )?;
+        let turn = match self.reader.take_message(alloc, request, node.folded()) {
+            Ok(turn) => boxed(alloc, turn)?,
+            Err(ShownError::NoMemory) => return Err(WorldError::NoMemory),
+            Err(ShownError::Epoch) => return Ok(()),
+        };
         self.downward.send_any(alloc, turn.out.as_ref())?;
         Ok(())
     }
 
-    /// Where nothing is in flight, the node tells what it has folded and hasn't told.
+    /// Where nothing is in flight, the node tells what it has folded and hasn't told, unless its chain has begun anew.
     ///
     /// # Errors
     /// `NoMemory` alone.
     pub(crate) fn pump(&mut self, alloc: Global, node: &LinkStore) -> Result<(), WorldError>
         requires shown { MayBeShown self.old.reader (folded_in node.now) }
+        requires begun { is_over self.old.reader.start (folded_in node.now) ≡ is_behind (folded_in node.now) self.old }
         ensures pumps { OnOk result (PumpsIdle (folded_in node.now) self.old self.new) }
         ensures shown { OnOk result (MayBeShown self.new.reader (folded_in node.now)) }
-        ensures readable { OnOk result (self.old.downward.flight ≡ [] → AreToldReadably self.old.reader.monitors (folded_in node.now).steps) }
+        ensures readable { OnOk result (self.old.downward.flight ≡ [] → is_behind (folded_in node.now) self.old ≡ false → AreToldReadably self.old.reader.monitors (folded_in node.now).steps) }
         ensures memory { IfErr result (λ e. e ≡ WorldError.NoMemory) }
     {
         if self.downward.in_flight() > 0 {
             return Ok(());
         }
-        let messages = self.reader.pump(alloc, node.folded())?;
+        let messages = match self.reader.pump(alloc, node.folded()) {
+            Ok(messages) => messages,
+            Err(ShownError::NoMemory) => return Err(WorldError::NoMemory),
+            Err(ShownError::Epoch) => return Ok(()),
+        };
         self.downward.send_all(alloc, &messages)?;
         Ok(())
     }
@@ -124,6 +133,13 @@ impl Session {
         ensures value { result ≡ (self.now.relay == node || self.now.upstream == node) }
     {
         self.relay == node || self.upstream == node
+    }
+
+    /// Whether nothing is in flight and nothing more will be, since the node's chain has begun anew.
+    pub(crate) fn is_gone(&self, node: &LinkStore) -> bool
+        ensures value { IsTrue result ↔ IsGone (folded_in node.now) self.now }
+    {
+        self.in_flight() == 0 && u128::from(self.begun) < u128::from(node.folded().start())
     }
 
     /// How many bytes are on their way to the relay.
@@ -157,13 +173,13 @@ impl Session {
         alloc: Global,
         node: &LinkStore,
     ) -> Result<Option<Vec<Link>>, WorldError>
-        requires led { (source : Stored) × IsSource source × IsLed source node.now self.old }
+        requires led { (source : Stored) × IsLed source node.now self.old }
         ensures heard { IfOk result (λ heard. IfSome heard (λ links. HearsNext (folded_in node.now) self.old links.items self.new)) }
         ensures none { result ≡ Ok None → (self.new ≡ self.old) × (self.old.downward.framing.waiting ≡ []) }
         ensures refused { IfErr result (IsUnheardNext self.old) }
         ensures tables { IfOk result (λ heard. IfSome heard (λ links. AllOf (IsOfTables self.old.up.schema.description.tables) links.items)) }
-        ensures led { (source : Stored) → IsSource source → IsNode source node.now → IsLed source node.now self.old
-            → IfOk result (λ heard. IfSome heard (λ links. AllOf (Among source.folded) links.items × IsLed source node.now self.new)) }
+        ensures led { (source : Stored) → IsNode source node.now → IsLed source node.now self.old
+            → IfOk result (λ heard. IfSome heard (λ links. AllOf (Holds source.links) links.items × IsLed source node.now self.new)) }
     {
         let message = match self.downward.receive(alloc) {
             Ok(Some(message)) => message,
@@ -184,6 +200,7 @@ impl Session {
     ) -> Result<Vec<Link>, WorldError>
         requires hears { (h : Heard) × (hears self.old.up message ≡ Ok h) }
         requires shown { MayBeShown self.old.reader (folded_in node.now) }
+        requires begun { is_over self.old.reader.start (folded_in node.now) ≡ is_behind (folded_in node.now) self.old }
         requires idle { IsIdle self.old.upward }
         ensures heard { IfOk result (λ links. Hears (folded_in node.now) self.old message links.items self.new) }
         ensures refused { IfErr result (IsUnheard self.old message) }
@@ -207,6 +224,7 @@ impl Session {
         node: &LinkStore,
     ) -> Result<Vec<Link>, WorldError>
         requires shown { MayBeShown self.old.reader (folded_in node.now) }
+        requires begun { is_over self.old.reader.start (folded_in node.now) ≡ is_behind (folded_in node.now) self.old }
         requires idle { IsIdle self.old.upward }
         ensures goes { IfOk result (λ links. Goes (folded_in node.now) self.old event self.new × (links.items ≡ links_in event)) }
         ensures refused { IfErr result (IsNotSent event) }

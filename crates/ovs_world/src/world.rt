@@ -1,16 +1,17 @@
 //! A source and its relays, and what passes between them.
 
-ghost use Rattle.std.specs.Prelude.{◌≡◌, [], ◌++◌, ◌∷◌, ◌-◌, List, Option, Some, None, Ok, Err, IfOk, IfErr, IfSome, map, OnOk, OnErr, replicate, slice_set};
+ghost use Rattle.std.specs.Prelude.{◌≡◌, ◌↔◌, [], ◌++◌, ◌∷◌, ◌-◌, List, Option, Some, None, Ok, Err, IsTrue, IfOk, IfErr, IfSome, map, OnOk, OnErr, replicate, slice_set};
+ghost use Rattle.std.specs.List.{AllByRecursion};
 ghost use Rattle.serde_json.specs.View.{view};
 ghost use Rattle.ovs_world.specs.Headline.{IsFaithful};
 ghost use Rattle.ovs_world.specs.Nodes.{folded_in};
-ghost use Rattle.ovs_world.specs.Steps.{RefusesCommit, RefusesConnect, RefusesDelivery, RefusesCut, RefusesRestart, RefusesMerge, RefusesRead, RefusesNew, RefusesRun, Steps, IsRun};
-ghost use Rattle.ovs_world.specs.Worlds.{empty_store, new_world, HasNode, IsCount, IsOpenAt, NoneIsOpenAt, AreSettled, CommitsTo, Connects, Brings, Cuts, Restarts, Merges, Reads, cut_of, node_of};
+ghost use Rattle.ovs_world.specs.Steps.{RefusesCommit, RefusesTrim, RefusesConnect, RefusesDelivery, RefusesCut, RefusesRestart, RefusesMerge, RefusesPrune, RefusesRead, RefusesNew, RefusesRun, Steps, IsRun};
+ghost use Rattle.ovs_world.specs.Worlds.{IsOpen, GoesOn, IsOpenIn, empty_store, new_world, HasNode, IsCount, AreSettled, CommitsTo, Renews, Connects, Brings, Cuts, Restarts, Merges, Prunes, Reads, cut_of, node_of};
 
 use crate::delivering::deliver;
 use crate::error::WorldError;
 use crate::event::{Event, Reply};
-use crate::holding::{Counts, merge_nodes, node};
+use crate::holding::{Counts, merge_nodes, node, prune_store};
 use crate::session::Session;
 use ovs_json::Json;
 use ovs_links::{Folded, LinkStore};
@@ -37,12 +38,32 @@ fn empty_stores(alloc: Global, schema: &Schema, count: usize) -> Result<Vec<Link
     Ok(stores)
 }
 
+// Whether there is a session here that isn't gone.
+fn is_open(source: &LinkStore, relays: &[LinkStore], session: &Option<Session>) -> bool
+    requires stands { IsOpen source.now relays.now session.now }
+    ensures value { IsTrue result ↔ GoesOn source.now relays.now session.now }
+{
+    match session {
+        Some(session) => !session.is_gone(node(source, relays, session.upstream)),
+        None => false,
+    }
+}
+
 // Takes out the session of this number, counted from 1, if it is open.
-fn take_session(sessions: &mut [Option<Session>], number: usize) -> Option<Session>
-    ensures taken { IfSome result (λ s. IsOpenAt sessions.old number s × (sessions.new ≡ slice_set sessions.old (number - 1) None)) }
-    ensures none { result ≡ None → NoneIsOpenAt sessions.old number × (sessions.new ≡ sessions.old) }
+fn take_session(
+    source: &LinkStore,
+    relays: &[LinkStore],
+    sessions: &mut [Option<Session>],
+    number: usize,
+) -> Option<Session>
+    requires stand { AllByRecursion (IsOpen source.now relays.now) sessions.old }
+    ensures taken { IfSome result (λ s. IsOpenIn source.now relays.now sessions.old number s × (sessions.new ≡ slice_set sessions.old (number - 1) None)) }
+    ensures none { result ≡ None → ((s : _) → ¬ (IsOpenIn source.now relays.now sessions.old number s)) × (sessions.new ≡ sessions.old) }
 {
     if number == 0 || number > sessions.len() {
+        return None;
+    }
+    if !is_open(source, relays, &sessions[number - 1]) {
         return None;
     }
     sessions[number - 1].take()
@@ -155,10 +176,10 @@ impl World {
         Ok(world)
     }
 
-    /// What the source has folded: its history.
+    /// What the source has folded: the latest epoch of its history.
     ///
-    /// The links of each node are links of this history. A node that is settled has the source's database after the longest
-    /// unbroken chain of the source's links that it holds, and settled nodes with the same links have the same database.
+    /// The links of each node are links of the source's history. A node that is settled has the source's database after the
+    /// longest unbroken chain of the source's links that it holds, and settled nodes with the same links have the same database.
     pub fn history(&self) -> &Folded
         ensures value { result.now ≡ folded_in self.now.source }
         ensures faithful { IsFaithful self.now.source self.now.relays }
@@ -178,11 +199,23 @@ impl World {
         Some(crate::holding::node(self.source.store(), &self.relays, node))
     }
 
-    /// What becomes of an event: the call of its name.
+    /// What becomes of an event: the call of its name. All that holds of the nodes ([`World::history`]) holds after it.
     ///
     /// # Errors
     /// Those of that call.
     pub fn step(&mut self, alloc: Global, event: &Event) -> Result<Reply, WorldError>
+        ensures steps { Steps self.old event.now result self.new }
+        ensures faithful { IsFaithful self.new.source self.new.relays }
+        ensures settled { OnOk result (AreSettled self.old → AreSettled self.new) }
+    {
+        let reply = self.happen(alloc, event);
+        // The nodes are faithful at every moment.
+        let _ = self.history();
+        reply
+    }
+
+    // The call of an event's name.
+    fn happen(&mut self, alloc: Global, event: &Event) -> Result<Reply, WorldError>
         ensures steps { Steps self.old event.now result self.new }
         ensures settled { OnOk result (AreSettled self.old → AreSettled self.new) }
     {
@@ -192,6 +225,10 @@ impl World {
                 *id,
                 operations.as_slice(),
             )?)),
+            Event::Trim { id } => {
+                self.trim(alloc, *id)?;
+                Ok(Reply::Done)
+            }
             Event::Connect { relay, upstream } => {
                 Ok(Reply::Session(self.connect(alloc, *relay, *upstream)?))
             }
@@ -211,6 +248,7 @@ impl World {
                 self.merge(alloc, *into, *from)?;
                 Ok(Reply::Done)
             }
+            Event::Prune { relay } => Ok(Reply::Dropped(self.prune(alloc, *relay)?)),
             Event::Read { node, operations } => Ok(Reply::Results(self.read(
                 alloc,
                 *node,
@@ -243,6 +281,21 @@ impl World {
         Ok(outcome.results)
     }
 
+    /// The source begins a new epoch: all links of its chain give way to one, a commit of this id that inserts all rows.
+    ///
+    /// # Errors
+    /// `IdTaken`, `EpochsSpent`, `Full` or `NoMemory`, as of [`Source::trim`]. Nothing is changed then.
+    pub(crate) fn trim(&mut self, alloc: Global, id: TxnId) -> Result<(), WorldError>
+        ensures renews { OnOk result (Renews self.old id self.new) }
+        ensures settled { OnOk result (AreSettled self.old → AreSettled self.new) }
+        ensures refused { IfErr result (λ e. RefusesTrim self.old id e self.new) }
+    {
+        self.source.trim(alloc, id)?;
+        // Its store is one, as of every call that looks at its head.
+        let _ = self.source.store().head();
+        Ok(())
+    }
+
     /// Cuts a session: what is on its way is lost.
     ///
     /// # Errors
@@ -252,9 +305,16 @@ impl World {
         ensures settled { OnOk result (AreSettled self.old → AreSettled self.new) }
         ensures refused { IfErr result (λ e. RefusesCut self.old session e × (self.new ≡ self.old)) }
     {
-        let Some(_open) = take_session(&mut self.sessions, session) else {
+        let Some(open) = take_session(
+            self.source.store(),
+            &self.relays,
+            &mut self.sessions,
+            session,
+        ) else {
             return Err(WorldError::NoSession);
         };
+        // by a call, which spares this function's proof the drop of each part
+        mem::drop(open);
         Ok(())
     }
 
@@ -305,7 +365,12 @@ impl World {
         ensures settled { OnOk result (AreSettled self.old → AreSettled self.new) }
         ensures refused { IfErr result (λ e. RefusesDelivery self.old session bytes e self.new) }
     {
-        let Some(mut open) = take_session(&mut self.sessions, session) else {
+        let Some(mut open) = take_session(
+            self.source.store(),
+            &self.relays,
+            &mut self.sessions,
+            session,
+        ) else {
             return Err(WorldError::NoSession);
         };
         let counts = deliver(
@@ -357,6 +422,23 @@ impl World {
             return Err(WorldError::NoSuchNode);
         }
         merge_nodes(alloc, self.source.store(), &mut self.relays, into, from)
+    }
+
+    /// A relay settles, and drops the links that can be reached, prev to id, from a lower start than that of its chain. How many
+    /// they were. What is folded stays, and so does each session.
+    ///
+    /// # Errors
+    /// - `NoSuchNode` where there is no relay of this number; nothing is changed then.
+    /// - `NoMemory`: the relay has the same links, and less is folded than could be.
+    pub(crate) fn prune(&mut self, alloc: Global, relay: usize) -> Result<usize, WorldError>
+        ensures prunes { IfOk result (λ n. Prunes self.old relay n self.new) }
+        ensures settled { OnOk result (AreSettled self.old → AreSettled self.new) }
+        ensures refused { IfErr result (λ e. RefusesPrune self.old relay e self.new) }
+    {
+        if relay == 0 || relay > self.relays.len() {
+            return Err(WorldError::NoSuchNode);
+        }
+        prune_store(alloc, &mut self.relays[relay - 1])
     }
 
     /// A node carries out operations that only read, all from the database that it has. The results, one for each operation.

@@ -1,5 +1,5 @@
 use Rattle.std.proofs.Common.{refl}
-use Rattle.ovs_origin.proofs.SentLinks.{none_sent, more_sent}
+use Rattle.ovs_origin.proofs.SentLinks.{none_sent}
 use Rattle.ovs_origin.proofs.sending.send_all.Goals as goal
 
 pub loop-init : goal.loop-init

@@ -1,10 +1,13 @@
-use Rattle.std.proofs.Common.{◌+◌, inl, inr, sym, subst, arith}
+use Rattle.std.proofs.Common.{◌+◌, inl, inr, refl, sym, subst, arith}
+use Rattle.ovs_links.specs.Store.{Stored}
 use Rattle.ovs_world.specs.Carrying.{IsWhole}
 use Rattle.ovs_world.specs.Deliveries.{scene, Leads, BreaksOff}
+use Rattle.ovs_world.specs.Leading.{IsLed}
 use Rattle.ovs_world.specs.Nodes.{no_counts}
 use Rattle.ovs_world.specs.declared.holding.Counts.{Counts}
 use Rattle.ovs_world.proofs.Delivered.{pumped_framing, quiet_framing, after_pumping, did_pump, told_out, after_feeding, did_feed}
 use Rattle.ovs_world.proofs.Broken.{err_by, breaks_hearing, feed_leads, breaks_feeding}
+use Rattle.ovs_world.proofs.Led.{led_over}
 use Rattle.ovs_world.proofs.Moving.{leads_none, leads_on}
 use Rattle.ovs_world.proofs.Scenes.{grow_itself, grow_on}
 use Rattle.ovs_world.proofs.delivering.deliver.Goals as goal
@@ -23,6 +26,12 @@ turns-init c =
         subst (λ (k : Counts). Leads source 0 begun (scene c.args.relays.now c.args.session.now k)) (sym c.none-counts.ensures.value) (leads_none source begun),
       );
     }
+
+pub pump-requires : goal.pump-requires
+pump-requires c =
+    let source = c.args.source.now in
+    let led = subst (λ (n : Stored). IsLed source n c.turns.session) (sym c.node.ensures.value) c.turns.invariant.stands.between.led in
+    record { shown = led.shown; begun = led_over source c.node.result.now c.turns.session led }
 
 pub returns-then-in_flight-eq0-clause-scene : goal.returns-then-in_flight-eq0-clause-scene
 returns-then-in_flight-eq0-clause-scene c =
@@ -122,8 +131,7 @@ returns-in_err-hear_all-clause-refused c =
     let some = came.1 in
     err_by c.from_residual-in_err-hear_all.result e (λ x. BreaksOff source c.args.n begun x c.hear_all.new.relays) c.from_residual-in_err-hear_all.ensures.1
     (breaks_hearing source c.args.n (fed + 0 + came.0) begun (scene at.relays u at.counts) e c.hear_all.new.relays (omega (arith, all, some))
-    (leads_on source (fed + 0) came.0 begun (scene at.relays t at.counts) (scene at.relays u at.counts) told came.2)
-    (grow_on c.args.relays.now at.relays c.hear_all.new.relays at.invariant.grow c.hear_all.ensures.grow) c.in_err-hear_all.ensures.refused)
+    (leads_on source (fed + 0) came.0 begun (scene at.relays t at.counts) (scene at.relays u at.counts) told came.2) c.in_err-hear_all.ensures.refused)
 
 pub returns-in_err-left-clause-refused : goal.returns-in_err-left-clause-refused
 returns-in_err-left-clause-refused c =
@@ -139,5 +147,15 @@ returns-in_err-left-clause-refused c =
     (did_pump source c.node.result.now at.relays at.session t at.invariant.stands c.node.ensures.value c.in_ok-pump.ensures.pumps at.counts) in
     err_by c.from_residual-in_err-left.result e (λ x. BreaksOff source c.args.n begun x c.hear_all.new.relays) c.from_residual-in_err-left.ensures.1
     (breaks_feeding source c.args.n (fed + 0) at.left begun at.relays c.hear_all.new.relays t u c.hear_all.new.session at.counts c.hear_all.new.counts e (omega (arith, all)) told
-    c.feed-fed.ensures.rest c.in_ok-hear_all.ensures.leads c.in_ok-hear_all.ensures.scene c.in_ok-hear_all.ensures.heard c.in_ok-hear_all.ensures.ending
-    (grow_on c.args.relays.now at.relays c.hear_all.new.relays at.invariant.grow c.hear_all.ensures.grow) c.in_err-left.ensures.refused)
+    c.feed-fed.ensures.rest c.in_ok-hear_all.ensures.leads c.in_ok-hear_all.ensures.scene c.in_ok-hear_all.ensures.heard c.in_ok-hear_all.ensures.ending c.in_err-left.ensures.refused)
+
+pub returns-in_err-pump-clause-refused : goal.returns-in_err-pump-clause-refused
+returns-in_err-pump-clause-refused c =
+    let at = c.turns in
+    let all = at.invariant.leads.1 in
+    let source = c.args.source.now in
+    let begun = scene c.args.relays.now c.args.session.now no_counts in
+    let e = c.in_err-pump.field-0.0 in
+    err_by c.from_residual.result e (λ x. BreaksOff source c.args.n begun x at.relays) c.from_residual.ensures.1
+    (subst (λ x. BreaksOff source c.args.n begun x at.relays) (sym c.in_err-pump.ensures.memory)
+    (record { fed = at.invariant.leads.0; within = omega (arith, all); at = scene at.relays at.session at.counts; moves = at.invariant.leads.2; left = inl refl }))

@@ -1,5 +1,6 @@
 use Rattle.std.proofs.Common.{◌∙◌, Ok, refl, ap}
-use Rattle.ovs_world.specs.Deliveries.{scene, Hear}
+use Rattle.ovs_world.specs.Deliveries.{scene, Hear, StopsHearingAll}
+use Rattle.ovs_world.proofs.Broken.{err_by, stops_later}
 use Rattle.ovs_world.proofs.Delivered.{hears_fewer}
 use Rattle.ovs_world.proofs.Moving.{leads_none, leads_one, leads_on}
 use Rattle.ovs_world.proofs.Scenes.{grow_itself, grow_on}
@@ -36,3 +37,12 @@ loop-preserved c =
 
 pub returns-then-not-branch-clause-ending : goal.returns-then-not-branch-clause-ending
 returns-then-not-branch-clause-ending c = c.in_ok-hear_next.ensures.ending ∙ c.loop.invariant.ending
+
+pub returns-in_err-hear_next-clause-refused : goal.returns-in_err-hear_next-clause-refused
+returns-in_err-hear_next-clause-refused c =
+    let source = c.args.source.now in
+    let e = c.in_err-hear_next.field-0.0 in
+    let begun = scene c.args.relays.now c.args.session.now c.args.counts.now in
+    let before = scene c.loop.relays c.loop.session c.loop.counts in
+    err_by c.from_residual.result e (λ x. StopsHearingAll source begun x c.hear_next.new.relays) c.from_residual.ensures.1
+    (stops_later source begun before e c.hear_next.new.relays c.loop.invariant.leads c.in_err-hear_next.ensures.refused)

@@ -10,5 +10,5 @@ returns-clause-rest g c =
       taken = c.in_ok-self.ensures.kept ∙ c.in_ok-take_kept.ensures.taken;
       chain = settled_chain _ _ s.1;
       settled_as = s.0 ∙ sym (settled_again _ _ s.1);
-      shown_all = shown ∙ c.steps.ensures.value ∙ c.folded.ensures.steps;
+      shown_all = shown ∙ c.steps.ensures.value ∙ c.folded-folded.ensures.steps;
     })

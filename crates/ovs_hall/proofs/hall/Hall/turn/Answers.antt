@@ -17,3 +17,11 @@ returns-in-Some-clause-answer g c =
     let was : get old key ≡ Some c.in-Some.seat.now = search rules in
     let now = Updates-with_value old key c.turn.new.self (subst (λ (o : Option _). IsSome o) (sym was) refl) in
     became _ _ _ _ _ was now.changed c.turn.ensures.answer
+
+pub returns-in-Some-clause-ends : goal.returns-in-Some-clause-ends
+returns-in-Some-clause-ends g c =
+    let old = c.args.self.now.seats in
+    let key = c.args.key in
+    let was : get old key ≡ Some c.in-Some.seat.now = search rules in
+    let now = Updates-with_value old key c.turn.new.self (subst (λ (o : Option _). IsSome o) (sym was) refl) in
+    became _ _ _ _ _ was now.changed c.turn.ensures.ends

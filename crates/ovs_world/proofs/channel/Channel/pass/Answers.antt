@@ -6,7 +6,7 @@ use Rattle.ovs_wire.specs.declared.error.FrameError.{FrameError}
 use Rattle.ovs_wire.specs.declared.error.FrameError.TheVariants.{NoMemory}
 use Rattle.ovs_wire.specs.declared.error.MessageError.TheVariants as reading
 use Rattle.ovs_wire.specs.declared.message.Message.{Message}
-use Rattle.ovs_world.specs.Carrying.{Receives}
+use Rattle.ovs_world.specs.Carrying.{Moves, Receives}
 use Rattle.ovs_world.specs.Refusals.{refusal_of}
 use Rattle.ovs_world.specs.declared.error.WorldError.TheVariants.{TooLarge}
 use Rattle.ovs_world.proofs.Carried.{carries_nothing, passes, passed_this, stopped_large}
@@ -51,5 +51,17 @@ pub returns-in-Ok-Some-clause-passed : goal.returns-in-Ok-Some-clause-passed
 returns-in-Ok-Some-clause-passed c =
     let whole = passes c.args.self.now c.send.new.self c.feed.new.self c.args.message.now c.in_ok-feed.field-0 c.requires.idle c.in_ok-send.ensures.sent
     (least c.in_ok-feed.field-0 c.in_flight.result (length c.send.new.self.flight) c.in_flight.ensures.value c.in_ok-feed.ensures.moved.1) c.in_ok-feed.ensures.moved.0 (c.in_ok-feed.ensures.answer (λ e. cc)) in
-    passed_this c.args.message.now c.in-Ok-Some.message whole.0 c.feed.new.self c.receive.new.self whole.1 whole.2 whole.3
-    (subst (λ r. IfSome r (λ (m : Message). Receives c.feed.new.self m c.receive.new.self)) c.in-Ok-Some.field-0-is c.in-Ok-Some.ensures.received)
+    let received : Receives c.feed.new.self c.in-Ok-Some.message c.receive.new.self =
+    subst (λ r. IfSome r (λ (m : Message). Receives c.feed.new.self m c.receive.new.self)) c.in-Ok-Some.field-0-is c.in-Ok-Some.ensures.received in
+    let this = passed_this c.args.message.now c.in-Ok-Some.message whole.0 c.feed.new.self c.receive.new.self whole.1 whole.2 whole.3 received in (
+      this.0,
+      this.1,
+      record {
+        sent = c.send.new.self;
+        sends = c.in_ok-send.ensures.sent;
+        fed = c.feed.new.self;
+        feeds = subst (λ n. Moves c.send.new.self n c.feed.new.self)
+            (least c.in_ok-feed.field-0 c.in_flight.result (length c.send.new.self.flight) c.in_flight.ensures.value c.in_ok-feed.ensures.moved.1) c.in_ok-feed.ensures.moved.0;
+        receives = subst (λ (m : Message). Receives c.feed.new.self m c.receive.new.self) this.0 received;
+      },
+    )

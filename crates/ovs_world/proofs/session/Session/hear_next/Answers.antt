@@ -1,12 +1,10 @@
-use Rattle.std.proofs.Common.{◌≡◌, ◌∷◌, List, length, Option, Some, Err, IfSome, ap, subst}
+use Rattle.std.proofs.Common.{◌≡◌, ◌∷◌, List, Option, Some, Err, IfSome, ap, subst}
 use Rattle.ovs_wire.specs.declared.error.MessageError.TheVariants as reading
 use Rattle.ovs_wire.specs.declared.message.Message.{Message}
 use Rattle.ovs_world.specs.Carrying.{Line, Carries, Receives}
-use Rattle.ovs_world.specs.Leading.{Awaits}
 use Rattle.ovs_world.specs.Sessions.{IsUnheardNext}
 use Rattle.ovs_world.proofs.Broken.{err_by, unheard_next}
-use Rattle.ovs_world.proofs.Heard.{first_heard}
-use Rattle.ovs_world.proofs.Led.{led_next}
+use Rattle.ovs_world.proofs.Led.{led_first, led_next, led_over}
 use Rattle.ovs_world.proofs.session.Session.hear_next.Goals as goal
 
 abbrev Gives : Line → Line → Message → Type 0
@@ -20,23 +18,25 @@ received old new r m is all = subst (λ (x : Option Message). IfSome x (λ y. Re
 
 pub unreachable-requires : goal.unreachable-requires
 unreachable-requires c =
-    let led = c.requires.led.2 in
+    let led = c.requires.led.1 in
     absurd (let e : reading.NotJson ≡ reading.NoMemory = c.in-Err-NotJson.ensures.err reading.NotJson (ap Err c.in-Err-NotJson.field-0-is) led.messages led.carried in cc)
 
 pub unreachable-requires-in-Err-BadShape : goal.unreachable-requires-in-Err-BadShape
 unreachable-requires-in-Err-BadShape c =
-    let led = c.requires.led.2 in
+    let led = c.requires.led.1 in
     absurd (let e : reading.BadShape ≡ reading.NoMemory = c.in-Err-BadShape.ensures.err reading.BadShape (ap Err c.in-Err-BadShape.field-0-is) led.messages led.carried in cc)
 
 pub hear-requires-clause-hears : goal.hear-requires-clause-hears
 hear-requires-clause-hears c =
     let source = c.requires.led.0 in
-    let led = c.requires.led.2 in
+    let led = c.requires.led.1 in
     let s = c.args.self.now in
     let first = given s.downward c.receive.new.self c.in-Ok-Some.field-0 c.in-Ok-Some.message c.in-Ok-Some.field-0-is c.in-Ok-Some.ensures.some led.messages led.carried in
-    let next = first_heard source (length c.args.node.now.folded) s.up s.reader.monitors c.in-Ok-Some.message first.0 c.requires.led.1 led.says led.schema
-    (subst (λ (ms : List Message). Awaits source (length c.args.node.now.folded) s.up.asked s.up.stage s.reader.monitors ms) first.1 led.awaits) in
+    let next = led_first source c.args.node.now s c.in-Ok-Some.message first.0 led first.1 in
     (next.0, next.1.is)
+
+pub hear-requires-clause-begun : goal.hear-requires-clause-begun
+hear-requires-clause-begun c = led_over c.requires.led.0 c.args.node.now c.args.self.now c.requires.led.1
 
 pub returns-clause-heard : goal.returns-clause-heard
 returns-clause-heard c = record {
@@ -47,10 +47,10 @@ returns-clause-heard c = record {
 }
 
 pub returns-clause-led : goal.returns-clause-led
-returns-clause-led c source is_source is_node led =
+returns-clause-led c source is_node led =
     let s = c.args.self.now in
     let first = given s.downward c.receive.new.self c.in-Ok-Some.field-0 c.in-Ok-Some.message c.in-Ok-Some.field-0-is c.in-Ok-Some.ensures.some led.messages led.carried in
-    led_next source c.args.node.now is_source is_node s c.hear.new.self c.in-Ok-Some.message c.receive.new.self first.0 c.in_ok-hear.field-0.items led first.1 first.2
+    led_next source c.args.node.now is_node s c.hear.new.self c.in-Ok-Some.message c.receive.new.self first.0 c.in_ok-hear.field-0.items led first.1 first.2
     c.in_ok-hear.ensures.heard c.in_ok-hear.ensures.asked c.in_ok-hear.ensures.shown
 
 pub returns-in_err-hear-clause-refused : goal.returns-in_err-hear-clause-refused

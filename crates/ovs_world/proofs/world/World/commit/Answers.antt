@@ -17,8 +17,8 @@ pub invariant_of-self-2 : goal.invariant_of-self-2
 invariant_of-self-2 c =
     let w = c.self.inside in
     let t = c.transact.new.self in
-    world_committed w.source t w.fresh c.transact.new.fresh w.relays.items w.sessions.items c.self.invariant
-    (transacted w.source t w.fresh c.transact.new.fresh _ c.in_ok-outcome.outcome c.in_ok-outcome.ensures.outcome)
+    world_committed w.source t w.fresh c.transact.new.fresh w.relays.items w.sessions.items c.in_ok-outcome.outcome.link c.self.invariant
+    (transacted w.source t w.fresh c.transact.new.fresh _ c.in_ok-outcome.outcome c.in_ok-outcome.ensures.outcome) c.in_ok-outcome.ensures.history
     c.store.ensures.source (subst (λ (s : Stored). IsStore s) c.store.ensures.value c.head.ensures.store)
 
 pub returns-clause-commits : goal.returns-clause-commits
