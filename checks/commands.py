@@ -47,7 +47,7 @@ def help_and_version(lab):
     _, whole, _ = lab.run("--help")
     for command in COMMANDS:
         holds(command in whole, f"the help doesn't name the command {command}")
-    for command, options in (("source", ("--first-id", "--first-row", "--accepts", "--verbose")), ("relay", ("--upstream", "--tries", "--end-on-refusal"))):
+    for command, options in (("source", ("--first-id", "--first-row", "--accepts", "--verbose")), ("relay", ("--upstream", "--tries", "--end-on-refusal", "--prune"))):
         _, out, _ = lab.run(command, "--help")
         for option in ("--schema", "--listen", *options):
             holds(option in out, f"the help of {command} doesn't name {option}")

@@ -1,11 +1,13 @@
 """A source that begins a new epoch after so many commits: who is connected is closed then, and comes again."""
+import itertools
+
 from client import Closed, Refused, refusal
 from data import FIRST_ID, NET, ZEROS, insert, nth, select
 from harness import check, equal, holds
 from mirror import Mirror, selected
 from own_writes import NOWHERE, Count, all_good, inserted, told_rows
 from processes import free_port, wait_until
-from upstream import Upstream, known
+from upstream import Upstream, known, unknown
 
 EVERY = 3
 WRITES = 30
@@ -109,44 +111,61 @@ class Writer:
         return False
 
 
+def names_in(rows):
+    return {row["name"][0] for row in rows.values()}
+
+
+def write_one(writer, source, name):
+    """Writes a row whose name begins so, and gives its name.
+
+    One whose reply was lost is looked for at the source, where each stands that was committed. Where it isn't there it may still be on its
+    way, so that the next one has another name.
+    """
+    names = (f"{name}.{number}" for number in itertools.count())
+
+    def written():
+        one = next(names)
+        return one if writer.write(one) or source.has(one) else None
+
+    return wait_until(written, COMES_AGAIN, f"the {writer.node.name} writes {name}")
+
+
 def write_all(source, writers, agents, rounds):
-    """All writers write in turn; a row whose reply was lost is looked for at the source, where each stands that was committed."""
+    """All writers write in turn, and the agents are told all that was written; gives the names of the rows."""
     names = []
     for number in range(rounds):
         for place, writer in enumerate(writers):
-            name = f"p{place}-{number}"
-            names.append(name)
-            wait_until(lambda writer=writer, name=name: writer.write(name) or source.has(name), COMES_AGAIN, f"the {writer.node.name} writes {name}")
+            names.append(write_one(writer, source, f"p{place}-{number}"))
         for agent in agents:
-            agent.follow(lambda rows: len(rows) == len(names), COMES_AGAIN)
+            agent.follow(lambda rows: names_in(rows).issuperset(names), COMES_AGAIN)
     return names
 
 
-def chain_of(lab, every):
-    """A source that begins an epoch after so many commits, a relay behind it, and a relay behind that."""
+def chain_of(lab, every, *words):
+    """A source that begins an epoch after so many commits, a relay behind it, and a relay behind that, both with these words."""
     source = lab.source("--trim-every", str(every))
-    relay = lab.relay([source]).with_source()
-    return source, relay, lab.relay([relay], name="second").with_source()
+    relay = lab.relay([source], *words).with_source()
+    return source, relay, lab.relay([relay], *words, name="second").with_source()
 
 
 def same_everywhere(nodes, names):
-    """Waits until all nodes show the same rows with the same versions, which have these names."""
+    """Waits until all nodes show the same rows with the same versions, among them those with these names. No two rows have one name."""
 
     def rows():
         found = []
         for node in nodes:
             with node.session() as session:
                 found.append(selected(session, "net", "Port", columns=["name", "tags", "opts", "up", "_version"]))
-        return found[0] if all(one == found[0] for one in found) and len(found[0]) == len(names) else None
+        return found[0] if all(one == found[0] for one in found) and names_in(found[0]).issuperset(names) else None
 
     found = wait_until(rows, COMES_AGAIN, "all nodes show the same rows")
-    equal(sorted(row["name"][0] for row in found.values()), sorted(names), "the rows' names")
+    equal(len(names_in(found)), len(found), "how many names the rows have")
     return found
 
 
-def all_come_again(lab, every, rounds):
+def all_come_again(lab, every, rounds, *words):
     """Writers and agents at a source and two relays in a row, with an epoch after so many commits: all end equal, and each write is told once."""
-    nodes = chain_of(lab, every)
+    nodes = chain_of(lab, every, *words)
     agents, writers = [Agent(node) for node in nodes], [Writer(node) for node in nodes]
     looks = Writer(nodes[0])
     for one in (*agents, *writers, looks):
@@ -245,10 +264,10 @@ def every_session_is_closed(lab):
         holds(session.is_closed(COMES_AGAIN), f"{what}: not closed")
 
 
-def tells_of(number, connection):
+def tells_of(number, connection, commit=None):
     """Tells that a row of this number is there, as the one commit of the epoch of the number."""
-    connection.begin(lambda asked: [False, start(number), {}] if number else known(asked))
-    connection.update3(nth(FIRST_ID, 100 + number), {"Port": {row_of(number): {"insert": {"name": f"p{number}"}}}})
+    connection.begin(lambda asked: [False, start(number), {}] if number else known(asked) if asked == ZEROS else unknown(asked))
+    connection.update3(commit or nth(FIRST_ID, 100 + number), {"Port": {row_of(number): {"insert": {"name": f"p{number}"}}}})
 
 
 @check(240)

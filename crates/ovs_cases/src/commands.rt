@@ -41,7 +41,8 @@ fn relay_told(alloc: Global, given: &RelayOptions) -> Result<String, Fault> {
     let (accepts, tries) = (given.accepts, given.tries);
     let verbose = flag(given.verbose, ", tells");
     let ends = flag(given.end_on_refusal, ", ends on refusal");
-    let rest = format!(in alloc; ", accepts {accepts}, tries {tries}{verbose}{ends}")?;
+    let prunes = flag(given.prunes, ", prunes");
+    let rest = format!(in alloc; ", accepts {accepts}, tries {tries}{verbose}{ends}{prunes}")?;
     told.push_str(rest.as_str())?;
     Ok(told)
 }

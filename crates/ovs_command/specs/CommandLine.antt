@@ -45,7 +45,7 @@ relay_words = with_rule (with_rule (with_rule (with_rule (with_rule (new_app (co
     (list_rule (codes "upstream"))) (word_rule (codes "accepts"))) (word_rule (codes "tries"))
 
 abbrev pub relay_app : App
-relay_app = with_rule (with_rule relay_words (flag_rule (codes "verbose"))) (flag_rule (codes "end-on-refusal"))
+relay_app = with_rule (with_rule (with_rule relay_words (flag_rule (codes "verbose"))) (flag_rule (codes "end-on-refusal"))) (flag_rule (codes "prune"))
 
 abbrev pub with_commands : App
 with_commands = with_subcommand (with_subcommand (with_subcommand (with_subcommand (new_app (codes "ovs_relay")) fold_app.top) world_app.top)

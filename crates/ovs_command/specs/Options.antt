@@ -86,3 +86,4 @@ pub record GiveRelay (rows : List Row) (o : RelayOptions) : Type 0 where
   pub tries : Counts Tries rows o.tries
   pub verbose : o.verbose ≡ has_flag (codes "verbose") rows
   pub end_on_refusal : o.end_on_refusal ≡ has_flag (codes "end-on-refusal") rows
+  pub prunes : o.prunes ≡ has_flag (codes "prune") rows

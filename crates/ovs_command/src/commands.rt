@@ -34,6 +34,8 @@ const VERBOSE_HELP: &str = "Tells on standard error what happens";
 
 const END_ON_REFUSAL_HELP: &str = "Ends once something that an upstream sends is refused";
 
+const PRUNE_HELP: &str = "Drops links of older epochs once a newer one is shown";
+
 // The command with one option more, which has a word behind it and stands once at most.
 fn with_word<'a>(
     alloc: Global,
@@ -140,7 +142,8 @@ fn relay_command<'a>(alloc: Global) -> Result<Command<'a>, AllocError>
     let command = with_word(alloc, command, "accepts", "N", ACCEPTS_HELP)?;
     let command = with_word(alloc, command, "tries", "N", TRIES_HELP)?;
     let command = with_flag(alloc, command, "verbose", VERBOSE_HELP)?;
-    with_flag(alloc, command, "end-on-refusal", END_ON_REFUSAL_HELP)
+    let command = with_flag(alloc, command, "end-on-refusal", END_ON_REFUSAL_HELP)?;
+    with_flag(alloc, command, "prune", PRUNE_HELP)
 }
 
 /// The program's commands.

@@ -52,6 +52,8 @@ pub struct RelayOptions {
     pub verbose: bool,
     /// Whether the program ends once something that an upstream sends is refused.
     pub end_on_refusal: bool,
+    /// Whether links of older epochs are dropped once a newer one is shown.
+    pub prunes: bool,
 }
 
 // The word behind an option that has to be there.
@@ -199,5 +201,6 @@ pub(crate) fn relay_options(
         tries: count_of(alloc, found, CommandOption::Tries)?,
         verbose: has_flag(found, "verbose"),
         end_on_refusal: has_flag(found, "end-on-refusal"),
+        prunes: has_flag(found, "prune"),
     })
 }

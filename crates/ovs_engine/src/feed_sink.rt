@@ -5,7 +5,7 @@ ghost use Rattle.ovs_links.specs.Sets.{IsOfTables};
 
 use ovs_feed::{FeedEnd, FeedName, FeedQueue};
 use ovs_folder::NodeLink;
-use ovs_follow::{LinkSink, Unsent};
+use ovs_follow::LinkSink;
 use ovs_links::Link;
 use ovs_types::TxnId;
 use ovs_views::NodeName;
@@ -53,14 +53,9 @@ impl<'a, K: NodeName, Q: FeedName, R: Wait> LinkSink for FeedSink<'a, K, Q, R> {
 
     ghost sent = { λ s. s.end.1 };
 
-    fn send(&mut self, link: Link) -> Result<(), Unsent> {
+    fn send(&mut self, link: Link) {
         let id = link.id();
-        match self.end.send(self.rt, self.queue, NodeLink::new(link)) {
-            Ok(()) => {
-                self.last = Some(id);
-                Ok(())
-            }
-            Err(unsent) => Err(Unsent(unsent.0.into_link())),
-        }
+        self.end.send(self.rt, self.queue, NodeLink::new(link));
+        self.last = Some(id);
     }
 }

@@ -118,7 +118,7 @@ impl<'a, K: NodeName, Q: FeedName, B: Bell, O: Watcher, R: Wait> Folding<'a, K, 
         let folded = node.fold_next(self.rt, self.queue, self.board);
         self.progress.note_head(node.head());
         bells.ring_for(node.published_len());
-        if let Some(link) = node.take_refused() {
+        for link in node.take_refused() {
             self.note_refused(&link);
         }
         folded

@@ -6,7 +6,7 @@ ghost use Rattle.std.specs.List.{AllByRecursion};
 use crate::engine::Scene;
 use crate::fault::Fault;
 use crate::readers::{Chat, MemoryBell, ReaderDoors};
-use crate::upstreams::Upstream;
+use crate::upstreams::{UpSession, Upstream};
 use ovs_desk::RelayDesk;
 use ovs_engine::{Counters, Crew, Line, LockedDesk, UpstreamParts, WorkerParts};
 use ovs_json::Text;
@@ -63,6 +63,55 @@ pub(crate) type MemoryCrew<'a, 'x, K, Q, R> = Crew<
     MemoryBell,
 >;
 
+// An upstream for each of these lines, with the sessions of its number.
+fn add_upstreams<'a, 'x, K: NodeName, Q: FeedName, R: Wait>(
+    crew: MemoryCrew<'a, 'x, K, Q, R>,
+    stage: &'a Stage<'x, R>,
+    lines: Vec<Line<K, Q, Upstream>>,
+    upstreams: Vec<Vec<UpSession>>,
+    views: &mut Vec<View<K>>,
+) -> Result<MemoryCrew<'a, 'x, K, Q, R>, Fault> {
+    let mut crew = crew;
+    for (line, sessions) in lines.into_iter().zip(upstreams) {
+        let seen = stage.chat.seen.clone()?;
+        let view = views.pop().ok_or(Fault::BadCount)?;
+        let upstream = UpstreamParts {
+            line,
+            view,
+            connector: Upstream::new(sessions, seen),
+        };
+        if crew.add_upstream(upstream, None).is_err() {
+            return Err(Fault::NoMemory);
+        }
+    }
+    Ok(crew)
+}
+
+// The doors through which the reader comes.
+fn doors_of<R: Wait>(
+    stage: &Stage<'_, R>,
+    request: String,
+    until: u64,
+) -> Result<ReaderDoors, Fault> {
+    let [bell] = &stage.bells;
+    let chat = stage.chat.again()?;
+    let bell = bell.again()?;
+    Ok(ReaderDoors::new(chat, bell, request, until))
+}
+
+// The reader, who comes in at these doors.
+fn add_reader<'a, 'x, K: NodeName, Q: FeedName, R: Wait>(
+    crew: MemoryCrew<'a, 'x, K, Q, R>,
+    view: View<K>,
+    doors: ReaderDoors,
+) -> Result<MemoryCrew<'a, 'x, K, Q, R>, Fault> {
+    let mut crew = crew;
+    match crew.add_worker(WorkerParts { view, doors }) {
+        Ok(()) => Ok(crew),
+        Err(_) => Err(Fault::NoMemory),
+    }
+}
+
 /// The upstreams of a scene, and its reader.
 pub(crate) fn crew_of<'a, 'x, K: NodeName, Q: FeedName, R: Wait>(
     alloc: Global,
@@ -71,32 +120,18 @@ pub(crate) fn crew_of<'a, 'x, K: NodeName, Q: FeedName, R: Wait>(
     lines: Vec<Line<K, Q, Upstream>>,
     views: Vec<View<K>>,
 ) -> Result<MemoryCrew<'a, 'x, K, Q, R>, Fault> {
+    let Scene {
+        upstreams,
+        has_reader,
+        until,
+        request,
+    } = scene;
+    let doors = doors_of(stage, request, until)?;
     let mut views = views;
-    let mut crew = Crew::new(alloc);
-    for (line, sessions) in lines.into_iter().zip(scene.upstreams) {
-        let upstream = UpstreamParts {
-            line,
-            view: views.pop().ok_or(Fault::BadCount)?,
-            connector: Upstream::new(sessions, stage.chat.seen.clone()?),
-        };
-        if crew.add_upstream(upstream, None).is_err() {
-            return Err(Fault::NoMemory);
-        }
+    let crew = add_upstreams(Crew::new(alloc), stage, lines, upstreams, &mut views)?;
+    if !has_reader {
+        return Ok(crew);
     }
-    if scene.has_reader {
-        let [bell] = &stage.bells;
-        let worker = WorkerParts {
-            view: views.pop().ok_or(Fault::BadCount)?,
-            doors: ReaderDoors::new(
-                stage.chat.again()?,
-                bell.again()?,
-                scene.request,
-                scene.until,
-            ),
-        };
-        if crew.add_worker(worker).is_err() {
-            return Err(Fault::NoMemory);
-        }
-    }
-    Ok(crew)
+    let view = views.pop().ok_or(Fault::BadCount)?;
+    add_reader(crew, view, doors)
 }

@@ -95,9 +95,7 @@ fn published<K: NodeName, Q: FeedName, R: Wait>(
     } = node.named::<Q>()?;
     let mut end = ends.pop().ok_or(Fault::BadCount)?;
     let view = views.pop().ok_or(Fault::BadCount)?;
-    if end.send(rt, &queue, link).is_err() {
-        return Err(Fault::NotDrained);
-    }
+    end.send(rt, &queue, link);
     node.fold_next(rt, &queue, &board)?;
     served(rt, alloc, view, scene)
 }

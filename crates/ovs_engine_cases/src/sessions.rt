@@ -25,39 +25,62 @@ impl Script {
     }
 }
 
-// The request `[METHOD, PARAMS, RESULT]` of this number in its session, and the reply to it, where `#` stands for the session.
-fn exchange(alloc: Global, number: usize, json: &Value) -> Result<(String, String), Fault> {
+// The request of this number in its session, which `#` stands for.
+fn request_of(
+    alloc: Global,
+    number: usize,
+    method: &Value,
+    params: &Value,
+) -> Result<String, Fault> {
+    let method = method.to_string(alloc)?;
+    let params = params.to_string(alloc)?;
+    Ok(format!(in alloc; "{{\"method\":{method},\"params\":{params},\"id\":\"{number} of #\"}}")?)
+}
+
+// The reply to the request of this number.
+fn reply_of(alloc: Global, number: usize, answer: &Value) -> Result<String, Fault> {
+    let answer = answer.to_string(alloc)?;
+    Ok(format!(in alloc; "{{\"error\":null,\"id\":\"{number} of #\",\"result\":{answer}}}")?)
+}
+
+// Adds the request `[METHOD, PARAMS, RESULT]` of this number to what is sent, and the reply to it to what is to be written.
+fn add_exchange(
+    alloc: Global,
+    number: usize,
+    json: &Value,
+    text: &mut String,
+    wanted: &mut String,
+) -> Result<(), Fault> {
     let [method, params, result] = json.as_array().ok_or(Fault::Malformed)?.as_slice() else {
         return Err(Fault::Malformed);
     };
-    let method = method.to_string(alloc)?;
-    let params = params.to_string(alloc)?;
-    let result = result.to_string(alloc)?;
-    let request = format!(in alloc;
-        "{{\"method\":{method},\"params\":{params},\"id\":\"{number} of #\"}}"
-    )?;
-    let reply = format!(in alloc;
-        "{{\"error\":null,\"id\":\"{number} of #\",\"result\":{result}}}"
-    )?;
-    Ok((request, reply))
+    text.push_str(request_of(alloc, number, method, params)?.as_str())?;
+    wanted.push_str(reply_of(alloc, number, result)?.as_str())?;
+    Ok(())
 }
 
 // What each session sends, and what is to be written to it, where `#` stands for its number.
 fn read_talk(alloc: Global, json: &Value) -> Result<(String, String), Fault> {
     let mut text = String::new(alloc);
     let mut wanted = String::new(alloc);
-    for (number, json) in json
-        .as_array()
-        .ok_or(Fault::Malformed)?
-        .as_slice()
-        .iter()
-        .enumerate()
-    {
-        let (request, reply) = exchange(alloc, number, json)?;
-        text.push_str(request.as_str())?;
-        wanted.push_str(reply.as_str())?;
+    let exchanges = json.as_array().ok_or(Fault::Malformed)?.as_slice();
+    for (number, json) in exchanges.iter().enumerate() {
+        add_exchange(alloc, number, json, &mut text, &mut wanted)?;
     }
     Ok((text, wanted))
+}
+
+// The script of the session of this number.
+fn script_of(alloc: Global, number: u64, text: &str, wanted: &str) -> Result<Script, Fault> {
+    let number = format!(in alloc; "{number}")?;
+    let text = text.replace(alloc, '#', number.as_str())?;
+    let wanted = wanted.replace(alloc, '#', number.as_str())?;
+    Ok(Script {
+        text,
+        left: AtomicU64::new(wanted.len() as u64),
+        wanted,
+        is_wrong: AtomicBool::new(false),
+    })
 }
 
 /// The scripts of so many sessions.
@@ -65,14 +88,7 @@ pub(crate) fn read_scripts(alloc: Global, count: u64, talk: &Value) -> Result<Ve
     let (text, wanted) = read_talk(alloc, talk)?;
     let mut scripts = Vec::new(alloc);
     for number in 0..count {
-        let number = format!(in alloc; "{number}")?;
-        let wanted = wanted.as_str().replace(alloc, '#', number.as_str())?;
-        scripts.push(Script {
-            text: text.as_str().replace(alloc, '#', number.as_str())?,
-            left: AtomicU64::new(wanted.len() as u64),
-            wanted,
-            is_wrong: AtomicBool::new(false),
-        })?;
+        scripts.push(script_of(alloc, number, text.as_str(), wanted.as_str())?)?;
     }
     Ok(scripts)
 }

@@ -34,6 +34,10 @@ module _ {T : Type 0} where
   abbrev pub IsFeedOf : TableId → FeedValue T → Pass (Item T) (Side T) → Type 0
   IsFeedOf table f p = (p.table_id ≡ table) × (p.me.1 ≡ []) × (view p ≡ folder f.taken f.ends f.returned)
 
+  -- what a pass of an end knows to have been sent
+  abbrev pub sent_by : Pass (Item T) (Side T) → List T
+  sent_by p = (view p).sent
+
   -- it is the pass of an end of this table, with this number, that sent this
   abbrev pub IsEndOf : TableId → ℕ → List T → Pass (Item T) (Side T) → Type 0
   IsEndOf table number sent p = (p.table_id ≡ table) × (p.me.1 ≡ []) × (view p ≡ end number sent)

@@ -10,7 +10,6 @@ use crate::item::Item;
 use crate::queue::{FeedName, FeedQueue};
 use crate::rule::{Making, Returning, Side, Taking};
 use crossbeam_queue::Pass;
-use std::alloc::Global;
 use std::marker::{Model, PhantomData};
 use std::sync::Wait;
 
@@ -38,7 +37,7 @@ impl<T: Drop, K: FeedName> Model for Feed<T, K> {
 
 impl<T: Drop, K: FeedName> Feed<T, K> {
     /// A new end, which has sent nothing. Its number is how many ends were made before it.
-    pub fn new_end(&mut self, alloc: Global, queue: &FeedQueue<T, K>) -> FeedEnd<T, K>
+    pub fn new_end(&mut self, queue: &FeedQueue<T, K>) -> FeedEnd<T, K>
         requires room { self.old.ends < 2 ^ 32 }
         ensures feed { self.new ≡ record { taken = self.old.taken; ends = self.old.ends + 1; returned = self.old.returned } }
         ensures end { result ≡ (self.old.ends, []) }
@@ -49,7 +48,6 @@ impl<T: Drop, K: FeedName> Feed<T, K> {
         FeedEnd {
             pass,
             number,
-            sent: Vec::new(alloc),
             of: PhantomData,
         }
     }
@@ -86,21 +84,18 @@ impl<T: Drop, K: FeedName> Feed<T, K> {
         self.returned
     }
 
-    /// An end comes back, the next one by its number: the feed knows from then on what it sent, which is handed out.
-    pub fn join(&mut self, queue: &FeedQueue<T, K>, end: FeedEnd<T, K>) -> Vec<T>
+    /// An end comes back, the next one by its number: contracts speak from then on of what it sent.
+    pub fn join(&mut self, queue: &FeedQueue<T, K>, end: FeedEnd<T, K>)
         requires next { end.0 ≡ length self.old.returned }
         requires made { length self.old.returned < self.old.ends }
         ensures feed { self.new ≡ record { taken = self.old.taken; ends = self.old.ends; returned = self.old.returned ++ end.1 ∷ [] } }
-        ensures sent { result.items ≡ end.1 }
     {
         let FeedEnd {
             pass,
             number: _,
-            sent,
             of: _,
         } = end;
         queue.items.absorb::<Returning>(&mut self.pass, pass);
         self.returned += 1;
-        sent
     }
 }

@@ -9,6 +9,6 @@ mod queue;
 mod rule;
 
 pub use feed::Feed;
-pub use feed_end::{FeedEnd, Unsent};
-pub use item::{Copied, Item};
+pub use feed_end::FeedEnd;
+pub use item::Item;
 pub use queue::{FEED_ROOM, FeedName, FeedQueue, OpenFeed};

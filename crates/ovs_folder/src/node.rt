@@ -1,17 +1,18 @@
 //! Takes, folds and publishes.
 
-ghost use Rattle.std.specs.Prelude.{◌≡◌, ◌⊎◌, ◌++◌, ◌∷◌, ◌↔◌, [], Ok, None, true, false, OnOk, IfErr, IsTrue, length, map};
+ghost use Rattle.std.specs.Prelude.{◌≡◌, ◌≢◌, ◌⊎◌, ◌++◌, ◌∷◌, ◌↔◌, [], Ok, true, false, OnOk, IfErr, IsTrue, length};
 ghost use Rattle.left_right.specs.Handles.{published, pending};
 ghost use Rattle.ovs_feed.specs.Feed.{IsDrained};
-ghost use Rattle.ovs_links.specs.Sets.{Holds};
+ghost use Rattle.ovs_links.specs.Pruning.{IsOld};
+ghost use Rattle.ovs_links.specs.Sets.{Contradict, Holds};
 ghost use Rattle.ovs_links.specs.Settling.{chain_of, settled_of};
-ghost use Rattle.ovs_links.specs.Store.{head_of};
+ghost use Rattle.ovs_links.specs.Store.{head_of, start_in};
 ghost use Rattle.ovs_links.specs.declared.link.Link.{Link};
 ghost use Rattle.ovs_views.specs.Published.{IsNodeChain, all_with};
 ghost use Rattle.ovs_links.specs.Absorbing.{StepsGoOn, last_chain};
 ghost use Rattle.ovs_links.specs.StepChains.{start_of_steps};
 ghost use Rattle.ovs_folder.specs.InStep.{HasShown, IsAtRest, IsInStep, IsOneChain};
-ghost use Rattle.ovs_folder.specs.Ledger.{IsAccountOf, TakesOne, WasSent, steps_in};
+ghost use Rattle.ovs_folder.specs.Ledger.{IsAccountOf, KeepsPruning, TakesOne, TellsMore, WasSent, steps_in};
 
 use crate::intake::{Closed, Intake};
 use crate::node_link::NodeLink;
@@ -93,18 +94,22 @@ impl<K: NodeName, Q: FeedName, R: Wait + Drop> Node<K, Q, Handle<K, R>> {
         }
     }
 
-    // Takes what was kept, settles and publishes.
+    // Takes what was kept, settles and publishes, and drops old links then.
     #[tactic(auto, using(ovs_links::proofs::AbsorbingLemmas::goes_on))]
     fn work_off(&mut self) -> Result<(), NoMemory>
         requires in_step { IsInStep (published self.old.publisher.handle) (pending self.old.publisher.handle) self.old.publisher.front self.old.publisher.kept (steps_in self.old.intake.store) }
         ensures in_step { IsInStep (published self.new.publisher.handle) (pending self.new.publisher.handle) self.new.publisher.front self.new.publisher.kept (steps_in self.new.intake.store) }
         ensures feed { self.new.intake.feed ≡ self.old.intake.feed }
         ensures rest { OnOk result (IsAtRest self.new.intake self.new.settled (published self.new.publisher.handle)) }
+        ensures told { TellsMore self.old.intake self.new.intake }
+        ensures pruning { KeepsPruning self.old.intake self.new.intake }
     {
         self.intake.take_kept()?;
         self.settled = self.intake.settle(self.alloc)?;
         let folded = self.intake.folded();
-        show(&mut self.publisher, folded.start(), folded.steps())
+        show(&mut self.publisher, folded.start(), folded.steps())?;
+        self.intake.prune();
+        Ok(())
     }
 
     // Takes what was kept, settles and publishes, and posts what is published then.
@@ -117,6 +122,8 @@ impl<K: NodeName, Q: FeedName, R: Wait + Drop> Node<K, Q, Handle<K, R>> {
         ensures in_step { IsInStep (published self.new.publisher.handle) (pending self.new.publisher.handle) self.new.publisher.front self.new.publisher.kept (steps_in self.new.intake.store) }
         ensures feed { self.new.intake.feed ≡ self.old.intake.feed }
         ensures rest { OnOk result (IsAtRest self.new.intake self.new.settled (published self.new.publisher.handle)) }
+        ensures told { TellsMore self.old.intake self.new.intake }
+        ensures pruning { KeepsPruning self.old.intake self.new.intake }
     {
         self.work_off()?;
         board.lock(rt).post(&self.publisher.told());
@@ -140,6 +147,8 @@ impl<K: NodeName, Q: FeedName, R: Wait + Drop> Node<K, Q, Handle<K, R>> {
         ensures once { (self.new.intake.feed ≡ self.old.intake.feed) ⊎ TakesOne self.old.intake.feed self.new.intake.feed }
         ensures popped { result ≡ Ok true → TakesOne self.old.intake.feed self.new.intake.feed }
         ensures drained { result ≡ Ok false → (self.new.intake.feed ≡ self.old.intake.feed) × IsDrained self.old.intake.feed }
+        ensures told { TellsMore self.old.intake self.new.intake }
+        ensures pruning { KeepsPruning self.old.intake self.new.intake }
     {
         self.work_off_and_post(rt, board)?;
         if !self.intake.pop(rt, queue) {
@@ -172,10 +181,14 @@ impl<K: NodeName, Q: FeedName, R: Wait + Drop> Node<K, Q, Handle<K, R>> {
         ensures settled { result.settled ≡ settled_of result.store }
         // A view that learns what is told answers from all of the chain, and reads on while the publisher lives.
         ensures told { (last_chain result.told ≡ steps_in result.store) × (result.told ≡ published result.publisher.handle) }
-        ensures sent { map (λ v. v.items) result.sent.items ≡ self.intake.feed.returned }
-        ensures held { (l : Link) → Holds result.store.links l → WasSent (map (λ v. v.items) result.sent.items) l }
-        ensures account { IsAccountOf result.store.links self.intake.feed.taken None result.forks result.short }
-        ensures whole { result.forks ≡ 0 → result.short ≡ 0 → (l : Link) → WasSent (map (λ v. v.items) result.sent.items) l → Holds result.store.links l }
+        ensures account { IsAccountOf self.intake }
+        ensures counts { (result.forks ≡ self.intake.forks) × (result.short ≡ self.intake.short) × (result.dropped ≡ self.intake.dropped) × (result.refused.items ≡ self.intake.untold) }
+        // Each held link was sent by an end. Where none was refused, each that an end sent is held, but for those that can be reached
+        // from a lower start than the chain's, where any was dropped.
+        ensures held { (l : Link) → Holds result.store.links l → WasSent self.intake.feed.returned l }
+        ensures whole { result.forks ≡ 0 → result.short ≡ 0 → (l : Link) → WasSent self.intake.feed.returned l
+            → ¬ ((result.dropped ≢ 0) × IsOld (WasSent self.intake.feed.returned) (start_in result.store) l) → Holds result.store.links l }
+        ensures agree { ((l m : Link) → WasSent self.intake.feed.returned l → WasSent self.intake.feed.returned m → ¬ (Contradict l m)) → result.forks ≡ 0 }
     {
         let Node {
             alloc: _,
@@ -187,15 +200,17 @@ impl<K: NodeName, Q: FeedName, R: Wait + Drop> Node<K, Q, Handle<K, R>> {
             store,
             forks,
             short,
-            sent,
+            dropped,
+            refused,
         } = intake.close();
         let told = publisher.told();
         Report {
             store,
             settled,
-            sent,
             forks,
             short,
+            dropped,
+            refused,
             told,
             publisher,
         }
@@ -211,18 +226,27 @@ impl<K: NodeName, Q: FeedName, H> Node<K, Q, H> {
         end: FeedEnd<NodeLink<K>, Q>,
     ) -> Result<(), FeedEnd<NodeLink<K>, Q>>
         ensures feed { OnOk result (self.new.intake.feed ≡ record { taken = self.old.intake.feed.taken; ends = self.old.intake.feed.ends; returned = self.old.intake.feed.returned ++ end.1 ∷ [] }) }
-        ensures store { (self.new.intake.store ≡ self.old.intake.store) × (self.new.intake.kept ≡ self.old.intake.kept) }
+        ensures others { (self.new.intake ≡ record self.old.intake { feed = self.new.intake.feed }) × (self.new.settled ≡ self.old.settled) }
         ensures publisher { self.new.publisher ≡ self.old.publisher }
         ensures other { IfErr result (λ back. (back ≡ end) × (self.new.intake ≡ self.old.intake)) }
     {
         self.intake.join(queue, end)
     }
 
-    /// The last link that was refused, if one was since this was asked.
-    pub fn take_refused(&mut self) -> Option<RefusedLink>
-        ensures unchanged { self.new ≡ self.old }
+    /// Says whether links that can be reached from a lower start than that of the chain are to be dropped, once the chain is
+    /// published. At first they aren't.
+    pub fn prune_old(&mut self, prunes: bool)
+        ensures set { self.new ≡ record self.old { intake = record self.old.intake { prunes = prunes } } }
     {
-        self.intake.take_refused()
+        self.intake.prune_old(prunes);
+    }
+
+    /// The links that were refused since this was asked, in the order in which they came.
+    pub fn take_refused(&mut self) -> Vec<RefusedLink>
+        ensures all { result.items ≡ self.old.intake.untold }
+        ensures told { self.new ≡ record self.old { intake = record self.old.intake { untold = [] } } }
+    {
+        self.intake.take_refused(self.alloc)
     }
 
     /// Whether all ends are back.

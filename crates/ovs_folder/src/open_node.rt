@@ -1,6 +1,6 @@
 //! How a node is made.
 
-ghost use Rattle.std.specs.Prelude.{◌≡◌, ◌≢◌, ◌≤◌, ◌↔◌, [], None, IfErr, IfOk, MatchResult, OnOk, vec_len};
+ghost use Rattle.std.specs.Prelude.{◌≡◌, ◌≢◌, ◌≤◌, ◌↔◌, [], None, false, IfErr, IfOk, MatchResult, OnOk, vec_len};
 ghost use Rattle.left_right.specs.Handles.{published, pending};
 ghost use Rattle.ovs_folder.specs.InStep.{IsInStep};
 ghost use Rattle.ovs_folder.specs.Ledger.{AreCounts, IsFresh, fresh_ends, steps_in};
@@ -171,7 +171,7 @@ impl<K: NodeName, R: Wait + Drop> OpenNode<K, Handle<K, R>> {
         requires store { IsFresh K.schema self.store }
         requires publisher { IsInStep (published self.publisher.handle) (pending self.publisher.handle) self.publisher.front self.publisher.kept [] }
         ensures in_step { IfOk result (λ p. IsInStep (published p.node.publisher.handle) (pending p.node.publisher.handle) p.node.publisher.front p.node.publisher.kept (steps_in p.node.intake.store)) }
-        ensures intake { IfOk result (λ p. p.node.intake ≡ record { store = self.store; feed = record { taken = []; ends = self.upstreams; returned = [] }; kept = None; forks = 0; short = 0 }) }
+        ensures intake { IfOk result (λ p. p.node.intake ≡ record { store = self.store; feed = record { taken = []; ends = self.upstreams; returned = [] }; kept = None; forks = 0; short = 0; dropped = 0; prunes = false; untold = [] }) }
         ensures ends { IfOk result (λ p. p.ends.items ≡ fresh_ends self.upstreams) }
         ensures views { IfOk result (λ p. p.views.items ≡ self.views.items) }
     {
@@ -186,7 +186,7 @@ impl<K: NodeName, R: Wait + Drop> OpenNode<K, Handle<K, R>> {
         } = self;
         let (queue, mut feed) = feed.named::<Q>();
         let ends = ends_of(alloc, &queue, &mut feed, upstreams)?;
-        let intake = Intake::new(alloc, store, feed)?;
+        let intake = Intake::new(alloc, store, feed);
         Ok(Parts {
             node: Node::new(alloc, intake, publisher),
             queue,
@@ -230,7 +230,7 @@ fn ends_of<K: NodeName, Q: FeedName>(
     let mut ends = Vec::with_capacity(alloc, count)?;
     for number in 0..count {
         let _ = number;
-        ends.push_reserved(feed.new_end(alloc, queue));
+        ends.push_reserved(feed.new_end(queue));
     }
     Ok(ends)
 }

@@ -1,4 +1,3 @@
 pub mod Following
 pub mod Deriving
 pub mod Followed
-pub mod Sending

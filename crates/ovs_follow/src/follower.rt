@@ -102,7 +102,10 @@ impl<S: LinkSink, D: SourceSide + Drop> Follower<S, D> {
         ensures bad { result ≡ Err Refusal.BadInput → IsForSource event }
     {
         match event {
-            UpEvent::Links(links) => Ok(session.send(links)?),
+            UpEvent::Links(links) => {
+                session.send(links);
+                Ok(())
+            }
             UpEvent::Send(message) => Ok(say(self.alloc, &message, out)?),
             UpEvent::ReplyFor { number, answer } => {
                 let standing = standing_at(session.up().stage());

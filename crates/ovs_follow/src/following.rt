@@ -1,6 +1,6 @@
 //! What is known of one session with an upstream.
 
-ghost use Rattle.std.specs.Prelude.{◌≡◌, ◌≤◌, [], ◌∷◌, ◌++◌, ℕ, List, true, IfOk, IfErr, OnOk, OnErr, length};
+ghost use Rattle.std.specs.Prelude.{◌≡◌, ◌≤◌, ◌++◌, ℕ, List, true, IfOk, IfErr, OnOk, OnErr, length};
 ghost use Rattle.ovs_links.specs.Sets.{AllOf, IsOfTables};
 ghost use Rattle.ovs_links.specs.declared.link.Link.{Link};
 ghost use Rattle.ovs_upstream.specs.Hearing.{at_stage};
@@ -95,28 +95,14 @@ impl<S: LinkSink> Following<S> {
         Ok(())
     }
 
-    /// Sends the link, where there is one. After `NoMemory` nothing was sent.
-    pub(crate) fn send(&mut self, links: Links) -> Result<(), NoMemory>
+    /// Sends the link, where there is one.
+    pub(crate) fn send(&mut self, links: Links)
         requires one { length links ≤ 1 }
         requires tables { AllOf (IsOfTables self.old.up.schema.description.tables) links }
-        ensures sent { OnOk result (self.new ≡ record self.old { sent = self.old.sent ++ links }) }
-        ensures unsent { OnErr result (self.new ≡ self.old) }
+        ensures sent { self.new ≡ record self.old { sent = self.old.sent ++ links } }
     {
-        match links.into_vec().pop() {
-            Some(link) => self.send_one(link),
-            None => Ok(()),
-        }
-    }
-
-    // Sends a link.
-    fn send_one(&mut self, link: Link) -> Result<(), NoMemory>
-        requires tables { IsOfTables self.old.up.schema.description.tables link }
-        ensures sent { OnOk result (self.new ≡ record self.old { sent = self.old.sent ++ link ∷ [] }) }
-        ensures unsent { OnErr result (self.new ≡ self.old) }
-    {
-        match self.sink.send(link) {
-            Ok(()) => Ok(()),
-            Err(_) => Err(NoMemory),
+        if let Some(link) = links.into_vec().pop() {
+            self.sink.send(link);
         }
     }
 

@@ -1,7 +1,7 @@
 //! A node in threads: what its parts are, in one place.
 #![tactic(auto)]
 
-pub use ovs_feed::{FeedEnd, FeedName, FeedQueue, Unsent};
+pub use ovs_feed::{FeedEnd, FeedName, FeedQueue};
 pub use ovs_folder::{
     MAX_UPSTREAMS, MAX_VIEWS, Node, NodeError, NodeLink, OpenNode, Parts, Report,
 };

@@ -6,7 +6,9 @@ ghost use Rattle.ovs_folder.specs.Ledger.{steps_in};
 
 use crate::fault::Fault;
 use crate::jobs::Sent;
-use ovs_node::{Board, FeedName, FeedQueue, Handle, Node, NodeLink, NodeName, Report, View};
+use ovs_node::{
+    Board, FeedEnd, FeedName, FeedQueue, Handle, Node, NodeLink, NodeName, Report, View,
+};
 use ovs_types::NoMemory;
 use std::sync::atomic::{AtomicU64, Ordering};
 use std::sync::{Mutex, Wait};
@@ -61,13 +63,25 @@ fn take_one_back<K: NodeName, Q: FeedName, H: Wait + Drop>(
     ensures in_step { IsInStep (published node.new.publisher.handle) (pending node.new.publisher.handle) node.new.publisher.front node.new.publisher.kept (steps_in node.new.intake.store) }
 {
     let (end, handle, known, is_whole) = sent;
-    let is_back = node.join(queue, end).is_ok();
+    let is_back = is_joined(queue, node, end);
     views.push(View::new(handle, known))?;
     match (is_back, is_whole) {
         (true, true) => Ok(()),
         (true, false) => Err(Fault::Unsent),
         (false, _) => Err(Fault::NotDrained),
     }
+}
+
+// Whether an end was the next to come back, and did.
+fn is_joined<K: NodeName, Q: FeedName, H: Wait + Drop>(
+    queue: &FeedQueue<NodeLink<K>, Q>,
+    node: &mut Node<K, Q, Handle<K, H>>,
+    end: FeedEnd<NodeLink<K>, Q>,
+) -> bool
+    requires in_step { IsInStep (published node.old.publisher.handle) (pending node.old.publisher.handle) node.old.publisher.front node.old.publisher.kept (steps_in node.old.intake.store) }
+    ensures in_step { IsInStep (published node.new.publisher.handle) (pending node.new.publisher.handle) node.new.publisher.front node.new.publisher.kept (steps_in node.new.intake.store) }
+{
+    node.join(queue, end).is_ok()
 }
 
 /// Takes the ends back, and ends the node.

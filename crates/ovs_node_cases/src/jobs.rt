@@ -76,7 +76,8 @@ impl<'a, K: NodeName, Q: FeedName, R: Wait> Sends<'a, K, Q, R> {
                 return false;
             }
         }
-        end.send(self.rt, self.queue, link).is_ok()
+        end.send(self.rt, self.queue, link);
+        true
     }
 
     // Sends all, in order, up to the first that isn't sent.

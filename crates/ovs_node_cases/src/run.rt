@@ -85,8 +85,8 @@ fn outcome<K: NodeName, Q: FeedName, H: Wait + Drop, R: Wait>(
 ) -> Result<String, Fault>
     requires in_step { IsInStep (published node.publisher.handle) (pending node.publisher.handle) node.publisher.front node.publisher.kept (steps_in node.intake.store) }
 {
-    let (views, answers) = views_of(alloc, seen)?;
-    let mut views = views;
+    let answers = answers_of(seen.as_slice());
+    let mut views = views_of(alloc, seen)?;
     let report = finished(rt, queue, board, node, sent, &mut views)?;
     if is_measured {
         measured(alloc, &report, answers)
@@ -95,15 +95,22 @@ fn outcome<K: NodeName, Q: FeedName, H: Wait + Drop, R: Wait>(
     }
 }
 
-// The views, and how often all of them answered.
-fn views_of<K: NodeName>(alloc: Global, seen: Vec<Seen<K>>) -> Result<(Vec<View<K>>, u64), Fault> {
-    let mut views = Vec::new(alloc);
+// How often all views answered.
+fn answers_of<K: NodeName>(seen: &[Seen<K>]) -> u64 {
     let mut total = 0u64;
-    for (handle, known, answers) in seen {
-        views.push(View::new(handle, known))?;
-        total = total.saturating_add(answers);
+    for number in 0..seen.len() {
+        total = total.saturating_add(seen[number].2);
     }
-    Ok((views, total))
+    total
+}
+
+// The views.
+fn views_of<K: NodeName>(alloc: Global, seen: Vec<Seen<K>>) -> Result<Vec<View<K>>, Fault> {
+    let mut views = Vec::new(alloc);
+    for (handle, known, _answers) in seen {
+        views.push(View::new(handle, known))?;
+    }
+    Ok(views)
 }
 
 // Each end with a view and what it is to send.
@@ -116,25 +123,36 @@ fn senders_of<K: NodeName, Q: FeedName>(
     let mut senders = Vec::new(alloc);
     for (end, sendings) in ends.into_iter().zip(sendings) {
         let view = views.pop().ok_or(Fault::Malformed)?;
-        let sendings = apart(alloc, sendings)?;
+        let afters = afters_of(alloc, sendings.as_slice())?;
+        let links = links_of(alloc, sendings)?;
         let (handle, known) = view.into_parts();
-        senders.push((end, handle, known, sendings))?;
+        senders.push((end, handle, known, (links, afters)))?;
     }
     Ok(senders)
 }
 
-// The links, and what each waits for.
-fn apart<K: NodeName>(
+// What each waits for.
+fn afters_of<K: NodeName>(
+    alloc: Global,
+    sendings: &[Sending<K>],
+) -> Result<Vec<Option<TxnId>>, Fault> {
+    let mut afters = Vec::new(alloc);
+    for number in 0..sendings.len() {
+        afters.push(sendings[number].after)?;
+    }
+    Ok(afters)
+}
+
+// The links alone.
+fn links_of<K: NodeName>(
     alloc: Global,
     sendings: Vec<Sending<K>>,
-) -> Result<(Vec<NodeLink<K>>, Vec<Option<TxnId>>), Fault> {
+) -> Result<Vec<NodeLink<K>>, Fault> {
     let mut links = Vec::new(alloc);
-    let mut afters = Vec::new(alloc);
-    for Sending { after, link } in sendings {
-        links.push(link)?;
-        afters.push(after)?;
+    for sending in sendings {
+        links.push(sending.link)?;
     }
-    Ok((links, afters))
+    Ok(links)
 }
 
 // The views that only read.

@@ -1,13 +1,11 @@
 //! What the thread of a source's desk sends with.
 
-ghost use Rattle.std.specs.Prelude.{◌≡◌, [], None};
-ghost use Rattle.ovs_session.specs.declared.ended.Ended.{Ended};
+ghost use Rattle.std.specs.Prelude.{◌≡◌, []};
 ghost use Rattle.ovs_links.specs.Sets.{AllOf};
 
 use crate::origin_desk::OriginDesk;
 use ovs_feed::{FeedEnd, FeedName};
 use ovs_folder::NodeLink;
-use ovs_links::Link;
 use ovs_session::Ended;
 use ovs_views::NodeName;
 use std::marker::PhantomData;
@@ -20,16 +18,13 @@ pub struct SourceLine<K: NodeName, Q: FeedName, L: OriginDesk<K>> {
     ghost admitted: { ∥ AllOf L.gives end.1 ∥₁ },
 }
 
-/// What is left of it once nothing more is sent: where that ended `Closed`, no link that was taken from the desk is unsent.
+/// What is left of it once nothing more is sent.
 #[derive(Drop)]
 pub struct SourceSent<K: NodeName, Q: FeedName, L: OriginDesk<K>> {
     /// What the links were sent with.
     pub line: SourceLine<K, Q, L>,
-    /// A link that was taken from the desk and wasn't sent, since memory ran out.
-    pub unsent: Option<Link>,
-    /// Why nothing more is sent.
+    /// `Closed` where its thread came to its end, and `NoMemory` where there was no memory for one, so that none was sent.
     pub ended: Ended,
-    pub ghost whole: { ended ≡ Ended.Closed → unsent ≡ None },
 }
 
 impl<K: NodeName, Q: FeedName, L: OriginDesk<K>> SourceLine<K, Q, L> {

@@ -81,25 +81,18 @@ impl<'a, K: NodeName, Q: FeedName, L: OriginDesk<K>, R: Wait> Feeds<
             self.running,
             sink,
         );
-        let SourceFollowed {
-            sink,
-            unsent,
-            counts,
-            ended,
-        } = followed;
+        let SourceFollowed { sink, counts } = followed;
         tally.add(counts);
         let (end, _last) = sink.into_parts();
         SourceSent {
             line: SourceLine::again(end),
-            unsent,
-            ended,
+            ended: Ended::Closed,
         }
     }
 
     fn refuse(&self, line: SourceLine<K, Q, L>) -> SourceSent<K, Q, L> {
         SourceSent {
             line,
-            unsent: None,
             ended: Ended::NoMemory,
         }
     }

@@ -85,6 +85,7 @@ fn relay<
         accepts: options.accepts,
         tries: options.tries,
         ends_on_refusal: options.end_on_refusal,
+        prunes: options.prunes,
     };
     let level = level_of(options.verbose, options.end_on_refusal);
     Relay::open(Logged::new(rt, level, LogLines(rt)), alloc, plan)?.run(schema)

@@ -1,6 +1,6 @@
 //! What a node says at its end.
 
-ghost use Rattle.std.specs.Prelude.{◌≡◌, None, IfOk, OnOk, if◌then◌else◌, string_bytes};
+ghost use Rattle.std.specs.Prelude.{◌≡◌, IfOk, OnOk, if◌then◌else◌, string_bytes};
 ghost use Rattle.left_right.specs.Handles.{published, pending};
 ghost use Rattle.ovs_fold.specs.Closing.{chain_lines};
 ghost use Rattle.ovs_folder.specs.InStep.{IsInStep};
@@ -106,11 +106,10 @@ fn ends_of_relay<K: NodeName, Q: FeedName, C: Connector, D: Drop, N>(
     Ok(ends)
 }
 
-// What the thread of a source's desk sent with, where it sent all that the desk gave.
+// What the thread of a source's desk sent with, where there was one.
 fn end_of<K: NodeName, Q: FeedName, L: OriginDesk<K>>(
     sent: SourceSent<K, Q, L>,
 ) -> Result<FeedEnd<NodeLink<K>, Q>, TierError>
-    ensures all_sent { OnOk result (sent.unsent ≡ None) }
     ensures whole { OnOk result (sent.ended ≡ Ended.Closed) }
 {
     match sent.ended {

@@ -45,6 +45,8 @@ pub struct RelayPlan<'a> {
     pub tries: u32,
     /// Whether it comes to its end once a link was refused.
     pub ends_on_refusal: bool,
+    /// Whether it drops the links of older epochs once a newer one is published.
+    pub prunes: bool,
 }
 
 /// A relay that listens, and is served once it runs.
@@ -56,6 +58,7 @@ pub struct Relay<R: Net + Log + Drop> {
     upstreams: Upstreams<R>,
     ending: Arc<Ending>,
     ends_on_refusal: bool,
+    prunes: bool,
 }
 
 impl<
@@ -86,6 +89,7 @@ impl<
             upstreams,
             ending: Arc::new(alloc, ending)?,
             ends_on_refusal: plan.ends_on_refusal,
+            prunes: plan.prunes,
         })
     }
 
@@ -319,7 +323,7 @@ fn run<
     requires unsent { AllByRecursion (λ e. e.1 ≡ []) parts.ends.items }
 {
     let Parts {
-        node,
+        mut node,
         queue,
         ends,
         views,
@@ -331,8 +335,10 @@ fn run<
         upstreams,
         ending,
         ends_on_refusal,
+        prunes,
         ..
     } = relay;
+    node.prune_old(prunes);
     let Places { doors, bells, .. } = places;
     let Upstreams {
         connectors,

@@ -113,7 +113,7 @@ impl<
     /// Runs it until all its threads have come to their ends.
     ///
     /// # Errors
-    /// `NoMemory`, also where not all of its links could be sent; `NotBack`.
+    /// `NoMemory`, also where there was none for the thread that sends its links; `NotBack`.
     pub fn run(self, schema: &Schema) -> Result<Closing, TierError> {
         let opened = Opened::<Step>::new();
         open::<Brand, R>(self, schema, opened)
@@ -168,7 +168,17 @@ fn named<
     run(rt, source, schema, parts)
 }
 
-// A desk of a source without a commit. It begins no other epoch where none is wanted, nor where one is after no link.
+// Has the desk begin a new epoch after so many links, where that is wanted; none where it is after no link.
+fn renew_every(desk: &mut SourceDesk, every: Option<u32>)
+    ensures schema { desk.new.source.schema ≡ desk.old.source.schema }
+{
+    match every {
+        Some(every) if every > 0 => desk.trim_every(u64::from(every)),
+        _ => {}
+    }
+}
+
+// A desk of a source without a commit.
 fn desk_of<K: NodeName>(
     alloc: Global,
     schema: &Schema,
@@ -179,11 +189,7 @@ fn desk_of<K: NodeName>(
     let source = Source::new(alloc, schema)?;
     let fresh = FreshRows::new(begins.first_row);
     let mut desk = SourceDesk::new(alloc, source, fresh, begins.first_commit);
-    if let Some(every) = begins.trim_every
-        && every > 0
-    {
-        desk.trim_every(u64::from(every));
-    }
+    renew_every(&mut desk, begins.trim_every);
     Ok(NodeSource::new(desk))
 }
 

@@ -86,6 +86,7 @@ fn relay<
         accepts: MOST_CONNECTIONS,
         tries: MOST_CONNECTIONS,
         ends_on_refusal: false,
+        prunes: false,
     };
     Ok(Relay::open(rt, alloc, plan)?)
 }

@@ -18,4 +18,5 @@ returns c =
     ∙ more (word_rule (codes "accepts")) (c.in_ok-command-3.ensures.value ∙ more (list_rule (codes "upstream")) listens) in
     let words : app_of c.in_ok-command-5.command ≡ relay_words = c.in_ok-command-5.ensures.value ∙ more (word_rule (codes "tries")) accepts in
     let tells = c.in_ok-command-6.ensures.value ∙ more (flag_rule (codes "verbose")) words in
-    record { value = IfOk-weaker c.with_flag-2.result _ _ (λ m is. is ∙ more (flag_rule (codes "end-on-refusal")) tells) c.with_flag-2.ensures.value }
+    let ends = c.in_ok-command-7.ensures.value ∙ more (flag_rule (codes "end-on-refusal")) tells in
+    record { value = IfOk-weaker c.with_flag-3.result _ _ (λ m is. is ∙ more (flag_rule (codes "prune")) ends) c.with_flag-3.ensures.value }

@@ -1,22 +1,22 @@
-use Rattle.std.proofs.Common.{◌≡◌, None, length, ap, sym, subst, ◌∙◌}
-use Rattle.ovs_feed.specs.Feed.{IsDrained}
+use Rattle.std.proofs.Common.{◌≡◌, ap, sym, subst}
 use Rattle.ovs_folder.specs.Ledger.{IsAccountOf}
-use Rattle.ovs_folder.proofs.Sent.{held_sent, sent_held}
+use Rattle.ovs_folder.proofs.Sent.{held_sent, sent_held, none_forked}
 use Rattle.ovs_folder.proofs.intake.Intake.close.Goals as goal
+
+pub returns-clause-account : goal.returns-clause-account
+returns-clause-account g c = rw (← c.self.view_is) c.self.invariant.1
 
 pub returns-clause-held : goal.returns-clause-held
 returns-clause-held g c =
-    let i = c.self.inside in
-    let v = c.self.view_is in
-    let k : IsAccountOf i.store.links i.feed.taken None i.forks i.short = subst (λ o. IsAccountOf i.store.links i.feed.taken o i.forks i.short) (ap (λ x. x.kept) v ∙ c.requires.taken) c.self.invariant.1 in
-    let d : IsDrained i.feed = subst (λ f. IsDrained f) (sym (ap (λ x. x.feed) v)) c.requires.drained in
-    let b : length i.feed.returned ≡ i.feed.ends = ap (λ x. length x.feed.returned) v ∙ c.requires.back ∙ sym (ap (λ x. x.feed.ends) v) in
-    rw (← v) (held_sent i.store.links i.feed i.forks i.short k d b)
+    let k : IsAccountOf c.args.self = rw (← c.self.view_is) c.self.invariant.1 in
+    held_sent _ k c.requires.taken c.requires.drained c.requires.back
 
 pub returns-clause-whole : goal.returns-clause-whole
 returns-clause-whole g c =
-    let i = c.self.inside in
-    let v = c.self.view_is in
-    let k : IsAccountOf i.store.links i.feed.taken None i.forks i.short = subst (λ o. IsAccountOf i.store.links i.feed.taken o i.forks i.short) (ap (λ x. x.kept) v ∙ c.requires.taken) c.self.invariant.1 in
-    let d : IsDrained i.feed = subst (λ f. IsDrained f) (sym (ap (λ x. x.feed) v)) c.requires.drained in
-    rw (← v) (sent_held i.store.links i.feed i.forks i.short k d)
+    let k : IsAccountOf c.args.self = rw (← c.self.view_is) c.self.invariant.1 in
+    sent_held _ k c.requires.taken c.requires.drained c.requires.back
+
+pub returns-clause-agree : goal.returns-clause-agree
+returns-clause-agree g c =
+    let k : IsAccountOf c.args.self = rw (← c.self.view_is) c.self.invariant.1 in
+    none_forked _ k c.requires.taken c.requires.drained c.requires.back

@@ -1,13 +1,9 @@
-use Rattle.std.proofs.Common.{◌≡◌, ap, sym, ◌∙◌, arith}
+use Rattle.std.proofs.Common.{refl, ap}
 use Rattle.ovs_folder.proofs.Fresh.{account_empty}
 use Rattle.ovs_folder.proofs.intake.Intake.new.Goals as goal
 
 pub invariant_of-result : goal.invariant_of-result
-invariant_of-result g c =
-    let fresh = c.requires.store in
-    let feed = c.requires.feed in (
-      ap (λ s. s.schema) fresh,
-      account_empty c.args.store.links c.args.feed.taken (ap (λ s. s.links) fresh) feed.0,
-      rw (c.in_ok-sent.ensures.items) (sym feed.1),
-      omega (arith, c.in_ok-sent.ensures.capacity, c.ends.ensures.value),
-    )
+invariant_of-result g c = (
+  ap (λ s. s.schema) c.requires.store,
+  account_empty g.K.NodeName.schema _ c.requires.store c.requires.feed refl c.new.ensures.items refl refl refl,
+)
