@@ -245,6 +245,43 @@ def row_of_name(node, name):
         return session.transact("net", select([["name", "==", name]], columns=["_uuid"]))[0]["rows"][0]["_uuid"][1]
 
 
+def answered(source, name):
+    """Whether one transaction, over a connection of its own, is answered."""
+
+    def come():
+        session = source.session()
+        try:
+            session.ask("echo")
+            return session
+        except (Closed, OSError):
+            return None
+
+    with wait_until(come, COMES_AGAIN, "the source can be asked") as session:
+        try:
+            session.transact("net", insert(name=name))
+            return True
+        except Closed:
+            return False
+
+
+@check(240)
+def replies_that_are_lost_with_their_sessions(lab):
+    """Where transactions at once make one epoch begin on another, those that come one at a time after them are answered."""
+    source = lab.source("--trim-every", "1")
+    holds(all(answered(source, f"a{number}") for number in range(5)), "a transaction alone isn't answered")
+    for attempt in range(3):
+        sessions = [source.session() for _ in range(2)]
+        for session in sessions:
+            session.ask("echo")
+        for session in sessions:
+            session.request("transact", "net", insert(name=f"both{attempt}"))
+        for session in sessions:
+            holds(session.is_closed(COMES_AGAIN), "a session of an older epoch isn't closed")
+        told = [answered(source, f"b{attempt}-{number}") for number in range(10)]
+        # Who comes while the last epoch is still to be shown is closed by it.
+        holds(sum(told) >= 8, f"{sum(told)} of 10 transactions, one at a time, are answered")
+
+
 @check(240)
 def every_session_is_closed(lab):
     """At a new epoch each session that came before is closed, whatever it has asked for, at a source and at a relay."""

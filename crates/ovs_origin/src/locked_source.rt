@@ -21,6 +21,7 @@ use std::thread::Parker;
 #[derive(Drop)]
 pub struct LockedSource<'a, K: NodeName, R: Wait> {
     rt: &'a R,
+    alloc: Global,
     desk: Mutex<OriginState<K>>,
     bell: Parker,
 }
@@ -30,6 +31,7 @@ impl<'a, K: NodeName, R: Wait> LockedSource<'a, K, R> {
     pub fn new(rt: &'a R, alloc: Global, desk: NodeSource<K>) -> LockedSource<'a, K, R> {
         LockedSource {
             rt,
+            alloc,
             desk: Mutex::new(OriginState::new(alloc, desk)),
             bell: Parker::new(),
         }
@@ -59,8 +61,13 @@ impl<'a, K: NodeName, R: Wait> DeskLock<K> for LockedSource<'a, K, R> {
         Ok(collected)
     }
 
+    // An epoch that is due waits for no reply of the session any more.
     fn end_session(&self, who: u64) {
-        self.desk.lock(self.rt).end_session(who);
+        let mut state = self.desk.lock(self.rt);
+        state.end_session(who);
+        if state.trim_once_answered(self.alloc) {
+            self.bell.unpark();
+        }
     }
 }
 
