@@ -8,7 +8,7 @@ use Rattle.ovs_desk.specs.ShownRuns.{IsShownFirst}
 use Rattle.ovs_views.specs.Published.{is_shown}
 
 -- A desk gave the message to the session, as it gives what it owes. Where answers are held back, the session was shown these steps, and
--- where the first answer stood that was due to it is 0 or one of them.
+-- their last chain begins where the first answer stood that was due to it, or at a greater start, or has a step of that id.
 pub record IsCollected (held : Bool) (who : ℕ) (steps : List Step) (m : Message) : Type 0 where
   pub desk : RelayValue
   pub left : RelayValue
