@@ -1,12 +1,13 @@
 """A source that begins a new epoch after so many commits: who is connected is closed then, and comes again."""
 import itertools
+import time
 
 from client import Closed, Refused, refusal
 from data import FIRST_ID, NET, ZEROS, insert, nth, select
 from harness import check, equal, holds
 from mirror import Mirror, selected
 from own_writes import NOWHERE, Count, all_good, inserted, told_rows
-from processes import free_port, wait_until
+from processes import PATIENCE, free_port, wait_until
 from upstream import Upstream, known, unknown
 
 EVERY = 3
@@ -245,18 +246,25 @@ def row_of_name(node, name):
         return session.transact("net", select([["name", "==", name]], columns=["_uuid"]))[0]["rows"][0]["_uuid"][1]
 
 
-def answered(source, name):
-    """Whether one transaction, over a connection of its own, is answered."""
+def at_rest(source):
+    """A session that is open still after a pause: who comes while the last epoch is still to be shown is closed by it."""
 
     def come():
         session = source.session()
         try:
             session.ask("echo")
+            time.sleep(0.1 * PATIENCE)
+            session.ask("echo")
             return session
         except (Closed, OSError):
             return None
 
-    with wait_until(come, COMES_AGAIN, "the source can be asked") as session:
+    return wait_until(come, COMES_AGAIN, "the source can be asked")
+
+
+def answered(source, name):
+    """Whether one transaction, over a connection of its own, is answered."""
+    with at_rest(source) as session:
         try:
             session.transact("net", insert(name=name))
             return True
@@ -270,15 +278,12 @@ def replies_that_are_lost_with_their_sessions(lab):
     source = lab.source("--trim-every", "1")
     holds(all(answered(source, f"a{number}") for number in range(5)), "a transaction alone isn't answered")
     for attempt in range(3):
-        sessions = [source.session() for _ in range(2)]
-        for session in sessions:
-            session.ask("echo")
+        sessions = [at_rest(source) for _ in range(2)]
         for session in sessions:
             session.request("transact", "net", insert(name=f"both{attempt}"))
         for session in sessions:
             holds(session.is_closed(COMES_AGAIN), "a session of an older epoch isn't closed")
         told = [answered(source, f"b{attempt}-{number}") for number in range(10)]
-        # Who comes while the last epoch is still to be shown is closed by it.
         holds(sum(told) >= 8, f"{sum(told)} of 10 transactions, one at a time, are answered")
 
 
