@@ -10,6 +10,7 @@ use Rattle.ovs_authority.specs.declared.ask.Verb.{Verb}
 use Rattle.ovs_authority.specs.declared.ask.Verb.TheVariants as asks
 use Rattle.ovs_locks.specs.declared.notice.LockNotice.{LockNotice}
 use Rattle.ovs_lock_desk.specs.LockDesk.{answers_to, notices_to, first_due_up, is_sent_at}
+use Rattle.ovs_lock_desk.specs.declared.course.LockReply.{LockReply}
 use Rattle.ovs_lock_desk.specs.declared.course.LockVerb.{LockVerb}
 use Rattle.ovs_lock_desk.specs.declared.course.LockVerb.TheVariants as verbs
 use Rattle.ovs_lock_desk.specs.declared.late_steal.LateSteal.{LateSteal}
@@ -19,7 +20,7 @@ use Rattle.ovs_desk.specs.Ledger as ledger
 use Rattle.ovs_desk.specs.Ledger.{Ledger, Forwarding, to_go, due_to, next_up, next_back}
 use Rattle.ovs_desk.specs.RelayDesk.{RelayValue, new_desk}
 use Rattle.ovs_desk.specs.Relaying as relaying
-use Rattle.ovs_desk.specs.Relaying.{first_lock, won_by}
+use Rattle.ovs_desk.specs.Relaying.{first_lock, lock_reply}
 use Rattle.ovs_desk.specs.Runs.{Runs, no_request}
 use Rattle.ovs_desk.specs.declared.error.BadReply.{BadReply}
 use Rattle.ovs_desk.specs.declared.error.Unsent.{Unsent}
@@ -112,7 +113,7 @@ module _ (who : ℕ) (m : Option Message) (d e : RelayValue) where
   late : (a : Option (List ℕ × LateSteal)) → relaying.GivesLate a who d m e → Made Given d e
   late None (none, unchanged) = nothing none unchanged
   late (Some a) (is, (change, has, rest)) =
-      of_locks (subst IsGivenOfLocks (sym is) (inl (record { won = a.1.won; id = a.1.id; is = refl }))) (ap forwards_of rest) (ap database_of rest)
+      of_locks (subst IsGivenOfLocks (sym is) (inl (record { outcome = a.1.outcome; id = a.1.id; is = refl }))) (ap forwards_of rest) (ap database_of rest)
 
   notice : (n : Option LockNotice) → relaying.GivesNotice n who d m e → Made Given d e
   notice None (none, unchanged) = nothing none unchanged
@@ -173,9 +174,9 @@ module _ (m : Option Message) (d e : RelayValue) where
 
 -- ---- what is heard
 
-won : (w : Option Bool) (P : List Call → Type 0) (n : ℕ) (d : RelayValue) (r : Result ⊤ BadReply) (e : RelayValue) → P [] → relaying.HearsWon w n d r e → Made P d e
-won None P n d r e none (bad, unchanged) = no_call P d e none (ap forwards_of unchanged) (ap database_of unchanged)
-won (Some w) P n d r e none (fine, rest) = no_call P d e none (ap forwards_of rest) (ap database_of rest)
+lock_replied : (reply : Option LockReply) (P : List Call → Type 0) (n : ℕ) (d : RelayValue) (r : Result ⊤ BadReply) (e : RelayValue) → P [] → relaying.HearsLockReply reply n d r e → Made P d e
+lock_replied None P n d r e none (bad, unchanged) = no_call P d e none (ap forwards_of unchanged) (ap database_of unchanged)
+lock_replied (Some reply) P n d r e none (fine, rest) = no_call P d e none (ap forwards_of rest) (ap database_of rest)
 
 replied : (below : Bool) (n : ℕ) (answer : StandingAnswer) (d : RelayValue) (r : Result ⊤ BadReply) (e : RelayValue) → relaying.HearsBy below n answer d r e
     → Made (IsRepliedBy below n answer) d e
@@ -184,7 +185,7 @@ replied false n answer d r e h = by (is_sent_at n d.locks.locks) h
   where
     by : (b : Bool) → relaying.HearsOfLock b n answer.answer d r e → Made (IsRepliedBy false n answer) d e
     by false (fine, unchanged) = no_call (IsRepliedBy false n answer) d e refl (ap forwards_of unchanged) (ap database_of unchanged)
-    by true h = won (won_by answer.answer) (IsRepliedBy false n answer) n d r e refl h
+    by true h = lock_replied (lock_reply answer.answer) (IsRepliedBy false n answer) n d r e refl h
 
 heard : (message : SourceMessage) (d : RelayValue) (r : Result ⊤ BadReply) (e : RelayValue) → relaying.Hears message d r e → Made (IsHeardBy message) d e
 heard (says.ReplyFor n answer) d r e h = replied (nat_lt n first_lock) n answer d r e h

@@ -11,6 +11,7 @@ use Rattle.ovs_authority.specs.declared.ask.Verb.TheVariants as asks
 use Rattle.ovs_locks.specs.declared.notice.LockNotice.{LockNotice}
 use Rattle.ovs_lock_desk.specs.LockDesk.{DeskLocks}
 use Rattle.ovs_lock_desk.specs.declared.course.LockVerb.{LockVerb}
+use Rattle.ovs_lock_desk.specs.declared.late_steal.StealOutcome.{StealOutcome}
 use Rattle.ovs_desk.specs.Asserts.{rewritten}
 use Rattle.ovs_desk.specs.Calls.{Call, Sends, TakesUp, Replies, LosesSource, Collects, Ends}
 use Rattle.ovs_desk.specs.Ledger as ledger
@@ -52,9 +53,9 @@ pub record IsGivenReply (who : ℕ) (message : Option Message) (made : List Call
 
 -- the late reply to a steal
 pub record IsLateReply (message : Message) : Type 0 where
-  pub won : Option Bool
+  pub outcome : Option StealOutcome
   pub id : Data
-  pub is : message ≡ reply_of (late_answer won) id
+  pub is : message ≡ reply_of (late_answer outcome) id
 
 -- a notice of a lock
 pub record IsLockNotice (message : Message) : Type 0 where
