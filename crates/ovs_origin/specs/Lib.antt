@@ -1,3 +1,2 @@
-pub mod Giving
-pub mod Learning
+pub mod Answering
 pub mod Sent

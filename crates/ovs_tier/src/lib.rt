@@ -2,6 +2,7 @@
 #![tactic(auto)]
 
 mod closing;
+mod crossing;
 mod error;
 mod places;
 mod relay;

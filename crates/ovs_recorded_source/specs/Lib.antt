@@ -1,4 +1,0 @@
-pub mod Accounts
-pub mod Nobody
-pub mod Steps
-pub mod Waiting
