@@ -1,5 +1,3 @@
 pub mod Admitted
 pub mod Collected
 pub mod DeskParts
-pub mod LastSteps
-pub mod Nobody

@@ -1,4 +1,3 @@
 pub mod Collecting
 pub mod Epochs
 pub mod Lines
-pub mod Refusing

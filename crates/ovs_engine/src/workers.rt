@@ -1,22 +1,21 @@
 //! The threads of a node's workers, each of which serves many readers.
 
-ghost use Rattle.std.specs.Prelude.{◌≡◌, ◌+◌, ◌*◌, ℕ, List, Contains, IfSome, true};
-ghost use Rattle.ovs_links.specs.declared.step.Step.{Step};
-ghost use Rattle.ovs_service.specs.Client.{SaysNothing, AnswersTo, TellsNew, MayAsk, IsAnswered, HasAll, new_client};
+ghost use Rattle.std.specs.Prelude.{◌≡◌};
+ghost use Rattle.ovs_service.specs.Client.{SaysNothing, AnswersTo, TellsNew, MayAsk, IsAnswered};
 
-use crate::vacant::{Unused, Vacant};
 use ovs_hall::{Doors, Host, Receives, Tally, serve_many};
 use ovs_service::{Client, Desk, NodeService};
-use ovs_session::{Limits, Outbox, Pace, Refusal, Service};
+use ovs_session::{Limits, Outbox, Refusal, Service};
 use ovs_views::{NodeName, View};
 use std::alloc::Global;
 use std::sync::Wait;
+use std::sync::atomic::{AtomicU64, Ordering};
 
 /// A node's service, which gives each new session a number of its own.
-pub(crate) struct NodeHost<K: NodeName, D: Desk<K>> {
+pub(crate) struct NodeHost<'a, K: NodeName, D: Desk<K>> {
     service: NodeService<K, D>,
-    // How many sessions it has begun.
-    next: u64,
+    // How many sessions any worker has numbered.
+    numbers: &'a AtomicU64,
     // The number of this worker.
     worker: u64,
 }
@@ -29,7 +28,7 @@ pub(crate) fn worker_of(who: u64) -> usize {
     (who % WORKERS) as usize
 }
 
-impl<K: NodeName, D: Desk<K>> Service for NodeHost<K, D> {
+impl<'a, K: NodeName, D: Desk<K>> Service for NodeHost<'a, K, D> {
     type Session = Client<K>;
 
     ghost answers = { λ old text said new. AnswersTo K.schema D.replies D.owes old text said new };
@@ -38,15 +37,9 @@ impl<K: NodeName, D: Desk<K>> Service for NodeHost<K, D> {
 
     ghost refuses = { λ _ text. SaysNothing text };
 
-    ghost may_answer = { λ client. MayAsk client };
+    ghost may_answer = { λ _ client. MayAsk client };
 
-    ghost is_answered = { λ client. IsAnswered client };
-
-    ghost is_told = { λ host client. HasAll host.service.view client };
-
-    ghost may_tell = { λ _ _. Unit {0} };
-
-    ghost is_gone = { λ host. host.service.is_gone ≡ true };
+    ghost is_answered = { λ _ client. IsAnswered client };
 
     fn takes(&self, client: &Client<K>) -> bool {
         self.service.takes(client)
@@ -65,31 +58,27 @@ impl<K: NodeName, D: Desk<K>> Service for NodeHost<K, D> {
         self.service.answer(client, text, out)
     }
 
-    fn tell(&mut self, client: &mut Client<K>, out: &mut Outbox) -> Result<Pace, Refusal> {
+    fn tell(&mut self, client: &mut Client<K>, out: &mut Outbox) -> Result<(), Refusal> {
         self.service.tell(client, out)
     }
 }
 
-impl<K: NodeName, D: Desk<K>> Host for NodeHost<K, D> {
-    ghost begins = { λ client. (who : ℕ) × (last : List Step) × (client ≡ new_client who last) };
+impl<'a, K: NodeName, D: Desk<K>> Host for NodeHost<'a, K, D> {
+    ghost is_silent = { λ host client. D.is_silent host.service.desk client.who };
 
-    ghost is_silent = { λ host client. Contains (D.ended host.service.desk) client.who };
-
-    fn end(&mut self, client: &Client<K>) {
+    fn end(&mut self, client: Client<K>) {
         self.service.end(client);
     }
 }
 
-impl<K: NodeName, D: Desk<K>> Receives for NodeHost<K, D> {
-    // The number is the worker's, and how many sessions it began before: so no two sessions of a worker have one.
-    fn begin(&mut self) -> Option<Client<K>>
-        ensures begins { IfSome result (λ client. (last : List Step) × (client ≡ new_client (self.old.next * 64 + self.old.worker) last)) }
-        ensures next { IfSome result (λ _. self.new.next ≡ self.old.next + 1) }
-        ensures worker { self.new.worker ≡ self.old.worker }
-    {
-        let next = self.next.checked_add(1)?;
-        let who = self.next.checked_mul(WORKERS)?.checked_add(self.worker)?;
-        self.next = next;
+impl<'a, K: NodeName, D: Desk<K>> Receives for NodeHost<'a, K, D> {
+    fn begin(&mut self) -> Option<Client<K>> {
+        let next = self.numbers.fetch_update(
+            Ordering::SeqCst,
+            Ordering::SeqCst,
+            |number| number.checked_add(1),
+        );
+        let who = next.ok()?.checked_mul(WORKERS)?.checked_add(self.worker)?;
         Some(self.service.client(who))
     }
 
@@ -97,41 +86,27 @@ impl<K: NodeName, D: Desk<K>> Receives for NodeHost<K, D> {
     fn rung(&mut self) {}
 }
 
-/// What is left of a worker once it has served its readers.
-#[derive(Drop)]
-pub(crate) struct Worked<K: NodeName, D: Doors + Drop> {
-    pub(crate) view: View<K>,
-    pub(crate) doors: Vacant<D>,
-    pub(crate) tally: Tally,
-}
-
 /// Serves the readers that come in at these doors, until no more come and all have ended.
-pub(crate) fn serve_readers<K: NodeName, D: Desk<K> + Drop, O: Doors + Drop, R: Wait>(
+pub(crate) fn serve_readers<K: NodeName, D: Desk<K> + Drop, O: Doors, R: Wait>(
     rt: &R,
     alloc: Global,
     view: View<K>,
     desk: D,
-    doors: Unused<O>,
+    numbers: &AtomicU64,
+    doors: &mut O,
     limits: Limits,
-) -> Worked<K, O>
-    ensures closed { O.is_closed result.doors.doors }
-{
-    let doors = doors.into_doors();
+) -> (View<K>, Tally) {
     let mut host = NodeHost {
         service: NodeService::new(alloc, view, desk),
-        next: 0,
+        numbers,
         worker: doors.worker() as u64 % WORKERS,
     };
-    let (tally, doors, _served) = serve_many(rt, alloc, &mut host, doors, limits);
+    let tally = serve_many(rt, alloc, &mut host, doors, limits);
     let NodeHost {
         service,
-        next: _,
+        numbers: _,
         worker: _,
     } = host;
     let (view, _desk) = service.into_parts();
-    Worked {
-        view,
-        doors: Vacant::new(doors),
-        tally,
-    }
+    (view, tally)
 }

@@ -1,4 +1,3 @@
 pub mod Following
 pub mod Deriving
-pub mod Telling
 pub mod Followed

@@ -2,23 +2,12 @@
 
 ghost use Rattle.std.specs.Prelude.{◌≡◌, ◌++◌, OnOk, IfOk, map, filter, slice_get, option_copied};
 ghost use Rattle.std.specs.List.{list_any};
-ghost use Rattle.ovs_lock_desk.specs.LateSteal.{is_open, is_won, is_of, is_own_open, late_of, open_session, is_due_late, without_one, without_due, settled_one, settled, without_late};
+ghost use Rattle.ovs_lock_desk.specs.LateSteal.{is_open, is_of, is_own_open, late_of, open_session, is_due_late, without_one, without_due, settled_one, settled, without_late};
 ghost use Rattle.ovs_lock_desk.specs.LockDesk.{told_of};
 
 use crate::desk_notice::DeskNotice;
 use ovs_json::NoMemory;
 use ovs_wire::Id;
-
-/// What became of a steal.
-#[derive(Clone, Copy, Debug, PartialEq, Eq)]
-pub enum StealOutcome {
-    /// The source gave the lock.
-    Won,
-    /// The source was lost first.
-    SourceLost,
-    /// The source refused it.
-    Refused,
-}
 
 /// A steal whose answer wasn't told. It enters the desk's list when it is asked for, so that its answer takes no memory.
 #[derive(Debug, Drop)]
@@ -27,8 +16,8 @@ pub struct LateSteal {
     pub who: u64,
     /// The id of its request.
     pub id: Id,
-    /// What became of it, where that is known.
-    pub outcome: Option<StealOutcome>,
+    /// The answer, where it is known: true once the source gave the lock, false where the source was lost.
+    pub won: Option<bool>,
 }
 
 impl LateSteal {
@@ -36,28 +25,14 @@ impl LateSteal {
     pub(crate) fn new(who: u64, id: Id) -> LateSteal
         ensures value { result ≡ late_of who id }
     {
-        LateSteal {
-            who,
-            id,
-            outcome: None,
-        }
+        LateSteal { who, id, won: None }
     }
 
     // Whether the answer isn't known yet.
     fn is_open(&self) -> bool
         ensures value { result ≡ is_open self.now }
     {
-        self.outcome.is_none()
-    }
-
-    // Whether the source gave the lock for it.
-    fn is_won(&self) -> bool
-        ensures value { result ≡ is_won self.now.outcome }
-    {
-        match self.outcome {
-            Some(StealOutcome::Won) => true,
-            Some(StealOutcome::SourceLost | StealOutcome::Refused) | None => false,
-        }
+        self.won.is_none()
     }
 
     // The same, of a steal of this session.
@@ -80,16 +55,16 @@ impl LateSteal {
     {
         Ok(DeskNotice::Answered {
             id: self.id.copy()?,
-            stole: self.is_won(),
+            stole: self.won.unwrap_or(false),
         })
     }
 
     // Answers it, unless it is answered.
-    fn settle(&mut self, outcome: StealOutcome)
-        ensures value { self.new ≡ settled_one outcome self.old }
+    fn settle(&mut self, won: bool)
+        ensures value { self.new ≡ settled_one won self.old }
     {
         if self.is_open() {
-            self.outcome = Some(outcome);
+            self.won = Some(won);
         }
     }
 }
@@ -128,11 +103,11 @@ pub(crate) fn open_session(late: &[LateSteal]) -> Option<u64>
 }
 
 /// Answers each steal that isn't answered.
-pub(crate) fn settle(late: &mut [LateSteal], outcome: StealOutcome)
-    ensures value { late.new ≡ settled outcome late.old }
+pub(crate) fn settle(late: &mut [LateSteal], won: bool)
+    ensures value { late.new ≡ settled won late.old }
 {
     for one in late.iter_mut() {
-        one.settle(outcome);
+        one.settle(won);
     }
 }
 

@@ -1,7 +1,6 @@
 pub mod Replies
 pub mod Texts
-pub mod Asking
-pub mod Deeds
+pub mod Dues
 pub mod Calls
 pub mod Client
 pub mod Kept

@@ -13,8 +13,7 @@ use crate::places::{LIMITS, Places, WORKERS};
 use crate::stop::Stop;
 use crate::watching::Watching;
 use log::Log;
-use ovs_engine::{Counters, Unused, WorkerParts};
-use ovs_hall::Doors;
+use ovs_engine::{Counters, WorkerParts};
 use ovs_links::Step;
 use ovs_node::{
     Board, FeedEnd, FeedName, FeedQueue, Handle, Node, NodeError, NodeLink, NodeName, OpenNode,
@@ -50,10 +49,7 @@ pub struct SourcePlan {
 
 /// A source that listens, and is served once it runs.
 #[derive(Drop)]
-pub struct SourceNode<R: Net + Log + Drop>
-where
-    SocketDoors<R>: Doors,
-{
+pub struct SourceNode<R: Net + Log + Drop> {
     rt: R,
     alloc: Global,
     places: Places<R>,
@@ -202,7 +198,7 @@ fn crew_of<'a, K: NodeName, Q: FeedName, R: Wait + Log + Drop>(
     alloc: Global,
     end: FeedEnd<NodeLink<K>, Q>,
     views: Vec<View<K>>,
-    doors: Vec<Unused<SocketDoors<R>>>,
+    doors: Vec<SocketDoors<R>>,
 ) -> Result<SourceCrew<K, Q, LockedSource<'a, K, R>, SocketDoors<R>>, TierError>
     requires unsent { end.1 ≡ [] }
 {

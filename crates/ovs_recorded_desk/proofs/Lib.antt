@@ -1,4 +1,0 @@
-pub mod Accounting
-pub mod Closing
-pub mod Recording
-pub mod Sending
