@@ -268,7 +268,7 @@ def clients_with_many_names_at_a_relay(lab):
 
 @check(240)
 def names_of_a_relay(lab):
-    """A relay is one session of its source, which gives it 1,024 names: locks past them wait, and nobody else is disturbed."""
+    """A relay is one session of its source, which gives it 1,024 names: past them locks wait and steals are refused, and nobody else is disturbed."""
     _, relay = lab.tier()
     names = names_of(0, 3 * NAMES // 4)
     first = relay.session()
@@ -278,4 +278,12 @@ def names_of_a_relay(lab):
     writer = relay.session()
     for number in range(3):
         carried_out(lambda number=number: writer.transact("net", insert(name=f"row{number}")), "relay, once its source refuses it more names")
+    equal(refusal(writer, "steal", "z"), "too many requests", "a steal of a further name")
+    waiting = relay.session()
+    equal(waiting.ask("lock", "z"), {"locked": False}, "a lock of that name")
+    equal(refusal(writer, "steal", "z"), "too many requests", "a steal of that name while another session waits for it")
     equal(first.ask("unlock", names[0]), {}, "what is answered to who owns its lock still")
+    equal(writer.ask("lock", "z"), {"locked": False}, "a lock of that name by who was refused, once another is unlocked")
+    equal(waiting.notice(), ("locked", ["z"]), "who waits for it, now that it was asked for again")
+    equal(waiting.ask("unlock", "z"), {}, "what is answered to who owns it")
+    equal(writer.notice(), ("locked", ["z"]), "who asked for it after that")

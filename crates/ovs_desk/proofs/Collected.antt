@@ -145,7 +145,7 @@ module _ (who : ℕ) (d e : RelayValue) (m : Option Message) (table : IsDeskTabl
   given_late x some none (Some a) is g =
       let c = g.1.0 in
       let same : e.forwards ≡ d.forwards = ap (λ (z : RelayValue). z.forwards) g.1.2 in
-      let reply : x ≡ reply_of (late_answer a.1.won) a.1.id = (let two = sym some ∙ g.0 in cc) in
+      let reply : x ≡ reply_of (late_answer a.1.outcome) a.1.id = (let two = sym some ∙ g.0 in cc) in
       let rest = first_given is_desk_idle no_desk_lock (answers_here who) (λ (p : List ℕ × LateSteal). p.0) (owed.named_answer who) (owed.answers_idle who) (step (events.AnswerTold who)) d.locks.locks e.locks.locks a table.ascend table.none_idle is (λ l. owed.answer_given who a.0 l) c in
       let steals = gathered_same is_desk_idle no_desk_lock (open_here who) (owed.open_idle who) a.0 (step (events.AnswerTold who)) d.locks.locks e.locks.locks c (owed.open_told who a.0 c.lock who) in
       let notices = gathered_same is_desk_idle no_desk_lock (notices_here who) (owed.notices_idle who) a.0 (step (events.AnswerTold who)) d.locks.locks e.locks.locks c refl in

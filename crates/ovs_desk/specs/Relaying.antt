@@ -18,11 +18,15 @@ use Rattle.ovs_locks.specs.declared.notice.LockNotice.{LockNotice}
 use Rattle.ovs_lock_desk.specs.DeskLock.{DeskLockValue, step, asked_here, AnswersBy}
 use Rattle.ovs_lock_desk.specs.LockDesk.{DeskValue, ChangesAt, SendsFirst, IsGone, stepped, desk_lock_at, refusal_at, first_due_up, is_sent_at, answers_to, notices_to}
 use Rattle.ovs_lock_desk.specs.declared.course.Event.TheVariants as events
+use Rattle.ovs_lock_desk.specs.declared.course.LockReply.{LockReply}
+use Rattle.ovs_lock_desk.specs.declared.course.LockReply.TheVariants as replies
 use Rattle.ovs_lock_desk.specs.declared.course.LockVerb.{LockVerb}
 use Rattle.ovs_lock_desk.specs.declared.course.LockVerb.TheVariants as verbs
 use Rattle.ovs_lock_desk.specs.declared.error.DeskError.{DeskError}
 use Rattle.ovs_lock_desk.specs.declared.error.DeskError.TheVariants as errors
 use Rattle.ovs_lock_desk.specs.declared.late_steal.LateSteal.{LateSteal}
+use Rattle.ovs_lock_desk.specs.declared.late_steal.StealOutcome.{StealOutcome}
+use Rattle.ovs_lock_desk.specs.declared.late_steal.StealOutcome.TheVariants as outcomes
 use Rattle.ovs_desk.specs.declared.error.BadReply.{BadReply}
 use Rattle.ovs_desk.specs.declared.error.ForwardError.TheVariants as forwarding
 use Rattle.ovs_desk.specs.declared.error.Unsent.{Unsent}
@@ -164,20 +168,24 @@ TakesUp d m e = TakesUpWhere d.locks.has_source d m e
 
 -- ---- what the source says
 
--- whether the source gave the lock: {"locked": BOOL}, or an error, with which it didn't
-abbrev pub won_by : Answer → Option Bool
-won_by a = if is_some (as_null a.error) then option_and_then as_bool (get (codes "locked") a.result) else Some false
+abbrev pub given_so : Bool → LockReply
+given_so true = replies.Given
+given_so false = replies.Waits
+
+-- what the source answered to a Lock or a Steal: {"locked": BOOL}, or an error, with which it refused
+abbrev pub lock_reply : Answer → Option LockReply
+lock_reply a = if is_some (as_null a.error) then option_map given_so (option_and_then as_bool (get (codes "locked") a.result)) else Some replies.Refused
 
 -- the reply to a Lock or a Steal that is open
-abbrev pub HearsWon : Option Bool → ℕ → RelayValue → Result ⊤ BadReply → RelayValue → Type 0
-HearsWon None n d r e = IsErr r × (e ≡ d)
-HearsWon (Some won) n d r e =
-    (r ≡ Ok tt) × (e ≡ with_locks d (record { has_source = d.locks.has_source; locks = stepped (events.Answered n won) d.locks.locks }))
+abbrev pub HearsLockReply : Option LockReply → ℕ → RelayValue → Result ⊤ BadReply → RelayValue → Type 0
+HearsLockReply None n d r e = IsErr r × (e ≡ d)
+HearsLockReply (Some reply) n d r e =
+    (r ≡ Ok tt) × (e ≡ with_locks d (record { has_source = d.locks.has_source; locks = stepped (events.Answered n reply) d.locks.locks }))
 
 -- the reply to a lock request; one to a request that isn't open is ignored
 abbrev pub HearsOfLock : Bool → ℕ → Answer → RelayValue → Result ⊤ BadReply → RelayValue → Type 0
 HearsOfLock false n a d r e = (r ≡ Ok tt) × (e ≡ d)
-HearsOfLock true n a d r e = HearsWon (won_by a) n d r e
+HearsOfLock true n a d r e = HearsLockReply (lock_reply a) n d r e
 
 abbrev pub HearsBy : Bool → ℕ → StandingAnswer → RelayValue → Result ⊤ BadReply → RelayValue → Type 0
 HearsBy true n a d r e = (r ≡ Ok tt) × ChangesRequests (calls.Replies n a) d e
@@ -210,15 +218,16 @@ pub record FindsSource (d e : RelayValue) : Type 0 where
 abbrev pub CollectsSent : ℕ → RelayValue → Option Message → RelayValue → Type 0
 CollectsSent who d m e = (m ≡ next_back who d.forwards.ledger) × ChangesRequests (calls.Collects who (due_to who d.forwards.ledger)) d e
 
--- a steal that was answered late: {"locked": true}, or that the source was lost
-abbrev pub late_answer : Option Bool → Answer
+-- a steal that was answered late: {"locked": true}, or that the source was lost or refused it
+abbrev pub late_answer : Option StealOutcome → Answer
 late_answer None = refused (codes "source lost")
-late_answer (Some true) = locked_so true
-late_answer (Some false) = refused (codes "source lost")
+late_answer (Some outcomes.Won) = locked_so true
+late_answer (Some outcomes.SourceLost) = refused (codes "source lost")
+late_answer (Some outcomes.Refused) = refused (codes "too many requests")
 
 abbrev pub GivesLate : Option (List ℕ × LateSteal) → ℕ → RelayValue → Option Message → RelayValue → Type 0
 GivesLate None who d m e = (m ≡ None) × (e ≡ d)
-GivesLate (Some a) who d m e = (m ≡ Some (reply_of (late_answer a.1.won) a.1.id)) × ChangesLock a.0 (step (events.AnswerTold who)) d e
+GivesLate (Some a) who d m e = (m ≡ Some (reply_of (late_answer a.1.outcome) a.1.id)) × ChangesLock a.0 (step (events.AnswerTold who)) d e
 
 -- the first late answer that a session is owed
 abbrev pub CollectsLate : ℕ → RelayValue → Option Message → RelayValue → Type 0

@@ -8,7 +8,7 @@ ghost use Rattle.ovs_lock_desk.specs.LockDesk.{IsDeskTable, first_due_up, is_sen
 ghost use Rattle.ovs_desk.specs.Calls as calls;
 ghost use Rattle.ovs_desk.specs.Ledger.{passes, next_standing, asker_of};
 ghost use Rattle.ovs_desk.specs.RelayDesk.{new_desk, owing_of, owner_of, message_of};
-ghost use Rattle.ovs_desk.specs.Relaying.{ChangesRequests, locked_so, at_once, text_of, late_answer, IsRefusalOf, IsToldOfSending, AsksForLock, AsksByName, Asks, Transacts, TakesUp, TakesUpLock, TakesUpDue, method_of, won_by, Hears, HearsReply, HearsOfLock, LosesSource, FindsSource, CollectsSent, CollectsLate, CollectsNotice, CollectsOfLock, Collects, EndsSession};
+ghost use Rattle.ovs_desk.specs.Relaying.{ChangesRequests, locked_so, at_once, text_of, late_answer, IsRefusalOf, IsToldOfSending, AsksForLock, AsksByName, Asks, Transacts, TakesUp, TakesUpLock, TakesUpDue, method_of, given_so, lock_reply, Hears, HearsReply, HearsOfLock, LosesSource, FindsSource, CollectsSent, CollectsLate, CollectsNotice, CollectsOfLock, Collects, EndsSession};
 ghost use Rattle.ovs_desk.specs.declared.pending.Sought.{Sought};
 
 use crate::asserts::rewrite;
@@ -19,7 +19,7 @@ use crate::standing::StandingAnswer;
 use ovs_authority::{Answer, Ask, Authority, Member, Verb, lock_request, refused, replied};
 use ovs_data::TxnId;
 use ovs_json::{NoMemory, Text, under_name};
-use ovs_lock_desk::{DeskError, LockDesk, LockVerb};
+use ovs_lock_desk::{DeskError, LockDesk, LockReply, LockVerb, StealOutcome};
 use ovs_locks::LockNotice;
 use ovs_wire::{Id, Message};
 use serde_json::{Map, Value};
@@ -102,12 +102,13 @@ fn refusal(alloc: Global, error: DeskError) -> Result<Answer, NoMemory>
 }
 
 // What is answered to a steal whose answer came late.
-fn late_answer(alloc: Global, won: Option<bool>) -> Result<Answer, NoMemory>
-    ensures value { IfOk result (λ a. a ≡ late_answer won) }
+fn late_answer(alloc: Global, outcome: Option<StealOutcome>) -> Result<Answer, NoMemory>
+    ensures value { IfOk result (λ a. a ≡ late_answer outcome) }
 {
-    match won {
-        Some(true) => locked_so(alloc, true),
-        _ => refused(alloc, "source lost"),
+    match outcome {
+        Some(StealOutcome::Won) => locked_so(alloc, true),
+        Some(StealOutcome::Refused) => refused(alloc, "too many requests"),
+        Some(StealOutcome::SourceLost) | None => refused(alloc, "source lost"),
     }
 }
 
@@ -170,14 +171,27 @@ fn method_of(verb: LockVerb) -> &'static str
     }
 }
 
-// Whether the source gave the lock, by its answer `{"locked": BOOL}`. With an error it didn't: it may allow a session only so many.
-fn won_by(answer: &Answer) -> Option<bool>
-    ensures value { result ≡ won_by answer.now }
+// Whether the source gave the lock; where it didn't, the relay waits for it in the source's queue.
+fn given_so(won: bool) -> LockReply
+    ensures value { result ≡ given_so won }
+{
+    if won {
+        LockReply::Given
+    } else {
+        LockReply::Waits
+    }
+}
+
+// What the source answered to a Lock or Steal: `{"locked": BOOL}`, or an error, with which it refused, since it may allow a
+// session only so many names.
+fn lock_reply(answer: &Answer) -> Option<LockReply>
+    ensures value { result ≡ lock_reply answer.now }
 {
     if !answer.error.as_value().is_null() {
-        return Some(false);
+        return Some(LockReply::Refused);
     }
-    answer.result.as_value().get("locked")?.as_bool()
+    let won = answer.result.as_value().get("locked")?.as_bool()?;
+    Some(given_so(won))
 }
 
 impl RelayDesk {
@@ -286,9 +300,9 @@ impl RelayDesk {
         if !self.locks.is_sent(number) {
             return Ok(());
         }
-        match won_by(answer) {
-            Some(won) => {
-                self.locks.answered(number, won);
+        match lock_reply(answer) {
+            Some(reply) => {
+                self.locks.answered(number, reply);
                 Ok(())
             }
             None => Err(BadReply),
@@ -403,7 +417,7 @@ impl RelayDesk {
         };
         let name = name.copy()?;
         let id = late.id.copy()?;
-        let answer = late_answer(alloc, late.won)?;
+        let answer = late_answer(alloc, late.outcome)?;
         self.locks.answer_told(who, &name);
         Ok(Some(answer.into_reply(id)))
     }

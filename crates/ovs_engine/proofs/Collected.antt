@@ -5,7 +5,6 @@ use Rattle.std.specs.Option.{ForSome}
 use Rattle.ovs_authority.specs.Owing.{Owing, CollectsTo}
 use Rattle.ovs_desk.specs.Ledger.{standing_of}
 use Rattle.ovs_desk.specs.RelayDesk.{RelayValue, owing_of}
-use Rattle.ovs_desk.specs.Relaying.{Collects}
 use Rattle.ovs_desk.specs.ShownRuns.{IsShownFirst}
 use Rattle.ovs_desk.specs.declared.pending.Pending.{Pending}
 use Rattle.ovs_json.specs.declared.no_memory.NoMemory.{NoMemory}
@@ -14,6 +13,9 @@ use Rattle.ovs_service.specs.Replies.{IsAnswer}
 use Rattle.ovs_views.specs.Published.{is_shown}
 use Rattle.ovs_wire.specs.declared.message.Message.{Message}
 use Rattle.ovs_wire.specs.declared.message.Message.TheVariants.{Request, Reply, Notice}
+use Rattle.ovs_recorded_desk.specs.Steps.{IsStep, RecordedValue}
+use Rattle.ovs_recorded_desk.specs.declared.step.DeskStep.{DeskStep}
+use Rattle.ovs_recorded_desk.specs.declared.step.DeskStep.TheVariants as steps
 use Rattle.ovs_engine.specs.Collecting.{IsCollected}
 
 answer : (old new : Owing) (m : Message) → CollectsTo old (Some m) new → IsAnswer m
@@ -26,11 +28,11 @@ pub first_shown : (steps : List Step) (first : Option Pending) (standing : Optio
     → ForSome standing (λ id. is_shown steps id ≡ true) → ForSome first (λ e. is_shown steps (standing_of e) ≡ true)
 first_shown steps first standing same shown = λ e is. shown (standing_of e) (same ∙ ap (λ (o : Option Pending). option_map standing_of o) is)
 
-pub collected : (held : Bool) (who : ℕ) (steps : List Step) (d e : RelayValue) (r : Result (Option Message) NoMemory)
-    → (held ≡ true → IsShownFirst who (is_shown steps) d.forwards.ledger)
-    → IfOk r (λ m. CollectsTo (owing_of d who) m (owing_of e who)) → IfOk r (λ m. Collects who d m e)
-    → IfOk r (λ o. IfSome o (λ m. IsCollected held who steps m × IsAnswer m))
-collected held who steps d e (Ok None) shown given does = tt
-collected held who steps d e (Ok (Some m)) shown given does =
-    (record { desk = d; left = e; shown = shown; collects = does }, answer (owing_of d who) (owing_of e who) m given)
-collected held who steps d e (Err x) shown given does = tt
+pub collected : (database : List ℕ) (made : List DeskStep) (held : Bool) (who : ℕ) (shown_steps : List Step) (d : RelayValue) (after : RecordedValue) (r : Result (Option Message) NoMemory)
+    → (held ≡ true → IsShownFirst who (is_shown shown_steps) d.forwards.ledger)
+    → IfOk r (λ m. CollectsTo (owing_of d who) m (owing_of after.desk who)) → IfOk r (λ m. IsStep database (steps.Collected who m) (record { steps = made; desk = d }) after)
+    → IfOk r (λ o. IfSome o (λ m. IsCollected database held who shown_steps m × IsAnswer m))
+collected database made held who shown_steps d after (Ok None) shown given does = tt
+collected database made held who shown_steps d after (Ok (Some m)) shown given does =
+    (record { made = made; desk = d; run = does.made; left = after.desk; shown = shown; collects = does.does }, answer (owing_of d who) (owing_of after.desk who) m given)
+collected database made held who shown_steps d after (Err x) shown given does = tt

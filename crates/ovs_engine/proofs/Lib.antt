@@ -1,3 +1,5 @@
 pub mod Admitted
 pub mod Collected
 pub mod DeskParts
+pub mod LastSteps
+pub mod Nobody

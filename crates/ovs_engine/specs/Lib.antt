@@ -1,3 +1,4 @@
 pub mod Collecting
 pub mod Epochs
 pub mod Lines
+pub mod Refusing

@@ -1,6 +1,6 @@
 //! The threads that a node is to have.
 
-ghost use Rattle.std.specs.Prelude.{◌≡◌, ◌+◌, ◌++◌, ◌∷◌, [], Some, None, IfSome, OnOk, OnErr, IfErr, map, vec_len};
+ghost use Rattle.std.specs.Prelude.{◌≡◌, ◌+◌, ◌++◌, ◌∷◌, [], OnOk, OnErr, IfErr, map, option_map, vec_len};
 ghost use Rattle.ovs_engine.specs.declared.party.Party.{Party};
 
 use crate::connector::Connector;
@@ -11,6 +11,7 @@ use crate::party::Party;
 use crate::progress::Progress;
 use crate::serving::UpstreamJob;
 use crate::upstreams::Upstream;
+use crate::vacant::Unused;
 use ovs_feed::FeedName;
 use ovs_hall::{Bell, Doors};
 use ovs_views::{NodeName, View};
@@ -33,7 +34,7 @@ pub struct WorkerParts<K: NodeName, D: Doors + Drop> {
     /// By which it answers readers.
     pub view: View<K>,
     /// Where its readers come in.
-    pub doors: D,
+    pub doors: Unused<D>,
 }
 
 /// The desk that passes requests on to the source, with what wakes the workers whose sessions are owed something.
@@ -92,7 +93,7 @@ impl<
         ensures added { OnOk result (vec_len self.new.jobs ≡ vec_len self.old.jobs + 1) }
         ensures last { OnOk result ((side : _) × (map (λ (job : _). job.0) self.new.jobs.items ≡ map (λ (job : _). job.0) self.old.jobs.items
             ++ Party.Upstream (record { line = upstream.line; connector = upstream.connector; source = side }) ∷ [])
-            × IfSome desk.entry (λ d. side.desk ≡ Some d.desk) × (desk.entry ≡ None → side.desk ≡ None)) }
+            × (option_map (λ (up : _). up.desk) side.uplink ≡ option_map (λ (d : _). d.desk) desk.entry)) }
         ensures handed_back { IfErr result (λ back. back ≡ upstream) }
         ensures unchanged { OnErr result (self.new.jobs.items ≡ self.old.jobs.items) }
     {

@@ -1,25 +1,43 @@
 //! A node's desk, which its threads share.
 
-ghost use Rattle.std.specs.Prelude.{◌≡◌, ℕ, Bool, true, List, IfOk, IfSome};
+ghost use Rattle.std.specs.Prelude.{◌≡◌, ℕ, Bool, true, List, Option, Some, Ok, IfOk, IfSome, OnOk, OnErr};
+ghost use Rattle.ovs_authority.specs.declared.ask.Ask.{Ask};
+ghost use Rattle.ovs_desk.specs.declared.source_message.SourceMessage.{SourceMessage};
+ghost use Rattle.ovs_recorded_desk.specs.Steps.{EndsRun, EndsWith};
+ghost use Rattle.ovs_recorded_desk.specs.declared.step.DeskStep.TheVariants as steps;
 ghost use Rattle.ovs_links.specs.declared.step.Step.{Step};
 ghost use Rattle.ovs_service.specs.Replies.{RepliesTo, IsAnswer};
 ghost use Rattle.ovs_wire.specs.declared.message.Message.{Message};
 ghost use Rattle.std.specs.Option.{ForSome};
 ghost use Rattle.ovs_views.specs.Published.{is_shown};
 ghost use Rattle.ovs_engine.specs.Collecting.{IsCollected};
+ghost use Rattle.ovs_engine.specs.Refusing.{IsBadReply};
 
-use ovs_authority::{Ask, Authority};
-use ovs_desk::{BadReply, RelayDesk, SourceMessage};
+use ovs_authority::Ask;
+use ovs_desk::{BadReply, SourceMessage};
 use ovs_json::NoMemory;
+use ovs_recorded_desk::{DeskFront, DeskName, RecordedDesk};
 use ovs_types::TxnId;
 use ovs_views::{NodeName, View, ViewSession};
 use ovs_wire::Message;
 use std::alloc::Global;
 use std::sync::{Mutex, Wait};
 
+/// A desk that threads share, of whose calls each caller may know some.
+pub trait KnownDesk {
+    /// What a caller knows of the calls that were made on the desk. It is lent to each of the caller's own.
+    type Known: Drop;
+
+    /// What was called by now, for one caller more to know.
+    fn known(&self) -> Self::Known;
+}
+
 /// A desk that threads share: each calls it by itself, so that no caller knows what it holds. What each call does is what its
 /// `Authority` says of the one of its name.
-pub trait DeskLock<K: NodeName> {
+pub trait DeskLock<K: NodeName>: KnownDesk {
+    // What a session asks may be replied to so at once, or not.
+    ghost replies: { ℕ → Ask → Option Message → Type 0 };
+
     // This may be collected for a session that was shown these steps, where answers are held back until what they stand for is
     // shown, or where they aren't.
     ghost owes: { Bool → ℕ → List Step → Message → Type 0 };
@@ -28,8 +46,14 @@ pub trait DeskLock<K: NodeName> {
     ///
     /// # Errors
     /// `NoMemory` alone; then nothing was asked.
-    fn ask(&self, alloc: Global, who: u64, ask: Ask) -> Result<Option<Message>, NoMemory>
-        ensures replied { IfOk result (λ r. RepliesTo ask.id r) };
+    fn ask(
+        &self,
+        alloc: Global,
+        who: u64,
+        ask: Ask,
+        known: &mut Self::Known,
+    ) -> Result<Option<Message>, NoMemory>
+        ensures replied { IfOk result (λ r. replies who ask r × RepliesTo ask.id r) };
 
     /// The next message for a session, where one is owed. Where answers are held back it is none while the first answer stands
     /// where the session wasn't shown the chain yet.
@@ -43,33 +67,43 @@ pub trait DeskLock<K: NodeName> {
         is_held_back: bool,
         view: &mut View<K>,
         session: &ViewSession<K>,
+        known: &mut Self::Known,
     ) -> Result<Option<Message>, NoMemory>
-        ensures given { IfOk result (λ r. IfSome r (λ m. owes is_held_back who session.now.last m × IsAnswer m)) };
+        ensures given { IfOk result (λ r. IfSome r (λ m. owes is_held_back who session.now.last m × IsAnswer m)) }
+        ensures view { view.new ≡ view.old };
 
     /// Ends a session.
-    fn end_session(&self, who: u64);
+    fn end_session(&self, who: u64, known: &mut Self::Known);
 }
 
 /// A relay's desk, as the thread of the upstream shares it that is the source.
-pub trait UpwardDesk {
+pub trait UpwardDesk: KnownDesk {
+    // The source may not say this.
+    ghost refuses: { SourceMessage → Type 0 };
+
     /// The next request to go up.
     ///
     /// # Errors
     /// `NoMemory` alone; then nothing went up.
-    fn take_up(&self, alloc: Global) -> Result<Option<Message>, NoMemory>;
+    fn take_up(&self, alloc: Global, known: &mut Self::Known) -> Result<Option<Message>, NoMemory>;
 
     /// What the source says, and whom it is for: the session whose transaction it answers, `None` where it is of locks, or for
     /// nobody.
     ///
     /// # Errors
     /// `BadReply` where that is no answer to what is open; nothing is changed then.
-    fn heard(&self, message: SourceMessage) -> Result<Option<u64>, BadReply>;
+    fn heard(
+        &self,
+        message: SourceMessage,
+        known: &mut Self::Known,
+    ) -> Result<Option<u64>, BadReply>
+        ensures refused { OnErr result (refuses message) };
 
     /// There is a source.
-    fn found_source(&self);
+    fn found_source(&self, known: &mut Self::Known);
 
     /// The source is lost.
-    fn lost_source(&self);
+    fn lost_source(&self, known: &mut Self::Known);
 }
 
 // Whether a session was shown where an answer stands, if one is due to it.
@@ -79,6 +113,7 @@ fn is_shown<K: NodeName>(
     session: &ViewSession<K>,
 ) -> bool
     ensures shown { result ≡ true → ForSome standing (λ id. is_shown session.now.last id ≡ true) }
+    ensures view { view.new ≡ view.old }
 {
     match standing {
         Some(id) => view.has_shown(session, id) == Ok(true),
@@ -87,40 +122,45 @@ fn is_shown<K: NodeName>(
 }
 
 // The next message that a desk owes a session, where answers are held back only if the session was shown where the first stands.
-fn collect_shown<K: NodeName>(
+fn collect_shown<K: NodeName, N: DeskName, R: Wait>(
+    rt: &R,
     alloc: Global,
-    desk: &mut RelayDesk,
+    desk: &mut RecordedDesk<N>,
     who: u64,
     is_held_back: bool,
     view: &mut View<K>,
     session: &ViewSession<K>,
+    known: &mut DeskFront<N>,
 ) -> Result<Option<Message>, NoMemory>
-    ensures given { IfOk result (λ r. IfSome r (λ m. IsCollected is_held_back who session.now.last m × IsAnswer m)) }
+    ensures given { IfOk result (λ r. IfSome r (λ m. IsCollected N.database is_held_back who session.now.last m × IsAnswer m)) }
+    ensures ends { IfOk result (λ r. IfSome r (λ m. EndsWith (steps.Collected who (Some m)) known.old known.new)) }
+    ensures view { view.new ≡ view.old }
 {
     if is_held_back && !is_shown(desk.standing(who), view, session) {
         return Ok(None);
     }
-    desk.collect(alloc, who)
+    desk.collect(rt, alloc, who, known)
 }
 
 // Whose transaction it answers, if it does.
-fn asker_of(desk: &RelayDesk, message: &SourceMessage) -> Option<u64> {
+fn asker_of<N: DeskName>(desk: &RecordedDesk<N>, message: &SourceMessage) -> Option<u64> {
     match message {
         SourceMessage::ReplyFor { number, .. } => desk.asker_of(*number),
         _ => None,
     }
 }
 
-/// A relay's desk behind a lock, which is taken for one call at a time.
+/// A relay's desk behind a lock, which is taken for one call at a time. All calls on it are steps of one run, of which each caller
+/// knows those that were made up to its last.
 #[derive(Drop)]
-pub struct LockedDesk<'a, R: Wait> {
+pub struct LockedDesk<'a, N: DeskName, R: Wait> {
     rt: &'a R,
-    desk: Mutex<RelayDesk>,
+    desk: Mutex<RecordedDesk<N>>,
 }
 
-impl<'a, R: Wait> LockedDesk<'a, R> {
+impl<'a, N: DeskName, R: Wait> LockedDesk<'a, N, R> {
     /// This desk.
-    pub fn new(rt: &'a R, desk: RelayDesk) -> LockedDesk<'a, R> {
+    pub fn new(rt: &'a R, desk: RecordedDesk<N>) -> LockedDesk<'a, N, R> {
         LockedDesk {
             rt,
             desk: Mutex::new(desk),
@@ -128,11 +168,30 @@ impl<'a, R: Wait> LockedDesk<'a, R> {
     }
 }
 
-impl<'a, K: NodeName, R: Wait> DeskLock<K> for LockedDesk<'a, R> {
-    ghost owes = { λ held who steps m. IsCollected held who steps m };
+impl<'a, N: DeskName, R: Wait> KnownDesk for LockedDesk<'a, N, R> {
+    type Known = DeskFront<N>;
 
-    fn ask(&self, alloc: Global, who: u64, ask: Ask) -> Result<Option<Message>, NoMemory> {
-        self.desk.lock(self.rt).ask(alloc, who, ask)
+    fn known(&self) -> DeskFront<N> {
+        self.desk.lock(self.rt).known()
+    }
+}
+
+impl<'a, K: NodeName, N: DeskName, R: Wait> DeskLock<K> for LockedDesk<'a, N, R> {
+    ghost replies = { λ who ask r. EndsRun N.database (steps.Asked who ask r) };
+
+    ghost owes = { λ held who steps m. IsCollected N.database held who steps m };
+
+    fn ask(
+        &self,
+        alloc: Global,
+        who: u64,
+        ask: Ask,
+        known: &mut DeskFront<N>,
+    ) -> Result<Option<Message>, NoMemory>
+        ensures replied { IfOk result (λ r. EndsRun N.database (steps.Asked who ask r) × RepliesTo ask.id r) }
+        ensures ends { IfOk result (λ r. EndsWith (steps.Asked who ask r) known.old known.new) }
+    {
+        self.desk.lock(self.rt).ask(self.rt, alloc, who, ask, known)
     }
 
     fn collect(
@@ -142,33 +201,64 @@ impl<'a, K: NodeName, R: Wait> DeskLock<K> for LockedDesk<'a, R> {
         is_held_back: bool,
         view: &mut View<K>,
         session: &ViewSession<K>,
-    ) -> Result<Option<Message>, NoMemory> {
+        known: &mut DeskFront<N>,
+    ) -> Result<Option<Message>, NoMemory>
+        ensures given { IfOk result (λ r. IfSome r (λ m. IsCollected N.database is_held_back who session.now.last m × IsAnswer m)) }
+        ensures view { view.new ≡ view.old }
+        ensures ends { IfOk result (λ r. IfSome r (λ m. EndsWith (steps.Collected who (Some m)) known.old known.new)) }
+    {
         let mut desk = self.desk.lock(self.rt);
-        collect_shown(alloc, &mut *desk, who, is_held_back, view, session)
+        collect_shown(
+            self.rt,
+            alloc,
+            &mut *desk,
+            who,
+            is_held_back,
+            view,
+            session,
+            known,
+        )
     }
 
-    fn end_session(&self, who: u64) {
-        self.desk.lock(self.rt).end_session(who);
+    fn end_session(&self, who: u64, known: &mut DeskFront<N>)
+        ensures ends { EndsWith (steps.Ended who) known.old known.new }
+    {
+        self.desk.lock(self.rt).end_session(self.rt, who, known);
     }
 }
 
-impl<'a, R: Wait> UpwardDesk for LockedDesk<'a, R> {
-    fn take_up(&self, alloc: Global) -> Result<Option<Message>, NoMemory> {
-        self.desk.lock(self.rt).take_up(alloc)
+impl<'a, N: DeskName, R: Wait> UpwardDesk for LockedDesk<'a, N, R> {
+    ghost refuses = { λ message. IsBadReply message };
+
+    fn take_up(&self, alloc: Global, known: &mut DeskFront<N>) -> Result<Option<Message>, NoMemory>
+        ensures ends { IfOk result (λ m. EndsWith (steps.WentUp m) known.old known.new) }
+    {
+        self.desk.lock(self.rt).take_up(self.rt, alloc, known)
     }
 
-    fn heard(&self, message: SourceMessage) -> Result<Option<u64>, BadReply> {
+    fn heard(
+        &self,
+        message: SourceMessage,
+        known: &mut DeskFront<N>,
+    ) -> Result<Option<u64>, BadReply>
+        ensures refused { OnErr result (IsBadReply message) }
+        ensures ends { OnOk result (EndsWith (steps.Heard message (Ok tt)) known.old known.new) }
+    {
         let mut desk = self.desk.lock(self.rt);
         let asker = asker_of(&*desk, &message);
-        desk.heard(message)?;
+        desk.heard(self.rt, message, known)?;
         Ok(asker)
     }
 
-    fn found_source(&self) {
-        self.desk.lock(self.rt).found_source();
+    fn found_source(&self, known: &mut DeskFront<N>)
+        ensures ends { EndsWith steps.FoundSource known.old known.new }
+    {
+        self.desk.lock(self.rt).found_source(self.rt, known);
     }
 
-    fn lost_source(&self) {
-        self.desk.lock(self.rt).lost_source();
+    fn lost_source(&self, known: &mut DeskFront<N>)
+        ensures ends { EndsWith steps.LostSource known.old known.new }
+    {
+        self.desk.lock(self.rt).lost_source(self.rt, known);
     }
 }

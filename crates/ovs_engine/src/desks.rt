@@ -1,84 +1,79 @@
 //! The sides of a node's desk.
 
-ghost use Rattle.std.specs.Prelude.{◌≡◌, Some, None, IfSome};
+ghost use Rattle.std.specs.Prelude.{◌≡◌, [], Some, None, IfSome, option_map};
+ghost use Rattle.ovs_authority.specs.declared.ask.Ask.{Ask};
+ghost use Rattle.ovs_service.specs.Replies.{seen_ask};
 
 use crate::crew::SourceDesk;
-use crate::desk_lock::{DeskLock, UpwardDesk};
+use crate::desk_lock::{DeskLock, KnownDesk, UpwardDesk};
 use crate::folding::ring_all;
 use crate::progress::Progress;
 use crate::workers::worker_of;
 use ovs_authority::{Ask, Verb};
 use ovs_desk::{BadReply, SourceMessage};
-use ovs_follow::SourceSide;
+use ovs_follow::{SideCall, SourceSide, note_found, note_heard, note_taken};
 use ovs_hall::Bell;
+use ovs_history::GhostList;
 use ovs_json::NoMemory;
-use ovs_service::{Desk, copy_ask};
+use ovs_service::{Asker, Desk, copy_ask};
 use ovs_types::TxnId;
 use ovs_views::{NodeName, View, ViewSession};
 use ovs_wire::Message;
 use std::alloc::Global;
+use std::snapshot::Snapshot;
 
 /// The desk as a worker asks it. What is asked wakes the thread that passes it on, or that sends the links which come of it; and
 /// what may make notices due to other sessions wakes all workers.
 #[derive(Drop)]
-pub(crate) struct SharedDesk<'a, L, U: Bell, B: Bell> {
+pub(crate) struct SharedDesk<'a, L: KnownDesk, U: Bell, B: Bell> {
     desk: &'a L,
     upward: &'a U,
     bells: &'a [B],
     progress: &'a Progress,
-    // The sessions that asked for a lock, so that others may wait for it.
-    lockers: Vec<u64>,
+    // Of the calls on the desk, those up to the last one of this worker.
+    known: L::Known,
+    // The sessions that it ended.
+    ended: GhostList<u64>,
 }
 
-impl<'a, L, U: Bell, B: Bell> SharedDesk<'a, L, U, B> {
+impl<'a, L: KnownDesk, U: Bell, B: Bell> SharedDesk<'a, L, U, B> {
     /// Nobody asked yet.
     pub(crate) fn new(
-        alloc: Global,
         desk: &'a L,
         upward: &'a U,
         bells: &'a [B],
         progress: &'a Progress,
-    ) -> SharedDesk<'a, L, U, B> {
+    ) -> SharedDesk<'a, L, U, B>
+        ensures none { result.ended ≡ [] }
+    {
         SharedDesk {
             desk,
             upward,
             bells,
             progress,
-            lockers: Vec::new(alloc),
-        }
-    }
-
-    // Keeps that a session asks for a lock, if it does. After `NoMemory` nothing is kept.
-    fn note_locker(&mut self, who: u64, verb: &Verb) -> Result<(), NoMemory> {
-        if matches!(verb, Verb::Lock(_) | Verb::Steal(_)) && !self.lockers.contains(&who) {
-            self.lockers.reserve(1)?;
-            self.lockers.push_reserved(who);
-        }
-        Ok(())
-    }
-
-    // Whether a session asked for a lock, which is then forgotten.
-    fn forget_locker(&mut self, who: u64) -> bool {
-        match self.lockers.iter().position(|locker| *locker == who) {
-            Some(place) => {
-                self.lockers.swap_remove(place);
-                true
-            }
-            None => false,
+            known: desk.known(),
+            ended: GhostList::new(),
         }
     }
 }
 
 impl<'a, K: NodeName, L: DeskLock<K>, U: Bell, B: Bell> Desk<K> for SharedDesk<'a, L, U, B> {
-    ghost replies = { λ _ _ _. Unit {0} };
+    // What is asked is an equal copy.
+    ghost replies = { λ who ask r. (copy : Ask) × (seen_ask copy ≡ seen_ask ask) × L.replies who copy r };
 
     ghost owes = { λ held who steps m. L.owes held who steps m };
 
-    ghost is_silent = { λ _ _. Unit {0} };
+    ghost ended = { λ desk. desk.ended };
 
-    fn ask(&mut self, alloc: Global, who: u64, ask: &Ask) -> Result<Option<Message>, NoMemory> {
-        self.note_locker(who, &ask.verb)?;
-        let reply = self.desk.ask(alloc, who, copy_ask(ask)?)?;
+    fn ask(
+        &mut self,
+        alloc: Global,
+        asker: &mut Asker,
+        ask: &Ask,
+    ) -> Result<Option<Message>, NoMemory> {
+        let copy = copy_ask(ask)?;
+        let reply = self.desk.ask(alloc, asker.who(), copy, &mut self.known)?;
+        asker.note_asked(ask, &reply);
         self.upward.ring();
         // The lock has another owner then.
         if matches!(ask.verb, Verb::Steal(_) | Verb::Unlock(_)) {
@@ -94,17 +89,25 @@ impl<'a, K: NodeName, L: DeskLock<K>, U: Bell, B: Bell> Desk<K> for SharedDesk<'
     fn collect(
         &mut self,
         alloc: Global,
-        who: u64,
+        asker: &mut Asker,
         is_held_back: bool,
         view: &mut View<K>,
         session: &ViewSession<K>,
     ) -> Result<Option<Message>, NoMemory> {
-        self.desk.collect(alloc, who, is_held_back, view, session)
+        let who = asker.who();
+        let message = self
+            .desk
+            .collect(alloc, who, is_held_back, view, session, &mut self.known)?;
+        asker.note_collected(is_held_back, &message);
+        Ok(message)
     }
 
-    fn end_session(&mut self, who: u64) {
-        self.desk.end_session(who);
-        if self.forget_locker(who) {
+    fn end_session(&mut self, asker: &Asker) {
+        let who = asker.who();
+        self.desk.end_session(who, &mut self.known);
+        self.ended.push(&who);
+        // Others may wait for a lock that it had.
+        if asker.has_locks() {
             self.upward.ring();
             ring_all(self.bells);
         }
@@ -119,12 +122,19 @@ fn standing_of(message: &SourceMessage) -> Option<TxnId> {
     }
 }
 
+// The desk, and of the calls on it those up to the last one of this thread.
+#[derive(Drop)]
+pub(crate) struct Uplink<'a, L: UpwardDesk> {
+    pub(crate) desk: &'a L,
+    known: L::Known,
+}
+
 /// The desk as the thread of the upstream sees it that is the source. That of another upstream's thread has no desk: nothing is
 /// passed on, and what comes aside is let go.
 #[derive(Drop)]
 pub struct SharedSide<'a, L: UpwardDesk, B: Bell> {
     alloc: Global,
-    desk: Option<&'a L>,
+    uplink: Option<Uplink<'a, L>>,
     // What wakes the workers, whose sessions may be owed something then.
     bells: &'a [B],
     // How far the folder has come, where no other upstream sends it links.
@@ -134,28 +144,30 @@ pub struct SharedSide<'a, L: UpwardDesk, B: Bell> {
 impl<'a, L: UpwardDesk, B: Bell> SharedSide<'a, L, B> {
     /// The side of this desk, or that of an upstream that isn't the source.
     pub(crate) fn new(alloc: Global, source: Option<SourceDesk<'a, L, B>>) -> SharedSide<'a, L, B>
-        ensures source { IfSome source.entry (λ s. (result.desk ≡ Some s.desk) × (result.bells ≡ s.bells)) }
-        ensures none { source.entry ≡ None → result.desk ≡ None }
+        ensures desk { option_map (λ (up : _). up.desk) result.uplink ≡ option_map (λ (s : _). s.desk) source.entry }
+        ensures bells { IfSome source.entry (λ s. result.bells ≡ s.bells) }
     {
-        match source {
-            Some(
-                SourceDesk {
-                    desk,
-                    bells,
-                    progress,
-                },
-            ) => SharedSide {
-                alloc,
-                desk: Some(desk),
+        let Some(
+            SourceDesk {
+                desk,
                 bells,
                 progress,
             },
-            None => SharedSide {
+        ) = source
+        else {
+            return SharedSide {
                 alloc,
-                desk: None,
+                uplink: None,
                 bells: &[],
                 progress: None,
-            },
+            };
+        };
+        let known = desk.known();
+        SharedSide {
+            alloc,
+            uplink: Some(Uplink { desk, known }),
+            bells,
+            progress,
         }
     }
 
@@ -187,36 +199,45 @@ impl<'a, L: UpwardDesk, B: Bell> SharedSide<'a, L, B> {
 impl<'a, L: UpwardDesk, B: Bell> SourceSide for SharedSide<'a, L, B> {
     ghost hears = { λ _ _ _. Unit {0} };
 
+    ghost refuses = { λ message. L.refuses message };
+
     ghost finds = { λ _ _ _. Unit {0} };
 
     ghost loses = { λ _ _. Unit {0} };
 
-    fn take_up(&mut self) -> Result<Option<Message>, NoMemory> {
-        match self.desk {
-            Some(desk) => desk.take_up(self.alloc),
-            None => Ok(None),
-        }
+    fn take_up(&mut self, made: &mut GhostList<SideCall>) -> Result<Option<Message>, NoMemory> {
+        let taken = match &mut self.uplink {
+            Some(up) => up.desk.take_up(self.alloc, &mut up.known)?,
+            None => None,
+        };
+        Ok(note_taken(taken, made))
     }
 
-    fn heard(&mut self, message: SourceMessage) -> Result<(), BadReply> {
-        let Some(desk) = self.desk else {
-            return Ok(());
-        };
-        let standing = standing_of(&message);
-        let asker = desk.heard(message)?;
-        self.ring_for(asker, standing);
+    fn heard(
+        &mut self,
+        message: SourceMessage,
+        made: &mut GhostList<SideCall>,
+    ) -> Result<(), BadReply> {
+        let said = Snapshot::of(&message);
+        if let Some(up) = &mut self.uplink {
+            let standing = standing_of(&message);
+            let asker = up.desk.heard(message, &mut up.known)?;
+            self.ring_for(asker, standing);
+        }
+        note_heard(&said, made);
         Ok(())
     }
 
-    fn found_source(&mut self, _from: TxnId) {
-        if let Some(desk) = self.desk {
-            desk.found_source();
+    fn found_source(&mut self, from: TxnId, made: &mut GhostList<SideCall>) {
+        if let Some(up) = &mut self.uplink {
+            up.desk.found_source(&mut up.known);
         }
+        note_found(from, made);
     }
 
     fn lost_source(&mut self) {
-        if let Some(desk) = self.desk {
-            desk.lost_source();
+        if let Some(up) = &mut self.uplink {
+            up.desk.lost_source(&mut up.known);
             ring_all(self.bells);
         }
     }

@@ -4,11 +4,13 @@ ghost use Rattle.std.specs.Prelude.{◌≡◌, ℕ};
 ghost use Rattle.ovs_engine.specs.Epochs.{IsBeginning, begun_from, restood, standing_in};
 
 use ovs_desk::{BadReply, SourceMessage, StandingAnswer};
-use ovs_follow::SourceSide;
+use ovs_follow::{SideCall, SourceSide, note_heard};
+use ovs_history::GhostList;
 use ovs_json::NoMemory;
 use ovs_types::TxnId;
 use ovs_views::{NodeName, View};
 use ovs_wire::Message;
+use std::snapshot::Snapshot;
 
 /// The side of the source in one session with it. Where the node's chain begins at a greater start than that of which the session
 /// tells, none of the latter is ever shown here again: so what the session answers then stands where the node's chain begins.
@@ -74,23 +76,33 @@ impl<'v, K: NodeName, D: SourceSide + Drop> SourceSide for EpochSide<'v, K, D> {
 
     ghost finds = { λ old from new. D.finds old.side from new.side × (new.start ≡ begun_from old.start from) };
 
+    ghost refuses = { λ message. (start begins : ℕ) × D.refuses (restood start begins message) };
+
     ghost loses = { λ old new. D.loses old.side new.side };
 
-    fn take_up(&mut self) -> Result<Option<Message>, NoMemory> {
-        self.side.take_up()
+    fn take_up(&mut self, made: &mut GhostList<SideCall>) -> Result<Option<Message>, NoMemory> {
+        self.side.take_up(made)
     }
 
-    fn heard(&mut self, message: SourceMessage) -> Result<(), BadReply> {
+    fn heard(
+        &mut self,
+        message: SourceMessage,
+        made: &mut GhostList<SideCall>,
+    ) -> Result<(), BadReply> {
+        let said = Snapshot::of(&message);
         let message = self.restood(message);
-        self.side.heard(message)
+        // That of the side itself is told the answer where it stands here.
+        self.side.heard(message, &mut GhostList::new())?;
+        note_heard(&said, made);
+        Ok(())
     }
 
     // Links that join up from a start are of the chain from there; from the id that was asked, of the node's own.
-    fn found_source(&mut self, from: TxnId) {
+    fn found_source(&mut self, from: TxnId, made: &mut GhostList<SideCall>) {
         if from.is_start() {
             self.start = from;
         }
-        self.side.found_source(from);
+        self.side.found_source(from, made);
     }
 
     fn lost_source(&mut self) {

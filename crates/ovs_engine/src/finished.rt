@@ -5,15 +5,16 @@ ghost use Rattle.std.specs.Vec.Iter.{into_iter_items, into_iter_len};
 
 use crate::party::Party;
 use crate::serving::Back;
-use ovs_hall::Tally;
+use crate::vacant::Vacant;
+use ovs_hall::{Doors, Tally};
 use ovs_views::{NodeName, View};
 use std::vec::IntoIter;
 
 /// What a thread hands back.
 #[derive(Drop)]
-pub struct Returned<K: NodeName, F, D> {
-    /// What is left of what it sent links with, or a worker's doors.
-    pub party: Party<F, D>,
+pub struct Returned<K: NodeName, F, D: Doors> {
+    /// What is left of what it sent links with, or a worker's doors, with nobody inside.
+    pub party: Party<F, Vacant<D>>,
     /// Its view.
     pub view: View<K>,
     /// What its sessions counted.
@@ -22,13 +23,13 @@ pub struct Returned<K: NodeName, F, D> {
 
 /// What is left of a node whose threads have come to their ends.
 #[derive(Drop)]
-pub struct Finished<K: NodeName, F: Drop, D: Drop, N> {
+pub struct Finished<K: NodeName, F: Drop, D: Doors + Drop, N> {
     /// The node. That it is at rest `run_node` says, and `run_source` of `ovs_origin`.
     pub node: N,
     backs: IntoIter<Back<K, F, D>>,
 }
 
-impl<K: NodeName, F: Drop, D: Drop, N> Finished<K, F, D, N> {
+impl<K: NodeName, F: Drop, D: Doors + Drop, N> Finished<K, F, D, N> {
     /// The node, and what comes back of its threads, in this order.
     pub fn new(node: N, backs: Vec<Back<K, F, D>>) -> Finished<K, F, D, N>
         ensures node { result.node ≡ node }

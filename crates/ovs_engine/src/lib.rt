@@ -3,7 +3,6 @@
 
 mod connector;
 mod crew;
-mod crossing;
 mod desk_lock;
 mod desks;
 mod epoch_side;
@@ -12,25 +11,24 @@ mod finished;
 mod folding;
 mod line;
 mod node_threads;
-mod one_by_one;
 mod party;
 mod progress;
 mod serving;
 mod upstreams;
+mod vacant;
 mod watcher;
 mod workers;
 
 pub use connector::Connector;
 pub use crew::{Crew, SourceDesk, UpstreamParts, WorkerParts};
-pub use crossing::relay_desk_sends;
-pub use desk_lock::{DeskLock, LockedDesk, UpwardDesk};
+pub use desk_lock::{DeskLock, KnownDesk, LockedDesk, UpwardDesk};
 pub use feed_sink::FeedSink;
 pub use finished::{Finished, Returned};
 pub use folding::{Folding, NotFolded, fold_beside};
 pub use line::Line;
 pub use node_threads::{Counters, NotRun, Ran, Shared, ThreadBack, run_node};
-pub use one_by_one::OneByOne;
 pub use party::Party;
 pub use progress::Progress;
 pub use serving::{Back, Feeds, Job, Serving};
+pub use vacant::{Unused, Vacant};
 pub use watcher::{Unwatched, Watcher};

@@ -9,7 +9,7 @@ ghost use Rattle.ovs_folder.specs.Ledger.{steps_in};
 
 use crate::connector::Connector;
 use crate::crew::Crew;
-use crate::desk_lock::{DeskLock, UpwardDesk};
+use crate::desk_lock::{DeskLock, KnownDesk, UpwardDesk};
 use crate::finished::{Finished, Returned};
 use crate::folding::Folding;
 use crate::line::Line;
@@ -53,10 +53,9 @@ pub struct Shared<'a, K: NodeName, Q: FeedName, L: DeskLock<K>, B: Bell, O: Watc
     pub limits: Limits,
 }
 
-/// What the threads of a node count: the numbers of their sessions, how many of them run, and how far the folder has come.
+/// What the threads of a node count: how many of them run, and how far the folder has come.
 #[derive(Drop)]
 pub struct Counters {
-    numbers: AtomicU64,
     running: AtomicU64,
     progress: Progress,
 }
@@ -65,15 +64,9 @@ impl Counters {
     /// Nothing was counted yet.
     pub fn new() -> Counters {
         Counters {
-            numbers: AtomicU64::new(0),
             running: AtomicU64::new(0),
             progress: Progress::new(),
         }
-    }
-
-    /// The number of the next session of any worker.
-    pub fn numbers(&self) -> &AtomicU64 {
-        &self.numbers
     }
 
     /// How far the folder has come.
@@ -125,7 +118,7 @@ pub fn run_node<
     Q: FeedName + Send + Sync,
     C: Connector<In: Send, Out: Send> + Drop + Send,
     D: Doors<In: Send, Out: Send> + Drop + Send,
-    L: UpwardDesk + DeskLock<K> + Sync,
+    L: KnownDesk<Known: Send> + UpwardDesk + DeskLock<K> + Sync,
     B: Bell + Sync,
     O: Watcher,
     H: Wait + Drop,
@@ -170,7 +163,6 @@ pub fn run_node<
         desk: shared.desk,
         upward: shared.upward,
         bells: shared.bells,
-        numbers: shared.counters.numbers(),
         running: shared.counters.running(),
         progress: shared.counters.progress(),
         limits: shared.limits,

@@ -7,15 +7,16 @@ ghost use Rattle.ovs_folder.specs.InStep.{IsAtRest, IsInStep};
 ghost use Rattle.ovs_folder.specs.Ledger.{steps_in};
 
 use crate::connector::Connector;
-use crate::desk_lock::{DeskLock, UpwardDesk};
+use crate::desk_lock::{DeskLock, KnownDesk, UpwardDesk};
 use crate::desks::{SharedDesk, SharedSide};
 use crate::folding::{Folding, NotFolded, fold_beside};
 use crate::line::Line;
 use crate::party::Party;
 use crate::progress::Progress;
 use crate::upstreams::{Follows, Upstream};
+use crate::vacant::{Unused, Vacant};
 use crate::watcher::Watcher;
-use crate::workers::serve_readers;
+use crate::workers::{Worked, serve_readers};
 use left_right::ReadHandle;
 use ovs_feed::{FeedName, FeedQueue};
 use ovs_folder::{Node, NodeLink};
@@ -29,10 +30,10 @@ use std::sync::atomic::{AtomicU64, Ordering};
 use std::thread::Threads;
 
 /// What each thread has: what it sends links with, or a worker's doors, and the parts of its view.
-pub type Job<K, E, D> = (Party<E, D>, ReadHandle<Shown<K>>, Front<K>);
+pub type Job<K, E, D> = (Party<E, Unused<D>>, ReadHandle<Shown<K>>, Front<K>);
 
 /// What comes back of each, with what its sessions counted.
-pub type Back<K, F, D> = (Party<F, D>, ReadHandle<Shown<K>>, Front<K>, Tally);
+pub type Back<K, F, D> = (Party<F, Vacant<D>>, ReadHandle<Shown<K>>, Front<K>, Tally);
 
 /// What those threads of a node do that send links to its feed. A fact about what is left of one is a fact of its type.
 pub trait Feeds<K: NodeName, E, F> {
@@ -69,8 +70,6 @@ pub struct Serving<
     pub upward: &'a U,
     /// What wakes the workers.
     pub bells: &'a [B],
-    /// The number of the next session of any worker.
-    pub numbers: &'a AtomicU64,
     /// How many threads run.
     pub running: &'a AtomicU64,
     /// How far the folder has come.
@@ -97,20 +96,15 @@ impl<'a, K: NodeName, Q: FeedName, T: Drop, L: DeskLock<K>, U: Bell, B: Bell, R:
     }
 
     // Serves readers at these doors.
-    fn serve<D: Doors>(&self, doors: &mut D, view: View<K>) -> (View<K>, Tally) {
-        let desk = SharedDesk::new(
-            self.alloc,
-            self.desk,
-            self.upward,
-            self.bells,
-            self.progress,
-        );
+    fn serve<D: Doors + Drop>(&self, doors: Unused<D>, view: View<K>) -> Worked<K, D>
+        ensures closed { D.is_closed result.doors.doors }
+    {
+        let desk = SharedDesk::new(self.desk, self.upward, self.bells, self.progress);
         serve_readers::<K, SharedDesk<'a, L, U, B>, D, R>(
             self.rt,
             self.alloc,
             view,
             desk,
-            self.numbers,
             doors,
             self.limits,
         )
@@ -139,11 +133,10 @@ impl<
                 Party::Upstream(self.feeds.feed(from, &mut view, &mut tally))
             }
             Party::Worker(doors) => {
-                let mut doors = doors;
-                let (back, served) = self.serve(&mut doors, view);
-                view = back;
-                tally = served;
-                Party::Worker(doors)
+                let worked = self.serve(doors, view);
+                view = worked.view;
+                tally = worked.tally;
+                Party::Worker(worked.doors)
             }
         };
         self.leave();
@@ -156,7 +149,7 @@ impl<
         self.leave();
         let party = match party {
             Party::Upstream(from) => Party::Upstream(self.feeds.refuse(from)),
-            Party::Worker(doors) => Party::Worker(doors),
+            Party::Worker(doors) => Party::Worker(doors.into_vacant()),
         };
         (party, handle, known, Tally::new())
     }
@@ -179,7 +172,7 @@ pub(crate) fn beside_upstreams<
     Q: FeedName + Send + Sync,
     C: Connector<In: Send, Out: Send> + Drop + Send,
     D: Doors<In: Send, Out: Send> + Drop + Send,
-    L: UpwardDesk + DeskLock<K> + Sync,
+    L: KnownDesk<Known: Send> + UpwardDesk + DeskLock<K> + Sync,
     B: Bell + Sync,
     O: Watcher,
     H: Wait + Drop,

@@ -15,6 +15,7 @@ use ovs_hall::Tally;
 use ovs_session::{Ended, Limits};
 use ovs_types::{Schema, TxnId};
 use ovs_views::{Board, NodeName, View, teach};
+use ovs_wire::Counted;
 use std::alloc::Global;
 use std::sync::{Mutex, Wait};
 use std::thread;
@@ -88,7 +89,8 @@ impl<'a, K: NodeName, Q: FeedName, R: Wait> Follows<'a, K, Q, R> {
     ) -> Back<K, Q, C, D>
         requires lawful { AdmitsBytes C.admits asked (C.In.remaining connection.0) }
     {
-        let (mut reader, mut writer) = connection;
+        let (reader, writer) = connection;
+        let (mut reader, mut writer) = (Counted::new(reader), Counted::new(writer));
         let sink = FeedSink::new(self.rt, self.queue, line.into_end());
         let followed = follow_upstream(
             self.alloc,
@@ -106,6 +108,7 @@ impl<'a, K: NodeName, Q: FeedName, R: Wait> Follows<'a, K, Q, R> {
             source,
             counts,
             ended,
+            made: _,
         } = followed;
         tally.add(counts);
         let (end, last) = sink.into_parts();

@@ -1,21 +1,22 @@
 //! The threads of a node's workers, each of which serves many readers.
 
-ghost use Rattle.std.specs.Prelude.{◌≡◌};
-ghost use Rattle.ovs_service.specs.Client.{SaysNothing, AnswersTo, TellsNew, MayAsk, IsAnswered};
+ghost use Rattle.std.specs.Prelude.{◌≡◌, ◌+◌, ◌*◌, ℕ, List, Contains, IfSome, true};
+ghost use Rattle.ovs_links.specs.declared.step.Step.{Step};
+ghost use Rattle.ovs_service.specs.Client.{SaysNothing, AnswersTo, TellsNew, MayAsk, IsAnswered, HasAll, new_client};
 
+use crate::vacant::{Unused, Vacant};
 use ovs_hall::{Doors, Host, Receives, Tally, serve_many};
 use ovs_service::{Client, Desk, NodeService};
-use ovs_session::{Limits, Outbox, Refusal, Service};
+use ovs_session::{Limits, Outbox, Pace, Refusal, Service};
 use ovs_views::{NodeName, View};
 use std::alloc::Global;
 use std::sync::Wait;
-use std::sync::atomic::{AtomicU64, Ordering};
 
 /// A node's service, which gives each new session a number of its own.
-pub(crate) struct NodeHost<'a, K: NodeName, D: Desk<K>> {
+pub(crate) struct NodeHost<K: NodeName, D: Desk<K>> {
     service: NodeService<K, D>,
-    // How many sessions any worker has numbered.
-    numbers: &'a AtomicU64,
+    // How many sessions it has begun.
+    next: u64,
     // The number of this worker.
     worker: u64,
 }
@@ -28,7 +29,7 @@ pub(crate) fn worker_of(who: u64) -> usize {
     (who % WORKERS) as usize
 }
 
-impl<'a, K: NodeName, D: Desk<K>> Service for NodeHost<'a, K, D> {
+impl<K: NodeName, D: Desk<K>> Service for NodeHost<K, D> {
     type Session = Client<K>;
 
     ghost answers = { λ old text said new. AnswersTo K.schema D.replies D.owes old text said new };
@@ -37,9 +38,15 @@ impl<'a, K: NodeName, D: Desk<K>> Service for NodeHost<'a, K, D> {
 
     ghost refuses = { λ _ text. SaysNothing text };
 
-    ghost may_answer = { λ _ client. MayAsk client };
+    ghost may_answer = { λ client. MayAsk client };
 
-    ghost is_answered = { λ _ client. IsAnswered client };
+    ghost is_answered = { λ client. IsAnswered client };
+
+    ghost is_told = { λ host client. HasAll host.service.view client };
+
+    ghost may_tell = { λ _ _. Unit {0} };
+
+    ghost is_gone = { λ host. host.service.is_gone ≡ true };
 
     fn takes(&self, client: &Client<K>) -> bool {
         self.service.takes(client)
@@ -58,27 +65,31 @@ impl<'a, K: NodeName, D: Desk<K>> Service for NodeHost<'a, K, D> {
         self.service.answer(client, text, out)
     }
 
-    fn tell(&mut self, client: &mut Client<K>, out: &mut Outbox) -> Result<(), Refusal> {
+    fn tell(&mut self, client: &mut Client<K>, out: &mut Outbox) -> Result<Pace, Refusal> {
         self.service.tell(client, out)
     }
 }
 
-impl<'a, K: NodeName, D: Desk<K>> Host for NodeHost<'a, K, D> {
-    ghost is_silent = { λ host client. D.is_silent host.service.desk client.who };
+impl<K: NodeName, D: Desk<K>> Host for NodeHost<K, D> {
+    ghost begins = { λ client. (who : ℕ) × (last : List Step) × (client ≡ new_client who last) };
 
-    fn end(&mut self, client: Client<K>) {
+    ghost is_silent = { λ host client. Contains (D.ended host.service.desk) client.who };
+
+    fn end(&mut self, client: &Client<K>) {
         self.service.end(client);
     }
 }
 
-impl<'a, K: NodeName, D: Desk<K>> Receives for NodeHost<'a, K, D> {
-    fn begin(&mut self) -> Option<Client<K>> {
-        let next = self.numbers.fetch_update(
-            Ordering::SeqCst,
-            Ordering::SeqCst,
-            |number| number.checked_add(1),
-        );
-        let who = next.ok()?.checked_mul(WORKERS)?.checked_add(self.worker)?;
+impl<K: NodeName, D: Desk<K>> Receives for NodeHost<K, D> {
+    // The number is the worker's, and how many sessions it began before: so no two sessions of a worker have one.
+    fn begin(&mut self) -> Option<Client<K>>
+        ensures begins { IfSome result (λ client. (last : List Step) × (client ≡ new_client (self.old.next * 64 + self.old.worker) last)) }
+        ensures next { IfSome result (λ _. self.new.next ≡ self.old.next + 1) }
+        ensures worker { self.new.worker ≡ self.old.worker }
+    {
+        let next = self.next.checked_add(1)?;
+        let who = self.next.checked_mul(WORKERS)?.checked_add(self.worker)?;
+        self.next = next;
         Some(self.service.client(who))
     }
 
@@ -86,27 +97,41 @@ impl<'a, K: NodeName, D: Desk<K>> Receives for NodeHost<'a, K, D> {
     fn rung(&mut self) {}
 }
 
+/// What is left of a worker once it has served its readers.
+#[derive(Drop)]
+pub(crate) struct Worked<K: NodeName, D: Doors + Drop> {
+    pub(crate) view: View<K>,
+    pub(crate) doors: Vacant<D>,
+    pub(crate) tally: Tally,
+}
+
 /// Serves the readers that come in at these doors, until no more come and all have ended.
-pub(crate) fn serve_readers<K: NodeName, D: Desk<K> + Drop, O: Doors, R: Wait>(
+pub(crate) fn serve_readers<K: NodeName, D: Desk<K> + Drop, O: Doors + Drop, R: Wait>(
     rt: &R,
     alloc: Global,
     view: View<K>,
     desk: D,
-    numbers: &AtomicU64,
-    doors: &mut O,
+    doors: Unused<O>,
     limits: Limits,
-) -> (View<K>, Tally) {
+) -> Worked<K, O>
+    ensures closed { O.is_closed result.doors.doors }
+{
+    let doors = doors.into_doors();
     let mut host = NodeHost {
         service: NodeService::new(alloc, view, desk),
-        numbers,
+        next: 0,
         worker: doors.worker() as u64 % WORKERS,
     };
-    let tally = serve_many(rt, alloc, &mut host, doors, limits);
+    let (tally, doors, _served) = serve_many(rt, alloc, &mut host, doors, limits);
     let NodeHost {
         service,
-        numbers: _,
+        next: _,
         worker: _,
     } = host;
     let (view, _desk) = service.into_parts();
-    (view, tally)
+    Worked {
+        view,
+        doors: Vacant::new(doors),
+        tally,
+    }
 }

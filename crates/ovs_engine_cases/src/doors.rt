@@ -1,7 +1,11 @@
 //! Connections over memory, which come in at the doors of a hall.
 
+ghost use Rattle.std.specs.Prelude.{◌≡◌, ◌≤◌, [], ℕ, None, length};
+ghost use Rattle.ovs_hall.specs.Connections.{out_of};
+
 use crate::sessions::Script;
-use ovs_hall::{Doors, Ready, Timeout, Woken};
+use ovs_hall::{Connections, Doors, Ready, Timeout, Woken};
+use ovs_session::Ended;
 use std::io::{self, ErrorKind, Read, Write};
 use std::sync::atomic::{AtomicBool, Ordering};
 
@@ -61,6 +65,8 @@ pub(crate) struct MemoryDoors<'a> {
     came: usize,
     // The next that may go on.
     next: usize,
+    // The sessions that are inside.
+    connections: Connections<Pieces<'a>, Checked<'a>>,
 }
 
 impl<'a> MemoryDoors<'a> {
@@ -69,13 +75,17 @@ impl<'a> MemoryDoors<'a> {
         scripts: &'a [Script],
         piece: usize,
         have_all_come: &'a AtomicBool,
-    ) -> MemoryDoors<'a> {
+    ) -> MemoryDoors<'a>
+        ensures none { (key : ℕ) → out_of result.connections key ≡ None }
+        ensures none_back { result.connections.back ≡ [] }
+    {
         MemoryDoors {
             scripts,
             piece,
             have_all_come,
             came: 0,
             next: 0,
+            connections: Connections::new(),
         }
     }
 }
@@ -84,6 +94,14 @@ impl<'a> Doors for MemoryDoors<'a> {
     type In = Pieces<'a>;
 
     type Out = Checked<'a>;
+
+    ghost out = { λ doors key. out_of doors.connections key };
+
+    ghost back = { λ doors. doors.connections.back };
+
+    ghost is_closed = { λ doors. length doors.scripts.now ≤ doors.came };
+
+    ghost is_over = { λ _. ⊥ };
 
     // Every session may go on again: its reader has the next piece.
     fn wait(&mut self, _timeout: Timeout) -> Woken {
@@ -113,7 +131,7 @@ impl<'a> Doors for MemoryDoors<'a> {
         })
     }
 
-    fn accept(&mut self, _key: usize) -> Option<(Pieces<'a>, Checked<'a>)> {
+    fn accept(&mut self, key: usize) -> Option<(Pieces<'a>, Checked<'a>)> {
         let script = self.scripts.get(self.came)?;
         self.came += 1;
         let reader = Pieces {
@@ -127,6 +145,11 @@ impl<'a> Doors for MemoryDoors<'a> {
             piece: self.piece,
             script,
         };
+        self.connections.note_came(key, &reader, &writer);
         Some((reader, writer))
+    }
+
+    fn left(&mut self, key: usize, _reader: Pieces<'a>, _writer: Checked<'a>, _ended: Ended) {
+        self.connections.note_left(key);
     }
 }

@@ -11,13 +11,15 @@ use crate::fault::Fault;
 use crate::outcome::{finished, told};
 use crate::readers::request_text;
 use crate::upstreams::{UpSession, Upstream, number_in, read_sessions};
-use ovs_engine::{Line, Shared, Unwatched, relay_desk_sends, run_node};
+use ovs_engine::{Line, Shared, Unwatched, run_node};
+use ovs_json::Text;
 use ovs_links::Step;
 use ovs_node::{
     Board, FeedName, FeedQueue, Handle, Node, NodeLink, NodeName, OpenNode, Opened, Parts, Report,
     View,
 };
 use ovs_query::Select;
+use ovs_recorded_desk::{DeskName, DeskStep, relay_desk_sends};
 use ovs_session::Limits;
 use ovs_types::Schema;
 use serde_json::Value;
@@ -92,9 +94,13 @@ pub(crate) fn opened<K: NodeName + Send + Sync, R: Threads + Wait + Sync>(
 ) -> Result<String, Fault>
     requires name { (opened.seen.book ≡ K.book) × (schema.now ≡ K.schema) }
 {
+    let desk = DeskOf {
+        database: Text::new(alloc, "net")?,
+        opened: Opened::new(),
+    };
     let (upstreams, views) = (scene.upstreams.len(), scene.views());
     let node = OpenNode::<K, Handle<K, &R>>::new(alloc, rt, schema, opened, upstreams, views)?;
-    named::<K, Brand, R>(rt, alloc, schema, node, scene, select)
+    named::<K, Brand, R>(rt, alloc, schema, node, desk, scene, select)
 }
 
 // The same, where the node is opened.
@@ -103,6 +109,7 @@ fn named<K: NodeName + Send + Sync, Q: FeedName + Send + Sync, R: Threads + Wait
     alloc: Global,
     schema: &Schema,
     node: OpenNode<K, Handle<K, &R>>,
+    desk: DeskOf,
     scene: Scene,
     select: &Select,
 ) -> Result<String, Fault>
@@ -113,18 +120,33 @@ fn named<K: NodeName + Send + Sync, Q: FeedName + Send + Sync, R: Threads + Wait
     requires publisher { IsInStep (published node.publisher.handle) (pending node.publisher.handle) node.publisher.front node.publisher.kept [] }
 {
     let parts = node.named::<Q>()?;
-    run(rt, alloc, schema, parts, scene, select)
+    run::<K, Q, Brand, R>(rt, alloc, schema, parts, desk, scene, select)
+}
+
+// What the node's desk is made of.
+#[derive(Drop)]
+struct DeskOf {
+    database: Text,
+    opened: Opened<DeskStep>,
 }
 
 // Runs the node, and tells what came of it.
-fn run<'x, K: NodeName + Send + Sync, Q: FeedName + Send + Sync, R: Threads + Wait + Sync>(
+fn run<
+    'x,
+    K: NodeName + Send + Sync,
+    Q: FeedName + Send + Sync,
+    N: DeskName + Send,
+    R: Threads + Wait + Sync,
+>(
     rt: &'x R,
     alloc: Global,
     schema: &Schema,
     parts: Parts<K, Q, Handle<K, &'x R>>,
+    desk: DeskOf,
     scene: Scene,
     select: &Select,
 ) -> Result<String, Fault>
+    requires desk { (desk.opened.seen.book ≡ N.book) × (desk.database ≡ N.database) }
     requires schema { schema.now ≡ K.schema }
     requires in_step { IsInStep (published parts.node.publisher.handle) (pending parts.node.publisher.handle) parts.node.publisher.front parts.node.publisher.kept (steps_in parts.node.intake.store) }
     requires unsent { AllByRecursion (λ e. e.1 ≡ []) parts.ends.items }
@@ -137,7 +159,8 @@ fn run<'x, K: NodeName + Send + Sync, Q: FeedName + Send + Sync, R: Threads + Wa
         board,
     } = parts;
     let kept_back = views.pop().ok_or(Fault::BadCount)?;
-    let stage = Stage::new(rt, alloc)?;
+    let DeskOf { database, opened } = desk;
+    let stage = Stage::<'x, N, R>::new(rt, alloc, database, opened)?;
     let lines = lines_of(alloc, ends)?;
     let outfit = Outfit {
         scene,
@@ -157,13 +180,20 @@ struct Outfit<K: NodeName, Q: FeedName> {
 }
 
 // The same, where all is there that the threads share.
-fn staged<'a, 'x, K: NodeName + Send + Sync, Q: FeedName + Send + Sync, R: Threads + Wait + Sync>(
+fn staged<
+    'a,
+    'x,
+    K: NodeName + Send + Sync,
+    Q: FeedName + Send + Sync,
+    N: DeskName + Send,
+    R: Threads + Wait + Sync,
+>(
     rt: &'a R,
     alloc: Global,
     schema: &'a Schema,
     queue: &'a FeedQueue<NodeLink<K>, Q>,
     board: &'a Mutex<Board<K>>,
-    stage: &'a Stage<'x, R>,
+    stage: &'a Stage<'x, N, R>,
     node: Node<K, Q, Handle<K, &'x R>>,
     outfit: Outfit<K, Q>,
 ) -> Result<Report<K, Handle<K, &'x R>>, Fault>

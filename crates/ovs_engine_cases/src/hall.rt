@@ -113,12 +113,12 @@ fn served<K: NodeName, R: Wait>(
     let scripts = read_scripts(alloc, scene.sessions, scene.talk)?;
     let desk = Sole::new(RelayDesk::new(alloc, Text::new(alloc, "net")?));
     let have_all_come = AtomicBool::new(false);
-    let mut doors = MemoryDoors::new(scripts.as_slice(), scene.piece, &have_all_come);
+    let doors = MemoryDoors::new(scripts.as_slice(), scene.piece, &have_all_come);
     let mut host = HallHost {
         service: NodeService::new(alloc, view, desk),
         next: 0,
     };
-    let tally = serve_many(rt, alloc, &mut host, &mut doors, LIMITS);
+    let (tally, _doors, _served) = serve_many(rt, alloc, &mut host, doors, LIMITS);
     let HallHost { service, next: _ } = host;
     let (_view, desk) = service.into_parts();
     let _desk = desk.into_inner();

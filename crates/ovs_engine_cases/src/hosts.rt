@@ -1,12 +1,13 @@
 //! A node's service with a desk of its own, for the sessions of one hall.
 
-ghost use Rattle.std.specs.Prelude.{◌≡◌};
-ghost use Rattle.ovs_service.specs.Client.{SaysNothing, AnswersTo, TellsNew, MayAsk, IsAnswered};
+ghost use Rattle.std.specs.Prelude.{◌≡◌, ℕ, List, Contains, true};
+ghost use Rattle.ovs_links.specs.declared.step.Step.{Step};
+ghost use Rattle.ovs_service.specs.Client.{SaysNothing, AnswersTo, TellsNew, MayAsk, IsAnswered, HasAll, new_client};
 
 use ovs_hall::{Host, Receives};
 use ovs_node::NodeName;
 use ovs_service::{Client, Desk, NodeService};
-use ovs_session::{Outbox, Refusal, Service};
+use ovs_session::{Outbox, Pace, Refusal, Service};
 
 /// A service of readers, which numbers them as they come.
 pub(crate) struct HallHost<K: NodeName, D: Desk<K>> {
@@ -24,9 +25,15 @@ impl<K: NodeName, D: Desk<K>> Service for HallHost<K, D> {
 
     ghost refuses = { λ _ text. SaysNothing text };
 
-    ghost may_answer = { λ _ client. MayAsk client };
+    ghost may_answer = { λ client. MayAsk client };
 
-    ghost is_answered = { λ _ client. IsAnswered client };
+    ghost is_answered = { λ client. IsAnswered client };
+
+    ghost is_told = { λ host client. HasAll host.service.view client };
+
+    ghost may_tell = { λ _ _. Unit {0} };
+
+    ghost is_gone = { λ host. host.service.is_gone ≡ true };
 
     fn takes(&self, client: &Client<K>) -> bool {
         self.service.takes(client)
@@ -45,15 +52,17 @@ impl<K: NodeName, D: Desk<K>> Service for HallHost<K, D> {
         self.service.answer(client, text, out)
     }
 
-    fn tell(&mut self, client: &mut Client<K>, out: &mut Outbox) -> Result<(), Refusal> {
+    fn tell(&mut self, client: &mut Client<K>, out: &mut Outbox) -> Result<Pace, Refusal> {
         self.service.tell(client, out)
     }
 }
 
 impl<K: NodeName, D: Desk<K>> Host for HallHost<K, D> {
-    ghost is_silent = { λ host client. D.is_silent host.service.desk client.who };
+    ghost begins = { λ client. (who : ℕ) × (last : List Step) × (client ≡ new_client who last) };
 
-    fn end(&mut self, client: Client<K>) {
+    ghost is_silent = { λ host client. Contains (D.ended host.service.desk) client.who };
+
+    fn end(&mut self, client: &Client<K>) {
         self.service.end(client);
     }
 }

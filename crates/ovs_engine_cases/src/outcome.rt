@@ -8,6 +8,7 @@ ghost use Rattle.ovs_folder.specs.Ledger.{steps_in};
 use crate::fault::Fault;
 use crate::ids::letter;
 use ovs_engine::{Connector, Party, Ran, Returned};
+use ovs_hall::Doors;
 use ovs_links::Settled;
 use ovs_node::{
     Board, FeedEnd, FeedName, FeedQueue, Handle, MAX_UPSTREAMS, MAX_VIEWS, Node, NodeLink,
@@ -53,7 +54,7 @@ fn ended<K: NodeName, Q: FeedName, H: Wait + Drop, R: Wait>(
 }
 
 // What the threads of upstreams sent with.
-fn ends_of<K: NodeName, Q: FeedName, C: Connector, D: Drop, N>(
+fn ends_of<K: NodeName, Q: FeedName, C: Connector, D: Doors + Drop, N>(
     alloc: Global,
     ran: &mut Ran<K, Q, C, D, N>,
 ) -> Result<Vec<FeedEnd<NodeLink<K>, Q>>, Fault>
@@ -73,7 +74,14 @@ fn ends_of<K: NodeName, Q: FeedName, C: Connector, D: Drop, N>(
 }
 
 /// Takes the ends back, and ends the node.
-pub(crate) fn finished<K: NodeName, Q: FeedName, C: Connector, D: Drop, H: Wait + Drop, R: Wait>(
+pub(crate) fn finished<
+    K: NodeName,
+    Q: FeedName,
+    C: Connector,
+    D: Doors + Drop,
+    H: Wait + Drop,
+    R: Wait,
+>(
     rt: &R,
     alloc: Global,
     queue: &FeedQueue<NodeLink<K>, Q>,

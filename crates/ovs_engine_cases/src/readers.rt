@@ -1,8 +1,12 @@
 //! A reader over memory, which asks for all rows again and again, and sees which commits they show.
 
+ghost use Rattle.std.specs.Prelude.{◌≡◌, [], ℕ, None, true};
+ghost use Rattle.ovs_hall.specs.Connections.{out_of};
+
 use crate::fault::Fault;
 use crate::ids::last_number_in;
-use ovs_hall::{Bell, Doors, Ready, Timeout, Woken};
+use ovs_hall::{Bell, Connections, Doors, Ready, Timeout, Woken};
+use ovs_session::Ended;
 use serde_json::Value;
 use std::alloc::{AllocError, Global};
 use std::io::{self, ErrorKind, Read, Write};
@@ -152,11 +156,16 @@ pub(crate) struct ReaderDoors {
     until: u64,
     has_come: bool,
     is_ready: bool,
+    // The reader, while it is inside.
+    connections: Connections<Asking, Seeing>,
 }
 
 impl ReaderDoors {
     /// For a reader that asks until an answer showed the commit of this number.
-    pub(crate) fn new(chat: Chat, bell: MemoryBell, request: String, until: u64) -> ReaderDoors {
+    pub(crate) fn new(chat: Chat, bell: MemoryBell, request: String, until: u64) -> ReaderDoors
+        ensures none { (key : ℕ) → out_of result.connections key ≡ None }
+        ensures none_back { result.connections.back ≡ [] }
+    {
         ReaderDoors {
             chat,
             bell,
@@ -164,6 +173,7 @@ impl ReaderDoors {
             until,
             has_come: false,
             is_ready: false,
+            connections: Connections::new(),
         }
     }
 }
@@ -172,6 +182,14 @@ impl Doors for ReaderDoors {
     type In = Asking;
 
     type Out = Seeing;
+
+    ghost out = { λ doors key. out_of doors.connections key };
+
+    ghost back = { λ doors. doors.connections.back };
+
+    ghost is_closed = { λ doors. doors.has_come ≡ true };
+
+    ghost is_over = { λ _. ⊥ };
 
     // The reader may go on at any time, so that nothing is waited for.
     fn wait(&mut self, timeout: Timeout) -> Woken {
@@ -199,7 +217,7 @@ impl Doors for ReaderDoors {
         })
     }
 
-    fn accept(&mut self, _key: usize) -> Option<(Asking, Seeing)> {
+    fn accept(&mut self, key: usize) -> Option<(Asking, Seeing)> {
         let request = self.request.take()?;
         self.has_come = true;
         let reader = Asking {
@@ -212,6 +230,11 @@ impl Doors for ReaderDoors {
         let writer = Seeing {
             chat: self.chat.again().ok()?,
         };
+        self.connections.note_came(key, &reader, &writer);
         Some((reader, writer))
+    }
+
+    fn left(&mut self, key: usize, _reader: Asking, _writer: Seeing, _ended: Ended) {
+        self.connections.note_left(key);
     }
 }

@@ -17,10 +17,19 @@ use Rattle.ovs_session.specs.Serving.{SessionValue, Said, Answered, Told, Runs, 
 use Rattle.ovs_session.proofs.Whole.{answers_from_new, answers_all}
 use Rattle.ovs_upstream.specs.Hearing.{hears, links_in, links_after, at_stage, derived, derived_of}
 use Rattle.ovs_upstream.specs.Talk.{talk_of}
+use Rattle.ovs_upstream.specs.declared.up_event.UpEvent.{UpEvent}
+use Rattle.ovs_upstream.specs.declared.up_event.UpEvent.TheVariants.{Links, Send, ReplyFor, Locked, Stolen, Nothing}
 use Rattle.ovs_upstream.specs.declared.up_session.Heard.{Heard}
+use Rattle.ovs_upstream.specs.declared.up_session.Stage.{Stage}
+use Rattle.ovs_upstream.specs.declared.up_session.Stage.TheVariants.{Opening, Asking, At}
+use Rattle.ovs_upstream.specs.declared.up_session.Stage.TheVariants as stages
 use Rattle.ovs_upstream.specs.declared.up_session.UpSession.{UpSession}
-use Rattle.ovs_follow.specs.Following.{FollowingValue, Hears, Asks, AsksBy}
+use Rattle.ovs_desk.specs.declared.source_message.SourceMessage.{SourceMessage}
+use Rattle.ovs_follow.specs.Following.{FollowingValue, Hears, Asks, AsksBy, Passes, begins_at, found, handed}
 use Rattle.ovs_follow.specs.Deriving.{AreRead, AreDerived, IsFirst, SendsFirst, SendsAll}
+use Rattle.ovs_follow.specs.Telling.{TellsFirst, derived_calls, told, told_after}
+use Rattle.ovs_follow.specs.declared.side_call.SideCall.{SideCall}
+use Rattle.ovs_follow.specs.declared.side_call.SideCall.TheVariants as calls
 use Rattle.ovs_follow.specs.Followed.{HasFollowed}
 use Rattle.ovs_follow.proofs.Decided.{says_or_none}
 
@@ -71,41 +80,111 @@ regrouped ts said held waiting others e = e ∙ append_assoc (said ++ held) wait
 
 -- ---- what was said
 
--- what is asked changes neither how far the session is nor what was sent
-asks_same : (begun : Bool) (old new : FollowingValue) (said : List ℕ) → AsksBy begun old said new → (new.up ≡ old.up) × (new.sent ≡ old.sent)
-asks_same false old new said asks = (ap (λ f. f.up) asks.1, ap (λ f. f.sent) asks.1)
-asks_same true old new said asks = (ap (λ f. f.up) asks.1, ap (λ f. f.sent) asks.1)
+told_more : (xs ys : List SideCall) → told (xs ++ ys) ≡ told xs ++ told ys
+told_more [] ys = refl
+told_more (calls.TookUp m ∷ more) ys = told_more more ys
+told_more (calls.Heard m ∷ more) ys = ap (λ l. calls.Heard m ∷ l) (told_more more ys)
+told_more (calls.Found from ∷ more) ys = ap (λ l. calls.Found from ∷ l) (told_more more ys)
 
--- the links that were sent while this was said come first among those derived
+told_ups : (ups : List (Option Message)) → told (map calls.TookUp ups) ≡ []
+told_ups [] = refl
+told_ups (u ∷ ups) = told_ups ups
+
+told_handed : (stage : Stage) (event : UpEvent) → told (handed stage event) ≡ handed stage event
+told_handed stage (ReplyFor number a) = refl
+told_handed stage (Locked name) = refl
+told_handed stage (Stolen name) = refl
+told_handed stage (Send m) = refl
+told_handed stage (Links ls) = refl
+told_handed stage Nothing = refl
+
+told_found : (before after : Stage) (from : ℕ) → told (found before after from) ≡ found before after from
+told_found Asking (At id) from = refl
+told_found Asking Opening from = refl
+told_found Asking Asking from = refl
+told_found Asking stages.Ended from = refl
+told_found Opening after from = refl
+told_found (At id) after from = refl
+told_found stages.Ended after from = refl
+
+-- what it is told of one message
+abbrev tells : UpSession → Heard → List SideCall
+tells up h = handed up.stage h.event ++ found up.stage h.stage (begins_at h)
+
+told_tells : (up : UpSession) (h : Heard) → told (tells up h) ≡ tells up h
+told_tells up h =
+    told_more (handed up.stage h.event) (found up.stage h.stage (begins_at h))
+    ∙ ap (λ l. l ++ told (found up.stage h.stage (begins_at h))) (told_handed up.stage h.event)
+    ∙ ap (λ l. handed up.stage h.event ++ l) (told_found up.stage h.stage (begins_at h))
+
+-- what is asked changes neither how far the session is, nor what was sent, nor what the side of the source was told
+record Stays (old new : FollowingValue) : Type 0 where
+  pub up : new.up ≡ old.up
+  pub sent : new.sent ≡ old.sent
+  pub told : told new.made ≡ told old.made
+
+stays_by : (old new : FollowingValue) → new.up ≡ old.up → new.sent ≡ old.sent → new.made ≡ old.made → Stays old new
+stays_by old new up sent made = record { up = up; sent = sent; told = ap told made }
+
+passes_stay : (stage : Stage) (old new : FollowingValue) (said : List ℕ) → Passes stage old said new → Stays old new
+passes_stay (At id) old new said passes = record {
+  up = ap (λ f. f.up) passes.1;
+  sent = ap (λ f. f.sent) passes.1;
+  told = ap told passes.0.called
+      ∙ told_more old.made (map calls.TookUp passes.0.ups)
+      ∙ ap (λ l. told old.made ++ l) (told_ups passes.0.ups)
+      ∙ append-nil (told old.made);
+}
+passes_stay Opening old new said passes = stays_by old new (ap (λ f. f.up) passes.1) (ap (λ f. f.sent) passes.1) (ap (λ f. f.made) passes.1)
+passes_stay Asking old new said passes = stays_by old new (ap (λ f. f.up) passes.1) (ap (λ f. f.sent) passes.1) (ap (λ f. f.made) passes.1)
+passes_stay stages.Ended old new said passes = stays_by old new (ap (λ f. f.up) passes.1) (ap (λ f. f.sent) passes.1) (ap (λ f. f.made) passes.1)
+
+asks_stay : (begun : Bool) (old new : FollowingValue) (said : List ℕ) → AsksBy begun old said new → Stays old new
+asks_stay false old new said asks = stays_by old new (ap (λ f. f.up) asks.1) (ap (λ f. f.sent) asks.1) (ap (λ f. f.made) asks.1)
+asks_stay true old new said asks = passes_stay old.up.stage old new said asks
+
+-- the links that were sent while this was said come first among those derived, and what the side of the source was told first among what it
+-- is to be told
 record Sends (old new : FollowingValue) (others : List (List ℕ)) (ms : List Message) : Type 0 where
   pub first : List Link
+  pub first_told : List SideCall
   pub later : List Message
   pub read : AreRead others later
   pub sent : new.sent ≡ old.sent ++ first
   pub derives : derived old.up ms ≡ first ++ derived new.up later
+  pub told : told new.made ≡ told old.made ++ first_told
+  pub tells : derived_calls old.up ms ≡ first_told ++ derived_calls new.up later
 
-sends_none : (old new : FollowingValue) (others : List (List ℕ)) (ms : List Message) → new.up ≡ old.up → new.sent ≡ old.sent → AreRead others ms → Sends old new others ms
-sends_none old new others ms up sent read = record {
+sends_none : (old new : FollowingValue) (others : List (List ℕ)) (ms : List Message) → Stays old new → AreRead others ms → Sends old new others ms
+sends_none old new others ms stays read = record {
   first = [];
+  first_told = [];
   later = ms;
   read = read;
-  sent = sent ∙ sym (append-nil old.sent);
-  derives = ap (λ s. derived s ms) (sym up);
+  sent = stays.sent ∙ sym (append-nil old.sent);
+  derives = ap (λ u. derived u ms) (sym stays.up);
+  told = stays.told ∙ sym (append-nil (told old.made));
+  tells = ap (λ u. derived_calls u ms) (sym stays.up);
 }
 
-sends_from : (old mid new : FollowingValue) (others : List (List ℕ)) (ms : List Message) → mid.up ≡ old.up → mid.sent ≡ old.sent → Sends mid new others ms → Sends old new others ms
-sends_from old mid new others ms up sent s = record {
+sends_from : (old mid new : FollowingValue) (others : List (List ℕ)) (ms : List Message) → Stays old mid → Sends mid new others ms → Sends old new others ms
+sends_from old mid new others ms stays s = record {
   first = s.first;
+  first_told = s.first_told;
   later = s.later;
   read = s.read;
-  sent = s.sent ∙ ap (λ l. l ++ s.first) sent;
-  derives = ap (λ u. derived u ms) (sym up) ∙ s.derives;
+  sent = s.sent ∙ ap (λ l. l ++ s.first) stays.sent;
+  derives = ap (λ u. derived u ms) (sym stays.up) ∙ s.derives;
+  told = s.told ∙ ap (λ l. l ++ s.first_told) stays.told;
+  tells = ap (λ u. derived_calls u ms) (sym stays.up) ∙ s.tells;
 }
 
 sends_heard : (old mid new : FollowingValue) (others : List (List ℕ)) (m : Message) (ms : List Message) (h : Heard) → hears old.up m ≡ Ok h
-    → mid.up ≡ at_stage old.up h.stage → mid.sent ≡ old.sent ++ links_in h.event → Sends mid new others ms → Sends old new others (m ∷ ms)
-sends_heard old mid new others m ms h is up sent s = record {
+    → mid.up ≡ at_stage old.up h.stage → mid.sent ≡ old.sent ++ links_in h.event → mid.made ≡ old.made ++ tells old.up h → Sends mid new others ms
+    → Sends old new others (m ∷ ms)
+sends_heard old mid new others m ms h is up sent made s = record {
   first = links_in h.event ++ s.first;
+  first_told = tells old.up h ++ s.first_told;
   later = s.later;
   read = s.read;
   sent = s.sent ∙ ap (λ l. l ++ s.first) sent ∙ append_assoc old.sent (links_in h.event) s.first;
@@ -114,20 +193,30 @@ sends_heard old mid new others m ms h is up sent s = record {
       ∙ ap (λ u. links_in h.event ++ derived u ms) (sym up)
       ∙ ap (λ l. links_in h.event ++ l) s.derives
       ∙ sym (append_assoc (links_in h.event) s.first (derived new.up s.later));
+  told =
+      s.told
+      ∙ ap (λ l. told l ++ s.first_told) made
+      ∙ ap (λ l. l ++ s.first_told) (told_more old.made (tells old.up h))
+      ∙ append_assoc (told old.made) (told (tells old.up h)) s.first_told
+      ∙ ap (λ l. told old.made ++ (l ++ s.first_told)) (told_tells old.up h);
+  tells =
+      ap (λ r. told_after old.up r (λ stage. derived_calls (at_stage old.up stage) ms)) is
+      ∙ ap (λ u. tells old.up h ++ derived_calls u ms) (sym up)
+      ∙ ap (λ l. tells old.up h ++ l) s.tells
+      ∙ sym (append_assoc (tells old.up h) s.first_told (derived_calls new.up s.later));
 }
 
 runs_send : (said : List Said) (old new : FollowingValue) (others : List (List ℕ)) (ms : List Message) → Runs Hears Asks said old new
     → AreRead (messages said ++ others) ms → Sends old new others ms
-runs_send [] old new others ms runs read = sends_none old new others ms (ap (λ f. f.up) runs) (ap (λ f. f.sent) runs) read
+runs_send [] old new others ms runs read = sends_none old new others ms (stays_by old new (ap (λ f. f.up) runs) (ap (λ f. f.sent) runs) (ap (λ f. f.made) runs)) read
 runs_send (Told t ∷ more) old new others ms runs read =
-    let same = asks_same old.has_begun old runs.0 t runs.1 in
-    sends_from old runs.0 new others ms same.0 same.1 (runs_send more runs.0 new others ms runs.2 read)
+    sends_from old runs.0 new others ms (asks_stay old.has_begun old runs.0 t runs.1) (runs_send more runs.0 new others ms runs.2 read)
 runs_send (Answered text t ∷ more) old new others [] runs read = absurd (read runs.1.is_heard.message runs.1.is_heard.says)
 runs_send (Answered text t ∷ more) old new others (m ∷ ms) runs read =
     let heard = runs.1.is_heard in
     let same : heard.message ≡ m = one_message text heard.message m heard.says read.0 in
     let is : hears old.up m ≡ Ok runs.1.heard = subst (λ x. hears old.up x ≡ Ok runs.1.heard) same heard.hears in
-    sends_heard old runs.0 new others m ms runs.1.heard is (ap (λ f. f.up) runs.1.after) (ap (λ f. f.sent) runs.1.after)
+    sends_heard old runs.0 new others m ms runs.1.heard is (ap (λ f. f.up) runs.1.after) (ap (λ f. f.sent) runs.1.after) (ap (λ f. f.made) runs.1.after)
     (runs_send more runs.0 new others ms runs.2 read.1)
 
 first_sent : (old new : FollowingValue) (others : List (List ℕ)) (ms : List Message) (links : List Link) → links ≡ derived old.up ms → Sends old new others ms → IsFirst links old.sent new.sent
@@ -138,23 +227,40 @@ all_sent old new ms links are s =
     let none : derived new.up s.later ≡ [] = ap (λ ms. derived new.up ms) s.read in
     s.sent ∙ ap (λ l. old.sent ++ l) (sym (are ∙ s.derives ∙ ap (λ l. s.first ++ l) none ∙ append-nil s.first))
 
+first_told_of : (old new : FollowingValue) (others : List (List ℕ)) (ms : List Message) → old.made ≡ [] → Sends old new others ms
+    → (later : List SideCall) × (derived_calls old.up ms ≡ told new.made ++ later)
+first_told_of old new others ms none s =
+    (derived_calls new.up s.later, s.tells ∙ ap (λ l. l ++ derived_calls new.up s.later) (sym (s.told ∙ ap (λ l. told l ++ s.first_told) none)))
+
 -- ---- what was read
 
 module _ (began : FollowingValue) (limit : ℕ) (bytes : List ℕ) (output written : Option (List ℕ)) (now : SessionValue FollowingValue) (links : List Link) (d : AreDerived began.up bytes links) where
   sends_texts : (said : List Said) (others : List (List ℕ)) → Runs Hears Asks said began now.core → d.texts ≡ messages said ++ others → Sends began now.core others d.messages
   sends_texts said others runs texts = runs_send said began now.core others d.messages runs (subst (λ (ts : List (List ℕ)). AreRead ts d.messages) texts d.read)
 
-  pub sends_first : (unread : Option (List ℕ)) → Moved Hears Asks limit (Some bytes) unread output written (fresh began) now → IsFirst links began.sent now.core.sent
-  sends_first None moved = absurd moved.reads
-  sends_first (Some left) moved =
+  sends_read : (unread : Option (List ℕ)) → Moved Hears Asks limit (Some bytes) unread output written (fresh began) now
+      → (others : List (List ℕ)) × Sends began now.core others d.messages
+  sends_read None moved = absurd moved.reads
+  sends_read (Some left) moved =
       let a = answers_from_new Hears Asks began moved.came moved.went now moved.served in
       let whole = split_off bytes moved.came a.framed now.unfed left moved.reads a.stream in
       let frames : AreFrames (a.framed ++ (now.unfed ++ left)) d.texts d.ending = subst (λ (l : List ℕ). AreFrames l d.texts d.ending) whole d.frames in
       let front = (messages a.said ++ holding now.held) ++ now.framing.waiting in
       let more = first_texts a.framed (now.unfed ++ left) front d.texts now.framing.ending d.ending a.frames frames in
       let order = regrouped d.texts (messages a.said) (holding now.held) now.framing.waiting more.0 more.1 in
-      first_sent began now.core (holding now.held ++ (now.framing.waiting ++ more.0)) d.messages links d.are
-      (sends_texts a.said (holding now.held ++ (now.framing.waiting ++ more.0)) a.runs order)
+      let others = holding now.held ++ (now.framing.waiting ++ more.0) in
+      (others, sends_texts a.said others a.runs order)
+
+  pub sends_first : (unread : Option (List ℕ)) → Moved Hears Asks limit (Some bytes) unread output written (fresh began) now → IsFirst links began.sent now.core.sent
+  sends_first unread moved = let s = sends_read unread moved in first_sent began now.core s.0 d.messages links d.are s.1
+
+  -- of what the side of the source is to be told the first was told it
+  pub tells_first : (unread : Option (List ℕ)) → began.made ≡ [] → Moved Hears Asks limit (Some bytes) unread output written (fresh began) now
+      → TellsFirst began.up bytes now.core.made
+  tells_first unread none moved =
+      let s = sends_read unread moved in
+      let first = first_told_of began now.core s.0 d.messages none s.1 in
+      record { texts = d.texts; ending = d.ending; frames = d.frames; messages = d.messages; read = d.read; later = first.0; first = first.1 }
 
   pub sends_all : (unread : Option (List ℕ)) → Moved Hears Asks limit (Some bytes) unread output written (fresh began) now → IsDone now → IsAtEnd unread
       → now.core.sent ≡ began.sent ++ links
@@ -168,8 +274,8 @@ module _ (began : FollowingValue) (limit : ℕ) (bytes : List ℕ) (output writt
 
 -- ---- a session from its beginning to its end
 
-module _ (began : FollowingValue) (limit : ℕ) (unread output written : Option (List ℕ)) (ended : Ended) (counts : Counts) (sent : List Link) where
-  pub first_of : (input : Option (List ℕ)) → HasFollowed began limit input unread output written ended counts sent
+module _ (refuses : SourceMessage → Type 0) (began : FollowingValue) (limit : ℕ) (unread output written : Option (List ℕ)) (ended : Ended) (counts : Counts) (sent : List Link) (made : List SideCall) where
+  pub first_of : (input : Option (List ℕ)) → HasFollowed refuses began limit input unread output written ended counts sent made
       → IfSome input (λ bytes. SendsFirst began.up bytes began.sent sent)
   first_of None f = tt
   first_of (Some bytes) f =
@@ -177,10 +283,17 @@ module _ (began : FollowingValue) (limit : ℕ) (unread output written : Option 
       let first = sends_first began limit bytes output written f.now d.0 d.1 unread f.moved in
       record { links = d.0; derived = d.1; first = first.0; rest = first.1; whole = first.2; sent = f.sends ∙ first.3 }
 
-  pub all_of : (input : Option (List ℕ)) → HasFollowed began limit input unread output written ended counts sent → ended ≡ Closed
+  pub all_of : (input : Option (List ℕ)) → HasFollowed refuses began limit input unread output written ended counts sent made → ended ≡ Closed
       → IfSome input (λ bytes. SendsAll began.up bytes began.sent sent)
   all_of None f closed = tt
   all_of (Some bytes) f closed =
       let d = links_exist began.up bytes in
       let done = f.closed closed in
       record { links = d.0; derived = d.1; sent = f.sends ∙ sends_all began limit bytes output written f.now d.0 d.1 unread f.moved done.0 done.1 }
+
+  pub told_of : (input : Option (List ℕ)) → began.made ≡ [] → (f : HasFollowed refuses began limit input unread output written ended counts sent made)
+      → IfSome input (λ bytes. TellsFirst began.up bytes made)
+  told_of None none f = tt
+  told_of (Some bytes) none f =
+      let d = links_exist began.up bytes in
+      subst (λ (cs : List SideCall). TellsFirst began.up bytes cs) (sym f.makes) (tells_first began limit bytes output written f.now d.0 d.1 unread none f.moved)

@@ -1,3 +1,4 @@
 pub mod Following
 pub mod Deriving
+pub mod Telling
 pub mod Followed

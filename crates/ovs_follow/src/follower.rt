@@ -1,21 +1,20 @@
 //! What serves the sessions with an upstream.
 
-ghost use Rattle.std.specs.Prelude.{◌≡◌, ◌≤◌, ◌++◌, ℕ, List, Err, OnOk, OnErr, length};
+ghost use Rattle.std.specs.Prelude.{◌≡◌, ◌≤◌, ◌++◌, ℕ, List, Ok, Err, true, OnOk, OnErr, length};
 ghost use Rattle.ovs_links.specs.Sets.{AllOf, IsOfTables};
 ghost use Rattle.ovs_upstream.specs.Hearing.{links_in};
-ghost use Rattle.ovs_follow.specs.Following.{Hears, Asks, Refuses, IsSaid, IsForSource, IsHandedOn, IsFound, IsPassedOn, begins_at, standing_at};
+ghost use Rattle.ovs_follow.specs.Following.{Hears, Asks, Refuses, PassesOn, IsAllPassedOn, IsAllTold, IsSaid, IsRefused, begins_at, handed, standing_at};
 
 use crate::following::Following;
 use crate::hearing::hear;
 use crate::link_sink::LinkSink;
 use crate::saying::say;
 use crate::source_side::SourceSide;
-use ovs_desk::{SourceMessage, StandingAnswer};
+use ovs_desk::{BadReply, SourceMessage, StandingAnswer};
 use ovs_json::NoMemory;
-use ovs_session::{Outbox, Refusal, Service};
+use ovs_session::{Outbox, Pace, Refusal, Service};
 use ovs_types::TxnId;
 use ovs_upstream::{Heard, Stage, UpEvent};
-use ovs_wire::Message;
 use std::alloc::Global;
 use std::marker::PhantomData;
 
@@ -45,13 +44,23 @@ fn begins_at(heard: &Heard) -> TxnId
     standing_at(heard.stage)
 }
 
+// What a session does once it is asked to hand this on.
+fn refusal_of(told: Result<(), BadReply>) -> Result<(), Refusal>
+    ensures ok { OnOk result (OnErr told ⊥) }
+    ensures err { OnErr result (OnOk told ⊥) }
+    ensures never_gone { result ≡ Err Refusal.Gone → ⊥ }
+{
+    match told {
+        Ok(()) => Ok(()),
+        Err(BadReply) => Err(Refusal::BadInput),
+    }
+}
+
 /// Follows an upstream: links go to the session's sink, and what the source asks and says to its side.
 #[derive(Drop)]
 pub struct Follower<S: LinkSink, D: SourceSide + Drop> {
     alloc: Global,
     source: D,
-    // A request that was taken up, and for whose text there was no memory.
-    waiting: Option<Message>,
     of: PhantomData<S>,
 }
 
@@ -63,7 +72,6 @@ impl<S: LinkSink, D: SourceSide + Drop> Follower<S, D> {
         Follower {
             alloc,
             source,
-            waiting: None,
             of: PhantomData,
         }
     }
@@ -76,16 +84,6 @@ impl<S: LinkSink, D: SourceSide + Drop> Follower<S, D> {
         source
     }
 
-    // The source's side hears what the source says.
-    fn tell_source(&mut self, message: SourceMessage) -> Result<(), Refusal>
-        ensures heard { OnOk result (D.hears self.old.source message self.new.source) }
-    {
-        match self.source.heard(message) {
-            Ok(()) => Ok(()),
-            Err(_) => Err(Refusal::BadInput),
-        }
-    }
-
     // Hands on what was heard: a link to the sink, a message back, and what the source says to its side.
     fn hand_on(
         &mut self,
@@ -95,11 +93,11 @@ impl<S: LinkSink, D: SourceSide + Drop> Follower<S, D> {
     ) -> Result<(), Refusal>
         requires one { length (links_in event) ≤ 1 }
         requires tables { AllOf (IsOfTables session.old.up.schema.description.tables) (links_in event) }
-        ensures sent { OnOk result (session.new ≡ record session.old { sent = session.old.sent ++ links_in event }) }
+        ensures handed { OnOk result (session.new ≡ record session.old { sent = session.old.sent ++ links_in event; made = session.old.made ++ handed session.old.up.stage event }) }
         ensures said { OnOk result ((said : List ℕ) × IsSaid event said × (out.new ≡ out.old ++ said)) }
-        ensures handed { OnOk result (IsHandedOn D.hears session.old.up.stage event self.old.source self.new.source) }
         ensures err { OnErr result ((session.new ≡ session.old) × (out.new ≡ out.old)) }
-        ensures bad { result ≡ Err Refusal.BadInput → IsForSource event }
+        ensures bad { result ≡ Err Refusal.BadInput → IsRefused D.refuses (handed session.old.up.stage event) }
+        ensures never_gone { result ≡ Err Refusal.Gone → ⊥ }
     {
         match event {
             UpEvent::Links(links) => {
@@ -110,60 +108,58 @@ impl<S: LinkSink, D: SourceSide + Drop> Follower<S, D> {
             UpEvent::ReplyFor { number, answer } => {
                 let standing = standing_at(session.up().stage());
                 let answer = StandingAnswer { answer, standing };
-                self.tell_source(SourceMessage::ReplyFor { number, answer })
+                let message = SourceMessage::ReplyFor { number, answer };
+                refusal_of(session.tell(&mut self.source, message))
             }
-            UpEvent::Locked(name) => self.tell_source(SourceMessage::Locked(name)),
-            UpEvent::Stolen(name) => self.tell_source(SourceMessage::Stolen(name)),
+            UpEvent::Locked(name) => {
+                refusal_of(session.tell(&mut self.source, SourceMessage::Locked(name)))
+            }
+            UpEvent::Stolen(name) => {
+                refusal_of(session.tell(&mut self.source, SourceMessage::Stolen(name)))
+            }
             UpEvent::Nothing => Ok(()),
         }
     }
 
-    // The source is found where the answer to the monitor came: the links of the session join up from this id.
-    fn arrive(&mut self, before: Stage, after: Stage, from: TxnId)
-        ensures found { IsFound D.finds before after from self.old.source self.new.source }
+    // Says the request that waits, or else takes up the next and says that, where there is memory for it; idle only where none is to go up.
+    fn pass_next(&mut self, session: &mut Following<S>, out: &mut Outbox) -> Result<Pace, NoMemory>
+        ensures ok { OnOk result ((said : List ℕ) × PassesOn session.old.waiting session.old.made said session.new.waiting session.new.made × (out.new ≡ out.old ++ said)) }
+        ensures rest { session.new ≡ record session.old { waiting = session.new.waiting; made = session.new.made } }
+        ensures idle { result ≡ Ok Pace.Idle → IsAllPassedOn session.new }
+        ensures err { OnErr result ((session.new ≡ session.old) × (out.new ≡ out.old)) }
     {
-        if let (Stage::Asking, Stage::At(_)) = (before, after) {
-            self.source.found_source(from);
+        if session.has_waiting() {
+            session.say_waiting(self.alloc, out)?;
+            return Ok(Pace::Busy);
         }
-    }
-
-    // Says the request that waits, where one does. After `NoMemory` it waits on, and nothing has changed.
-    fn pass_waiting(&mut self, out: &mut Outbox) -> Result<bool, NoMemory>
-        ensures ok { OnOk result (IsPassedOn out.old out.new) }
-        ensures err { OnErr result ((out.new ≡ out.old) × (self.new.waiting ≡ self.old.waiting)) }
-    {
-        let Some(message) = &self.waiting else {
-            return Ok(false);
-        };
-        say(self.alloc, message, out)?;
-        self.waiting = None;
-        Ok(true)
-    }
-
-    // Says the next request that is to go up; `false` where none is. After `NoMemory` nothing was said.
-    fn pass_next(&mut self, out: &mut Outbox) -> Result<bool, NoMemory>
-        ensures ok { OnOk result (IsPassedOn out.old out.new) }
-        ensures err { OnErr result (out.new ≡ out.old) }
-    {
-        if self.waiting.is_none() {
-            self.waiting = self.source.take_up()?;
+        session.take_up(&mut self.source)?;
+        if !session.has_waiting() {
+            return Ok(Pace::Idle);
         }
-        self.pass_waiting(out)
+        // Where there is no memory for its text it waits.
+        let _is_said = session.say_waiting(self.alloc, out).is_ok();
+        Ok(Pace::Busy)
     }
 
-    // Says what is to go up. `NoMemory` only where nothing was said: what is refused memory later waits for the next call.
-    fn pass_on(&mut self, out: &mut Outbox) -> Result<(), NoMemory>
-        ensures ok { OnOk result (IsPassedOn out.old out.new) }
-        ensures err { OnErr result (out.new ≡ out.old) }
+    // Says what is to go up; idle only where that is all. `NoMemory` only where nothing was taken up or said: what is refused memory later
+    // waits for the next call.
+    fn pass_on(&mut self, session: &mut Following<S>, out: &mut Outbox) -> Result<Pace, NoMemory>
+        ensures ok { OnOk result ((said : List ℕ) × PassesOn session.old.waiting session.old.made said session.new.waiting session.new.made × (out.new ≡ out.old ++ said)) }
+        ensures rest { session.new ≡ record session.old { waiting = session.new.waiting; made = session.new.made } }
+        ensures idle { result ≡ Ok Pace.Idle → IsAllPassedOn session.new }
+        ensures err { OnErr result ((session.new ≡ session.old) × (out.new ≡ out.old)) }
     {
-        let mut goes_on = self.pass_next(out)?;
+        let mut pace = self.pass_next(session, out)?;
         for _passed in 1..MOST_PASSED_ON {
-            if !goes_on {
-                return Ok(());
+            if pace == Pace::Idle {
+                break;
             }
-            goes_on = self.pass_next(out).unwrap_or(false);
+            match self.pass_next(session, out) {
+                Ok(next) => pace = next,
+                Err(NoMemory) => break,
+            }
         }
-        Ok(())
+        Ok(pace)
     }
 }
 
@@ -174,11 +170,17 @@ impl<S: LinkSink, D: SourceSide + Drop> Service for Follower<S, D> {
 
     ghost tells = { λ old said new. Asks old said new };
 
-    ghost refuses = { λ old text. Refuses old text };
+    ghost refuses = { λ old text. Refuses D.refuses old text };
 
-    ghost may_answer = { λ _ _. Unit {0} };
+    ghost may_answer = { λ _. Unit {0} };
 
-    ghost is_answered = { λ _ _. Unit {0} };
+    ghost is_answered = { λ _. Unit {0} };
+
+    ghost is_told = { λ _ following. IsAllTold following };
+
+    ghost may_tell = { λ _ following. following.has_begun ≡ true };
+
+    ghost is_gone = { λ _. ⊥ };
 
     // An upstream's messages are heard one after another, each at once.
     fn takes(&self, _session: &Following<S>) -> bool {
@@ -201,17 +203,18 @@ impl<S: LinkSink, D: SourceSide + Drop> Service for Follower<S, D> {
         let from = begins_at(&heard);
         self.hand_on(session, heard.event, out)?;
         session.go_on(heard.stage);
-        self.arrive(before, heard.stage, from);
+        session.arrive(&mut self.source, before, heard.stage, from);
         Ok(())
     }
 
-    fn tell(&mut self, session: &mut Following<S>, out: &mut Outbox) -> Result<(), Refusal> {
+    fn tell(&mut self, session: &mut Following<S>, out: &mut Outbox) -> Result<Pace, Refusal> {
         if !session.has_begun() {
-            return Ok(session.begin(self.alloc, out)?);
+            session.begin(self.alloc, out)?;
+            return Ok(Pace::Busy);
         }
         match session.up().stage() {
-            Stage::At(_) => Ok(self.pass_on(out)?),
-            _ => Ok(()),
+            Stage::At(_) => Ok(self.pass_on(session, out)?),
+            _ => Ok(Pace::Idle),
         }
     }
 }

@@ -1,30 +1,40 @@
 //! What is known of one session with an upstream.
 
-ghost use Rattle.std.specs.Prelude.{◌≡◌, ◌≤◌, ◌++◌, ℕ, List, true, IfOk, IfErr, OnOk, OnErr, length};
+ghost use Rattle.std.specs.Prelude.{◌≡◌, ◌≤◌, ◌++◌, ◌∷◌, [], ℕ, List, None, true, IfOk, IfErr, OnOk, OnErr, length, is_some};
+ghost use Rattle.std.specs.Option.{option_to_list};
 ghost use Rattle.ovs_links.specs.Sets.{AllOf, IsOfTables};
 ghost use Rattle.ovs_links.specs.declared.link.Link.{Link};
 ghost use Rattle.ovs_upstream.specs.Hearing.{at_stage};
 ghost use Rattle.ovs_upstream.specs.Requests.{schema_request};
 ghost use Rattle.ovs_wire.specs.Message.{IsWritten};
-ghost use Rattle.ovs_follow.specs.Following.{FollowingValue, begun};
+ghost use Rattle.ovs_follow.specs.Following.{FollowingValue, AreWritten, begun, found};
+ghost use Rattle.ovs_follow.specs.declared.side_call.SideCall.TheVariants as calls;
 
 use crate::link_sink::LinkSink;
 use crate::saying::say;
+use crate::side_call::SideCall;
+use crate::source_side::SourceSide;
+use ovs_desk::{BadReply, SourceMessage};
+use ovs_history::GhostList;
 use ovs_json::NoMemory;
 use ovs_links::Link;
 use ovs_session::Outbox;
 use ovs_types::{Schema, TxnId};
 use ovs_upstream::{Links, Stage, UpSession};
+use ovs_wire::Message;
 use std::alloc::Global;
 use std::marker::Model;
 
-/// What is known of one session with an upstream: how far it has come, and where its links go. A contract sees the links that
-/// were sent in place of the sink.
+/// What is known of one session with an upstream: how far it has come, where its links go, and what it did with the side of the
+/// source. A contract sees the links that were sent in place of the sink.
 #[derive(Drop)]
 pub struct Following<S: LinkSink> {
     up: UpSession,
     has_begun: bool,
     sink: S,
+    // A request that was taken up, and for whose text there was no memory.
+    waiting: Option<Message>,
+    made: GhostList<SideCall>,
 }
 
 impl<S: LinkSink> Model for Following<S> {
@@ -36,7 +46,7 @@ impl<S: LinkSink> Model for Following<S> {
 
     ghost coded = { following_code };
 
-    ghost view = { λ f. record { up = f.up; has_begun = f.has_begun; sent = S.sent f.sink } };
+    ghost view = { λ f. record { up = f.up; has_begun = f.has_begun; sent = S.sent f.sink; waiting = f.waiting; made = f.made } };
 
     ghost invariant = { λ f. (l : Link) → IsOfTables f.up.schema.description.tables l → S.takes l };
 }
@@ -56,17 +66,20 @@ impl<S: LinkSink> Following<S> {
                 up,
                 has_begun: false,
                 sink,
+                waiting: None,
+                made: GhostList::new(),
             }),
             Err(_) => Err(sink),
         }
     }
 
-    /// The sink, without the session.
-    pub fn into_sink(self) -> S
-        ensures sent { S.sent result ≡ self.sent }
+    /// The sink, and its calls of the side of the source, without the session.
+    pub fn into_parts(self) -> (S, GhostList<SideCall>)
+        ensures sent { S.sent result.0 ≡ self.sent }
+        ensures made { result.1 ≡ self.made }
     {
-        let Following { sink, .. } = self;
-        sink
+        let Following { sink, made, .. } = self;
+        (sink, made)
     }
 
     /// The session.
@@ -103,6 +116,65 @@ impl<S: LinkSink> Following<S> {
     {
         if let Some(link) = links.into_vec().pop() {
             self.sink.send(link);
+        }
+    }
+
+    /// Takes up the next request that is to go up, where none waits to be said. After `NoMemory` none was taken.
+    pub(crate) fn take_up<D: SourceSide>(&mut self, source: &mut D) -> Result<(), NoMemory>
+        requires none { self.old.waiting ≡ None }
+        ensures taken { OnOk result (self.new ≡ record self.old { waiting = self.new.waiting; made = self.old.made ++ calls.TookUp self.new.waiting ∷ [] }) }
+        ensures unchanged { OnErr result (self.new ≡ self.old) }
+    {
+        self.waiting = source.take_up(&mut self.made)?;
+        Ok(())
+    }
+
+    /// Whether a request waits to be said.
+    pub(crate) fn has_waiting(&self) -> bool
+        ensures value { result ≡ is_some self.now.waiting }
+    {
+        self.waiting.is_some()
+    }
+
+    /// Says the request that waits, where one does. After `NoMemory` it waits on, and nothing has changed.
+    pub(crate) fn say_waiting(&mut self, alloc: Global, out: &mut Outbox) -> Result<(), NoMemory>
+        ensures said { OnOk result ((said : List ℕ) × AreWritten (option_to_list self.old.waiting) said × (out.new ≡ out.old ++ said)
+            × (self.new ≡ record self.old { waiting = None })) }
+        ensures unchanged { OnErr result ((self.new ≡ self.old) × (out.new ≡ out.old)) }
+    {
+        let Some(message) = &self.waiting else {
+            return Ok(());
+        };
+        say(alloc, message, out)?;
+        self.waiting = None;
+        Ok(())
+    }
+
+    /// Tells the side of the source what the source says. `BadReply`: it may not say it, and nothing has changed.
+    pub(crate) fn tell<D: SourceSide>(
+        &mut self,
+        source: &mut D,
+        message: SourceMessage,
+    ) -> Result<(), BadReply>
+        ensures told { OnOk result (self.new ≡ record self.old { made = self.old.made ++ calls.Heard message ∷ [] }) }
+        ensures refused { OnErr result (D.refuses message × (self.new ≡ self.old)) }
+    {
+        source.heard(message, &mut self.made)
+    }
+
+    /// Tells the side of the source that it is found, where the answer to the monitor came between these stages: the links of the session
+    /// join up from this id.
+    pub(crate) fn arrive<D: SourceSide>(
+        &mut self,
+        source: &mut D,
+        before: Stage,
+        after: Stage,
+        from: TxnId,
+    )
+        ensures found { self.new ≡ record self.old { made = self.old.made ++ found before after from } }
+    {
+        if let (Stage::Asking, Stage::At(_)) = (before, after) {
+            source.found_source(from, &mut self.made);
         }
     }
 

@@ -16,6 +16,7 @@ use std::alloc::Global;
 fn read(alloc: Global, text: &[u8]) -> Result<Message, Refusal>
     ensures says { IfOk result (λ m. Says text.now m) }
     ensures none { result ≡ Err Refusal.BadInput → SaysNone text.now }
+    ensures never_gone { result ≡ Err Refusal.Gone → ⊥ }
 {
     match Message::read(alloc, text) {
         Ok(message) => Ok(message),
@@ -29,6 +30,7 @@ fn hear_message(alloc: Global, up: &UpSession, message: Message) -> Result<Heard
     ensures heard { IfOk result (λ h. hears up.now message ≡ Ok h) }
     ensures tables { IfOk result (λ h. AllOf (IsOfTables up.now.schema.description.tables) (links_in h.event) × (length (links_in h.event) ≤ 1)) }
     ensures bad { result ≡ Err Refusal.BadInput → (e : UpError) × (hears up.now message ≡ Err e) }
+    ensures never_gone { result ≡ Err Refusal.Gone → ⊥ }
 {
     match up.hear(alloc, message) {
         Ok(heard) => Ok(heard),
@@ -45,6 +47,7 @@ pub(crate) fn hear(alloc: Global, up: &UpSession, text: &[u8]) -> Result<Heard, 
     ensures heard { IfOk result (λ h. IsHeard up.now text.now h) }
     ensures tables { IfOk result (λ h. AllOf (IsOfTables up.now.schema.description.tables) (links_in h.event) × (length (links_in h.event) ≤ 1)) }
     ensures bad { result ≡ Err Refusal.BadInput → IsUnheard up.now text.now }
+    ensures never_gone { result ≡ Err Refusal.Gone → ⊥ }
 {
     match read(alloc, text) {
         Ok(message) => hear_message(alloc, up, message),

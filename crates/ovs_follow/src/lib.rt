@@ -9,6 +9,7 @@ mod hearing;
 mod laws;
 mod link_sink;
 mod saying;
+mod side_call;
 mod source_side;
 
 pub use follow::{Followed, follow_upstream};
@@ -16,4 +17,5 @@ pub use follower::Follower;
 pub use following::Following;
 pub use laws::{derived_laws, following_laws};
 pub use link_sink::LinkSink;
+pub use side_call::{SideCall, note_found, note_heard, note_taken};
 pub use source_side::{NoSource, SourceSide};

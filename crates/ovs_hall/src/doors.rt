@@ -1,5 +1,7 @@
 //! What a worker waits for, and what wakes it.
 
+ghost use Rattle.std.specs.Prelude.{◌≡◌, ◌≢◌, ◌++◌, ℕ, List, Option, None, true, option_map, option_to_list};
+
 use ovs_session::Ended;
 use std::io::{Read, Write};
 
@@ -40,13 +42,25 @@ pub struct Ready {
 }
 
 /// Where connections come in, and where a worker waits for them, for their bytes and for its bell. None of its calls but
-/// `wait` waits.
+/// `wait` waits. A connection that came in is out until its session is back.
 pub trait Doors {
     /// What a connection is read from.
     type In: Read + Drop;
 
     /// What it is written to.
     type Out: Write + Drop;
+
+    // The connection that came in under a number and isn't back, as it was when it came in.
+    ghost out: { Self → ℕ → Option (Self.In × Self.Out) };
+
+    // The connections that are back, as they were when they came in, in the order in which they came back.
+    ghost back: { Self → List (Self.In × Self.Out) };
+
+    // No connection comes any more.
+    ghost is_closed: { Self → Type 0 };
+
+    // All sessions are to end, and their devices pass nothing any more.
+    ghost is_over: { Self → Type 0 };
 
     /// Which of a node's workers waits at them.
     fn worker(&self) -> usize {
@@ -55,17 +69,36 @@ pub trait Doors {
 
     /// Waits until a session may go on, a connection came or the bell is rung, or until the time is over. After a wait one
     /// connection is taken at most: an infinite one doesn't wait where another may be there.
-    fn wait(&mut self, timeout: Timeout) -> Woken;
+    fn wait(&mut self, timeout: Timeout) -> Woken
+        ensures same { (key : ℕ) → out self.new key ≡ out self.old key }
+        ensures back { back self.new ≡ back self.old }
+        ensures closed { result.is_closed ≡ true → is_closed self.new }
+        ensures over { result.is_over ≡ true → is_over self.new };
 
     /// The next session that may go on since it last stood idle. `None` where there is no other. A session reads only once
     /// it is told so since a read got nothing, or fewer bytes than it asked for.
-    fn next_ready(&mut self) -> Option<Ready>;
+    fn next_ready(&mut self) -> Option<Ready>
+        ensures same { (key : ℕ) → out self.new key ≡ out self.old key }
+        ensures back { back self.new ≡ back self.old }
+        ensures closed { is_closed self.old → is_closed self.new }
+        ensures over { is_over self.old → is_over self.new };
 
     /// The next connection, whose session will have this number. `None` where none waits, or none can be taken now.
-    fn accept(&mut self, key: usize) -> Option<(Self::In, Self::Out)>;
+    fn accept(&mut self, key: usize) -> Option<(Self::In, Self::Out)>
+        requires free { out self.old key ≡ None }
+        ensures came { out self.new key ≡ option_map (λ connection. (connection.0, connection.1)) result }
+        ensures others { (other : ℕ) → other ≢ key → out self.new other ≡ out self.old other }
+        ensures back { back self.new ≡ back self.old }
+        ensures closed { is_closed self.old → is_closed self.new }
+        ensures over { is_over self.old → is_over self.new };
 
-    /// The session of this number, for which a connection was taken, has ended so, and its devices are let go.
-    fn left(&mut self, _key: usize, _ended: Ended) {}
+    /// The session of this number has ended so: its connection is back.
+    fn left(&mut self, key: usize, reader: Self::In, writer: Self::Out, ended: Ended)
+        ensures gone { out self.new key ≡ None }
+        ensures others { (other : ℕ) → other ≢ key → out self.new other ≡ out self.old other }
+        ensures back { back self.new ≡ back self.old ++ option_to_list (out self.old key) }
+        ensures closed { is_closed self.old → is_closed self.new }
+        ensures over { is_over self.old → is_over self.new };
 }
 
 /// Wakes a worker.

@@ -1,13 +1,24 @@
 //! A worker: one thread that serves many sessions.
 
+ghost use Rattle.std.specs.Prelude.{◌≡◌, ℕ, [], Some, None, IfSome, true, map, option_map};
+ghost use Rattle.slab.specs.Slab.{get};
+ghost use Rattle.ovs_session.specs.declared.ended.Ended.{Ended};
+ghost use Rattle.ovs_session.specs.declared.ended.Ended.TheVariants.{Gone};
+ghost use Rattle.std.specs.List.{AllByRecursion};
+ghost use Rattle.ovs_hall.specs.Seats.{EndsSo};
+ghost use Rattle.ovs_hall.specs.Tallying.{tally_of};
+
 use crate::again::{Again, Waits};
 use crate::doors::{Doors, Timeout, Woken};
 use crate::hall::Hall;
 use crate::host::Receives;
 use crate::seat::Seat;
+use crate::served::{SeatEnd, Served};
 use crate::tally::Tally;
+use ovs_history::GhostList;
 use ovs_session::{Ended, Limits, Pace};
 use std::alloc::Global;
+use std::snapshot::Snapshot;
 use std::sync::Wait;
 
 // So many turns a session has at most before the next has some.
@@ -16,7 +27,8 @@ const TURNS_AT_ONCE: usize = 4;
 // So many sessions at most are asked for by the doors before they are served.
 const READY_AT_ONCE: usize = 4096;
 
-// The sessions of a worker, and those that have work left to do.
+// The sessions of a worker, and those that have work left to do. The connections that are out are those of the sessions that
+// are seated.
 struct Floor<V: Receives, D: Doors> {
     hall: Hall<V, D::In, D::Out>,
     again: Again,
@@ -24,16 +36,29 @@ struct Floor<V: Receives, D: Doors> {
     limits: Limits,
     // There was no memory for the connection that came last.
     is_short: bool,
+    doors: D,
+    // The sessions that have ended.
+    served: GhostList<Served<V, D::In, D::Out>>,
+    ghost agree: { (key : ℕ) → D.out doors key ≡ option_map (λ seat. (seat.read_from.value, seat.write_to.value)) (get hall.seats key) },
+    ghost gave_back: { D.back doors ≡ map (λ s. (s.seat.read_from.value, s.seat.write_to.value)) served },
+    ghost adds_up: { tally ≡ tally_of (map (λ s. s.seat.session.counts) served) },
+    ghost told: { ∥ AllByRecursion (λ s. EndsSo s.ended s.seat.session.ended) served ∥₁ },
 }
 
 impl<V: Receives, D: Doors> Floor<V, D> {
-    fn new(alloc: Global, limits: Limits) -> Floor<V, D> {
+    fn new(alloc: Global, limits: Limits, doors: D) -> Floor<V, D>
+        requires none { (key : ℕ) → D.out doors key ≡ None }
+        requires none_back { D.back doors ≡ [] }
+        ensures doors { result.doors ≡ doors }
+    {
         Floor {
             hall: Hall::new(alloc),
             again: Again::new(alloc),
             tally: Tally::new(),
             limits,
             is_short: false,
+            doors,
+            served: GhostList::new(),
         }
     }
 
@@ -45,115 +70,185 @@ impl<V: Receives, D: Doors> Floor<V, D> {
         }
     }
 
-    // Ends the session of this number, which ended so.
-    fn end(&mut self, key: usize, ended: Ended, host: &mut V, doors: &mut D) {
-        if let Some(seat) = self.hall.seat(key) {
+    // Ends the session of this number, which has ended so, and gives its connection back to the doors.
+    fn end(&mut self, key: usize, ended: Ended, host: &mut V)
+        requires ended { IfSome (get self.old.hall.seats key) (λ seat. EndsSo ended seat.session.ended) }
+        ensures closed { D.is_closed self.old.doors → D.is_closed self.new.doors }
+        ensures over { D.is_over self.old.doors → D.is_over self.new.doors }
+    {
+        if let Some(seat) = self.hall.leave(key, host) {
             self.tally.add(seat.session().counts());
+            let end = SeatEnd {
+                seat: Snapshot::of(&seat),
+                ended,
+            };
+            self.served
+                .push_as::<SeatEnd<V, D::In, D::Out>, SeatEnd<V, D::In, D::Out>>(&end);
+            let (reader, writer) = seat.into_devices();
+            self.doors.left(key, reader, writer, ended);
         }
-        self.hall.leave(key, host);
-        doors.left(key, ended);
+    }
+
+    // A turn of the session of this number. What it waits for where it is to have no other now.
+    fn turn(&mut self, key: usize, host: &mut V) -> Option<Waits>
+        ensures closed { D.is_closed self.old.doors → D.is_closed self.new.doors }
+    {
+        match self.hall.turn(key, host) {
+            Some(Ok(Pace::Busy)) => None,
+            Some(Ok(Pace::Idle)) | None => Some(Waits::No),
+            Some(Err(ended)) if !ended.is_final() => Some(Waits::ForMemory),
+            Some(Err(ended)) => {
+                self.end(key, ended, host);
+                Some(Waits::No)
+            }
+        }
     }
 
     // Some turns of the session of this number. What it waits for then.
-    fn serve(&mut self, key: usize, host: &mut V, doors: &mut D) -> Waits {
+    fn serve(&mut self, key: usize, host: &mut V) -> Waits
+        ensures closed { D.is_closed self.old.doors → D.is_closed self.new.doors }
+    {
         for _turn in 0..TURNS_AT_ONCE {
-            match self.hall.turn(key, host) {
-                Some(Ok(Pace::Busy)) => {}
-                Some(Ok(Pace::Idle)) | None => return Waits::No,
-                Some(Err(ended)) if !ended.is_final() => return Waits::ForMemory,
-                Some(Err(ended)) => {
-                    self.end(key, ended, host, doors);
-                    return Waits::No;
-                }
+            if let Some(waits) = self.turn(key, host) {
+                return waits;
             }
         }
         Waits::ForTurn
     }
 
     // The session of this number is to have turns. Where there is no memory to keep this it has them now.
-    fn call<R: Wait>(&mut self, rt: &R, key: usize, host: &mut V, doors: &mut D) {
+    fn call<R: Wait>(&mut self, rt: &R, key: usize, host: &mut V)
+        ensures closed { D.is_closed self.old.doors → D.is_closed self.new.doors }
+    {
         if self.again.push(key, Waits::ForTurn) {
             return;
         }
         for _ in rt.forever() {
-            if self.serve(key, host, doors) != Waits::ForTurn {
+            if self.serve(key, host) != Waits::ForTurn {
                 break;
             }
         }
     }
 
     // All sessions are to have turns.
-    fn call_all<R: Wait>(&mut self, rt: &R, host: &mut V, doors: &mut D) {
+    fn call_all<R: Wait>(&mut self, rt: &R, host: &mut V)
+        ensures closed { D.is_closed self.old.doors → D.is_closed self.new.doors }
+    {
         for key in 0..self.hall.keys_end() {
             if self.hall.seat(key).is_some() {
-                self.call(rt, key, host, doors);
+                self.call(rt, key, host);
             }
         }
     }
 
     // Each session is to look for itself whether something came.
-    fn note_all_ready(&mut self) {
+    fn note_all_ready(&mut self)
+        ensures doors { self.new.doors ≡ self.old.doors }
+    {
         for key in 0..self.hall.keys_end() {
             self.hall.note_ready(key, true);
         }
     }
 
     // Each session that something came for is to have turns.
-    fn call_ready<R: Wait>(&mut self, rt: &R, host: &mut V, doors: &mut D) {
+    fn call_ready<R: Wait>(&mut self, rt: &R, host: &mut V)
+        ensures closed { D.is_closed self.old.doors → D.is_closed self.new.doors }
+    {
         for _ready in 0..READY_AT_ONCE {
-            let Some(ready) = doors.next_ready() else {
+            let Some(ready) = self.doors.next_ready() else {
                 break;
             };
             self.hall.note_ready(ready.key, ready.is_read_closed);
-            self.call(rt, ready.key, host, doors);
+            self.call(rt, ready.key, host);
+        }
+    }
+
+    // Some turns of the session of this number, which waited for them.
+    fn serve_waiting<R: Wait>(&mut self, rt: &R, key: usize, host: &mut V)
+        ensures closed { D.is_closed self.old.doors → D.is_closed self.new.doors }
+    {
+        match self.serve(key, host) {
+            Waits::No => {}
+            // Where there is no memory to keep this, it is called once something comes or its bell is rung.
+            Waits::ForMemory => {
+                let _is_kept = self.again.push(key, Waits::ForMemory);
+            }
+            Waits::ForTurn => self.call(rt, key, host),
         }
     }
 
     // Some turns of each session that has work left to do.
-    fn serve_all<R: Wait>(&mut self, rt: &R, host: &mut V, doors: &mut D) {
+    fn serve_all<R: Wait>(&mut self, rt: &R, host: &mut V)
+        ensures closed { D.is_closed self.old.doors → D.is_closed self.new.doors }
+    {
         for _waiting in 0..self.again.len() {
             let Some(key) = self.again.pop() else {
                 break;
             };
-            match self.serve(key, host, doors) {
-                Waits::No => {}
-                // Where there is no memory to keep this, it is called once something comes or its bell is rung.
-                Waits::ForMemory => {
-                    let _is_kept = self.again.push(key, Waits::ForMemory);
-                }
-                Waits::ForTurn => self.call(rt, key, host, doors),
-            }
+            self.serve_waiting(rt, key, host);
         }
     }
 
-    // Takes the next connection in, where there is one, and memory for it. Only one at a time: the other workers, which wait
-    // for the same connections, are to have theirs.
-    fn accept<R: Wait>(&mut self, rt: &R, alloc: Global, host: &mut V, doors: &mut D) {
+    // Seats the next connection, where there is one, the host takes another session, and there is memory for it: all this is
+    // seen to first, so that no connection is taken in vain.
+    fn seat_one(&mut self, alloc: Global, host: &mut V) -> Option<usize>
+        ensures closed { D.is_closed self.old.doors → D.is_closed self.new.doors }
+    {
+        self.is_short = self.hall.make_room().is_err();
         let key = self.hall.next_key();
-        self.is_short = self.again.make_room(key).is_err();
+        self.is_short |= self.again.make_room(key).is_err();
         if self.is_short {
-            return;
+            return None;
         }
-        let Some((reader, writer)) = doors.accept(key) else {
-            return;
-        };
-        let Some(core) = host.begin() else {
-            return doors.left(key, Ended::Gone);
+        let core = host.begin()?;
+        let Some((reader, writer)) = self.doors.accept(key) else {
+            host.end(&core);
+            return None;
         };
         let seat = Seat::new(alloc, core, reader, writer, self.limits);
-        match self.hall.enter(seat, host) {
-            Some(key) => self.call(rt, key, host, doors),
-            None => {
-                self.is_short = true;
-                doors.left(key, Ended::NoMemory);
+        Some(self.hall.enter(seat))
+    }
+
+    // Takes the next connection in. Only one at a time: the other workers, which wait for the same connections, are to have
+    // theirs.
+    fn accept<R: Wait>(&mut self, rt: &R, alloc: Global, host: &mut V)
+        ensures closed { D.is_closed self.old.doors → D.is_closed self.new.doors }
+    {
+        if let Some(key) = self.seat_one(alloc, host) {
+            self.call(rt, key, host);
+        }
+    }
+
+    // How the session of this number has ended, where all is over: as it keeps it, or as one whose devices pass nothing any more.
+    fn end_of(&self, key: usize) -> Option<Ended>
+        ensures ended { IfSome result (λ ended. IfSome (get self.now.hall.seats key) (λ seat. EndsSo ended seat.session.ended)) }
+    {
+        let seat = self.hall.seat(key)?;
+        match seat.session().ended() {
+            Some(ended) => Some(ended),
+            None => Some(Ended::Gone),
+        }
+    }
+
+    // Ends each session, where all is over.
+    fn end_all(&mut self, host: &mut V)
+        requires over { D.is_over self.old.doors }
+        ensures closed { D.is_closed self.old.doors → D.is_closed self.new.doors }
+    {
+        for key in 0..self.hall.keys_end() {
+            if let Some(ended) = self.end_of(key) {
+                self.end(key, ended, host);
             }
         }
     }
 
     // What is to be done after a wait.
-    fn go_on<R: Wait>(&mut self, rt: &R, alloc: Global, host: &mut V, doors: &mut D, woken: Woken) {
+    fn go_on<R: Wait>(&mut self, rt: &R, alloc: Global, host: &mut V, woken: Woken)
+        requires over { woken.is_over ≡ true → D.is_over self.old.doors }
+        ensures closed { D.is_closed self.old.doors → D.is_closed self.new.doors }
+    {
         if woken.is_over {
-            return self.end_all(host, doors);
+            return self.end_all(host);
         }
         if woken.is_rung {
             host.rung();
@@ -162,56 +257,72 @@ impl<V: Receives, D: Doors> Floor<V, D> {
             self.note_all_ready();
         }
         if woken.is_rung || woken.is_any_ready {
-            self.call_all(rt, host, doors);
+            self.call_all(rt, host);
         }
-        self.call_ready(rt, host, doors);
-        self.serve_all(rt, host, doors);
+        self.call_ready(rt, host);
+        self.serve_all(rt, host);
         self.is_short = false;
         if woken.may_accept {
-            self.accept(rt, alloc, host, doors);
+            self.accept(rt, alloc, host);
         }
     }
 
-    // Ends each session, as one whose devices pass nothing any more.
-    fn end_all(&mut self, host: &mut V, doors: &mut D) {
-        for key in 0..self.hall.keys_end() {
-            if self.hall.seat(key).is_some() {
-                self.end(key, Ended::Gone, host, doors);
-            }
-        }
+    // A wait, and what is to be done then. Whether all is done.
+    fn round<R: Wait>(&mut self, rt: &R, alloc: Global, host: &mut V) -> bool
+        ensures closed { result ≡ true → D.is_closed self.new.doors }
+        ensures back { result ≡ true → (key : ℕ) → D.out self.new.doors key ≡ None }
+    {
+        let timeout = self.timeout();
+        let woken = self.doors.wait(timeout);
+        self.go_on(rt, alloc, host, woken);
+        woken.is_closed && self.hall.len() == 0
     }
 
     // Ends all sessions.
-    fn close(self, host: &mut V) -> Tally {
+    fn close(self, host: &mut V) -> (Tally, D, GhostList<Served<V, D::In, D::Out>>)
+        ensures doors { result.1 ≡ self.doors }
+        ensures tally { result.0 ≡ tally_of (map (λ s. s.seat.session.counts) result.2) }
+        ensures served { D.back result.1 ≡ map (λ s. (s.seat.read_from.value, s.seat.write_to.value)) result.2 }
+        ensures told { ∥ AllByRecursion (λ s. EndsSo s.ended s.seat.session.ended) result.2 ∥₁ }
+    {
         let Floor {
             hall,
             again: _,
             tally,
             limits: _,
             is_short: _,
+            doors,
+            served,
         } = self;
         hall.close(host);
-        tally
+        (tally, doors, served)
     }
 }
 
-/// Serves the sessions that come in at the doors, until no more come and all have ended; what those counted is handed back.
+/// Serves the sessions that come in at the doors, until no more come and all have ended. What those counted is handed back, with the
+/// doors, and with the sessions, which only proofs see.
 ///
-/// Each session has the whole law of its own as a fact of its seat (`Seat`), and its end is told to the host. Served are
-/// those for which something came, and all of them once the bell was rung, each a few turns before the next; and one
-/// connection is taken between two waits.
+/// Each connection that came in is back then (`back`), and is that of a session that was seated on it, whose whole law is a fact of
+/// its seat, and which has ended so (`served`, `ended`); its end was told to the host. Served are those for which something came, and
+/// all of them once the bell was rung, each a few turns before the next; and one connection is taken between two waits.
 pub fn serve_many<V: Receives, D: Doors, R: Wait>(
     rt: &R,
     alloc: Global,
     host: &mut V,
-    doors: &mut D,
+    doors: D,
     limits: Limits,
-) -> Tally {
-    let mut floor = Floor::<V, D>::new(alloc, limits);
+) -> (Tally, D, GhostList<Served<V, D::In, D::Out>>)
+    requires none { (key : ℕ) → D.out doors key ≡ None }
+    requires none_back { D.back doors ≡ [] }
+    ensures tally { result.0 ≡ tally_of (map (λ s. s.seat.session.counts) result.2) }
+    ensures back { (key : ℕ) → D.out result.1 key ≡ None }
+    ensures served { D.back result.1 ≡ map (λ s. (s.seat.read_from.value, s.seat.write_to.value)) result.2 }
+    ensures told { ∥ AllByRecursion (λ s. EndsSo s.ended s.seat.session.ended) result.2 ∥₁ }
+    ensures closed { D.is_closed result.1 }
+{
+    let mut floor = Floor::<V, D>::new(alloc, limits, doors);
     for _ in rt.forever() {
-        let woken = doors.wait(floor.timeout());
-        floor.go_on(rt, alloc, host, doors, woken);
-        if woken.is_closed && floor.hall.len() == 0 {
+        if floor.round(rt, alloc, host) {
             break;
         }
     }

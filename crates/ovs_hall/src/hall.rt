@@ -1,14 +1,15 @@
 //! Seats by number.
-ghost use Rattle.std.specs.Prelude.{◌≡◌, ◌≢◌, ◌≤◌, ◌↔◌, ℕ, Some, None, Err, All, IfSome, option_copied};
-ghost use Rattle.slab.specs.Slab.{get, slab_len, entries, Updates};
-ghost use Rattle.ovs_hall.specs.Seats.{Became};
-ghost use Rattle.ovs_session.specs.Moving.{Moved, IsAnswer, ended_by};
+ghost use Rattle.std.specs.Prelude.{◌≡◌, ◌≢◌, ◌≤◌, ◌↔◌, ℕ, Some, None, All, IfSome, OnOk, option_copied};
+ghost use Rattle.slab.specs.Slab.{get, slab_len, entries, Updates, HasRoomFor};
+ghost use Rattle.ovs_session.specs.Turning.{with_devices};
+ghost use Rattle.ovs_hall.specs.Seats.{Became, Turned};
+ghost use Rattle.ovs_session.specs.Moving.{Moved};
 
 use crate::host::Host;
 use crate::seat::Seat;
 use ovs_session::{Ended, Pace};
 use slab::Slab;
-use std::alloc::Global;
+use std::alloc::{AllocError, Global};
 use std::io::{Read, Write};
 
 /// Sessions with their devices, by number. It can't be dropped: only `close` takes it apart, which ends each session.
@@ -55,32 +56,38 @@ impl<V: Host, R: Read + Drop, W: Write + Drop> Hall<V, R, W> {
         self.seats.get(key)
     }
 
-    /// Seats a session and gives its number, or ends it where there is no memory.
-    pub fn enter(&mut self, seat: Seat<V, R, W>, host: &mut V) -> Option<usize>
-        ensures number { IfSome result (λ key. key ≡ self.old.seats.vacant_key) }
-        ensures seated { IfSome result (λ key. (get self.old.seats key ≡ None) × Updates self.old.seats self.new.seats key (Some seat)) }
-        ensures same { result ≡ None → (key : ℕ) → get self.new.seats key ≡ get self.old.seats key }
-        ensures silent { result ≡ None → V.is_silent host.new seat.session.core }
-        ensures stays { (other : V.Session) → V.is_silent host.old other → V.is_silent host.new other }
+    /// Room for one session more.
+    ///
+    /// # Errors
+    /// Memory ran out.
+    pub fn make_room(&mut self) -> Result<(), AllocError>
+        ensures room { OnOk result (HasRoomFor self.new.seats 1) }
+        ensures same { (key : ℕ) → get self.new.seats key ≡ get self.old.seats key }
+        ensures next { self.new.seats.vacant_key ≡ self.old.seats.vacant_key }
     {
-        match self.seats.insert(seat) {
-            Ok(key) => Some(key),
-            Err(failed) => {
-                failed.value.end(host);
-                None
-            }
-        }
+        self.seats.reserve(1)
+    }
+
+    /// Seats a session and gives its number.
+    pub fn enter(&mut self, seat: Seat<V, R, W>) -> usize
+        requires room { HasRoomFor self.old.seats 1 }
+        ensures number { result ≡ self.old.seats.vacant_key }
+        ensures free { get self.old.seats result ≡ None }
+        ensures seated { Updates self.old.seats self.new.seats result (Some seat) }
+    {
+        self.seats.insert_reserved(seat)
     }
 
     /// A turn of the session of this number. Every other session is left as it was.
     pub fn turn(&mut self, key: usize, host: &mut V) -> Option<Result<Pace, Ended>>
         ensures others { (other : ℕ) → other ≢ key → get self.new.seats other ≡ get self.old.seats other }
-        ensures this { Became (λ a b. (b.began ≡ a.began) × Moved V.answers V.tells a.limits.most_unsent (R.remaining a.reader) (R.remaining b.reader)
-            (W.contents a.writer) (W.contents b.writer) a.session b.session) (get self.old.seats key) (get self.new.seats key) }
+        ensures this { Became (λ a b. (b.began ≡ a.began) × (b.read_from ≡ a.read_from) × (b.write_to ≡ a.write_to) × (b.limits ≡ a.limits)) (get self.old.seats key) (get self.new.seats key) }
+        ensures moved { Became (λ a b. Moved V.answers V.tells a.limits.most_unsent (R.remaining a.reader.device) (R.remaining b.reader.device)
+            (W.contents a.writer.device) (W.contents b.writer.device) a.session b.session) (get self.old.seats key) (get self.new.seats key) }
         ensures none { (result ≡ None) ↔ (get self.old.seats key ≡ None) }
-        ensures over { (e : _) → IfSome (get self.old.seats key) (λ a. a.session.ended ≡ Some e → result ≡ Some (Err e)) }
-        ensures ends { IfSome result (λ r. Became (λ a b. a.session.ended ≡ None → b.session.ended ≡ ended_by r) (get self.old.seats key) (get self.new.seats key)) }
-        ensures answer { IfSome result (λ r. Became (λ a b. a.session.ended ≡ None → IsAnswer V.refuses (V.may_answer host.new) (V.is_answered host.new) r b.session) (get self.old.seats key) (get self.new.seats key)) }
+        ensures turned { IfSome result (λ r. Became (λ a b. Turned V.answers V.tells V.refuses V.may_answer V.is_answered
+            (V.is_told host.new) (V.may_tell host.new) (V.is_gone host.new) a.limits r
+            (with_devices a.session a.reader a.writer) (with_devices b.session b.reader b.writer)) (get self.old.seats key) (get self.new.seats key)) }
     {
         match self.seats.get_mut(key) {
             Some(seat) => Some(seat.turn(host)),
@@ -97,16 +104,17 @@ impl<V: Host, R: Read + Drop, W: Write + Drop> Hall<V, R, W> {
         }
     }
 
-    /// Frees the number of a session, which is ended at its host.
-    pub fn leave(&mut self, key: usize, host: &mut V)
-        ensures silent { IfSome (get self.old.seats key) (λ seat. V.is_silent host.new seat.session.core) }
+    /// The session of this number, which is ended at its host and whose number is free then.
+    pub fn leave(&mut self, key: usize, host: &mut V) -> Option<Seat<V, R, W>>
+        ensures value { result ≡ get self.old.seats key }
+        ensures silent { IfSome result (λ seat. V.is_silent host.new seat.session.core) }
         ensures stays { (other : V.Session) → V.is_silent host.old other → V.is_silent host.new other }
         ensures gone { get self.new.seats key ≡ None }
         ensures others { (other : ℕ) → other ≢ key → get self.new.seats other ≡ get self.old.seats other }
     {
-        if let Some(seat) = self.seats.try_remove(key) {
-            seat.end(host);
-        }
+        let seat = self.seats.try_remove(key)?;
+        seat.end(host);
+        Some(seat)
     }
 
     /// Ends all sessions at their host.

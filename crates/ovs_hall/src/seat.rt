@@ -1,31 +1,34 @@
 //! A session with its devices.
-ghost use Rattle.std.specs.Prelude.{◌≡◌, Some, None, Err};
-ghost use Rattle.ovs_session.specs.Counting.{SpendsAtMost};
-ghost use Rattle.ovs_session.specs.Moving.{Moved, IsAnswer, ended_by};
+ghost use Rattle.std.specs.Prelude.{◌≡◌};
+ghost use Rattle.ovs_session.specs.Moving.{Moved};
 ghost use Rattle.ovs_session.specs.Serving.{fresh};
+ghost use Rattle.ovs_session.specs.Turning.{with_devices};
+ghost use Rattle.ovs_hall.specs.Seats.{IsLawful, Turned};
 
 use crate::host::Host;
-use ovs_session::{Ended, Limits, Pace, Service, Session, turn};
+use ovs_session::{Ended, Limits, Pace, Session, turn};
+use ovs_wire::Counted;
 use std::alloc::Global;
 use std::io::{Read, Write};
 use std::snapshot::Snapshot;
 
-/// A session with its reader and its writer. Whatever turns it has made, what it read and what it wrote since it began
-/// belongs together (`Moved`): that is a fact of each seat, wherever it lies.
+/// A session with its reader and its writer. Whatever turns it has made, it began as one that its host may begin, and what it
+/// read and what it wrote since then belongs together; and where it has ended `Closed`, for `BadInput` or by a fault of a device
+/// it did so by right (`IsLawful`): that is a fact of each seat, wherever it lies.
 #[derive(Drop)]
-pub struct Seat<V: Service, R: Read, W: Write> {
+pub struct Seat<V: Host, R: Read, W: Write> {
     session: Session<V::Session>,
-    reader: R,
-    writer: W,
+    reader: Counted<R>,
+    writer: Counted<W>,
     limits: Limits,
-    began: Snapshot<Session<V::Session>>,
+    began: Snapshot<V::Session>,
     read_from: Snapshot<R>,
     write_to: Snapshot<W>,
-    ghost lawful: { ∥ Moved V.answers V.tells limits.most_unsent (R.remaining read_from.value) (R.remaining reader)
-        (W.contents write_to.value) (W.contents writer) began.value session ∥₁ },
+    ghost lawful: { ∥ IsLawful V.begins V.answers V.tells V.refuses V.is_answered limits.most_unsent (R.remaining read_from.value) (R.remaining reader.device)
+        (W.contents write_to.value) (W.contents writer.device) began.value (with_devices session reader writer) ∥₁ },
 }
 
-impl<V: Service, R: Read, W: Write> Seat<V, R, W> {
+impl<V: Host, R: Read, W: Write> Seat<V, R, W> {
     /// A session of which nothing was read or said yet. It reads once, and then where it is told that something came
     /// (`note_ready`).
     pub fn new(
@@ -35,20 +38,23 @@ impl<V: Service, R: Read, W: Write> Seat<V, R, W> {
         writer: W,
         limits: Limits,
     ) -> Seat<V, R, W>
-        ensures began { result.began.value ≡ fresh core }
+        requires begins { V.begins core }
+        ensures began { result.began.value ≡ core }
+        ensures session { result.session ≡ fresh core }
         ensures reader { result.read_from.value ≡ reader }
         ensures writer { result.write_to.value ≡ writer }
         ensures limits { result.limits ≡ limits }
     {
+        let began = Snapshot::of(&core);
         let mut session = Session::new(alloc, core);
         session.read_when_told();
         Seat {
-            began: Snapshot::of(&session),
+            began,
             read_from: Snapshot::of(&reader),
             write_to: Snapshot::of(&writer),
             session,
-            reader,
-            writer,
+            reader: Counted::new(reader),
+            writer: Counted::new(writer),
             limits,
         }
     }
@@ -71,13 +77,10 @@ impl<V: Service, R: Read, W: Write> Seat<V, R, W> {
     pub fn turn(&mut self, service: &mut V) -> Result<Pace, Ended>
         ensures same { (self.new.began ≡ self.old.began) × (self.new.read_from ≡ self.old.read_from)
             × (self.new.write_to ≡ self.old.write_to) × (self.new.limits ≡ self.old.limits) }
-        ensures moved { Moved V.answers V.tells self.old.limits.most_unsent (R.remaining self.old.reader) (R.remaining self.new.reader)
-            (W.contents self.old.writer) (W.contents self.new.writer) self.old.session self.new.session }
-        ensures over { (e : _) → self.old.session.ended ≡ Some e → (result ≡ Err e) × (self.new.session ≡ self.old.session)
-            × (self.new.reader ≡ self.old.reader) × (self.new.writer ≡ self.old.writer) }
-        ensures ends { self.old.session.ended ≡ None → self.new.session.ended ≡ ended_by result }
-        ensures answer { self.old.session.ended ≡ None → IsAnswer V.refuses (V.may_answer service.new) (V.is_answered service.new) result self.new.session }
-        ensures spent { SpendsAtMost 1 self.old.limits.messages self.old.session.counts self.new.session.counts }
+        ensures moved { Moved V.answers V.tells self.old.limits.most_unsent (R.remaining self.old.reader.device) (R.remaining self.new.reader.device)
+            (W.contents self.old.writer.device) (W.contents self.new.writer.device) self.old.session self.new.session }
+        ensures turned { Turned V.answers V.tells V.refuses V.may_answer V.is_answered (V.is_told service.new) (V.may_tell service.new) (V.is_gone service.new)
+            self.old.limits result (with_devices self.old.session self.old.reader self.old.writer) (with_devices self.new.session self.new.reader self.new.writer) }
     {
         turn(
             &mut self.session,
@@ -87,15 +90,21 @@ impl<V: Service, R: Read, W: Write> Seat<V, R, W> {
             self.limits,
         )
     }
-}
 
-impl<V: Host, R: Read + Drop, W: Write + Drop> Seat<V, R, W> {
+    /// Its devices, without the session.
+    pub(crate) fn into_devices(self) -> (R, W)
+        ensures reader { result.0 ≡ self.reader.device }
+        ensures writer { result.1 ≡ self.writer.device }
+    {
+        let Seat { reader, writer, .. } = self;
+        (reader.into_inner(), writer.into_inner())
+    }
+
     /// Ends the session at its host.
-    pub fn end(self, host: &mut V)
-        ensures silent { V.is_silent host.new self.session.core }
+    pub fn end(&self, host: &mut V)
+        ensures silent { V.is_silent host.new self.now.session.core }
         ensures stays { (other : V.Session) → V.is_silent host.old other → V.is_silent host.new other }
     {
-        let Seat { session, .. } = self;
-        host.end(session.into_core());
+        host.end(self.session.core());
     }
 }

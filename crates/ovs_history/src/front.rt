@@ -4,6 +4,7 @@ ghost use Rattle.std.specs.Prelude.{◌≡◌, ◌<◌, ◌^◌, ◌++◌, ◌�
 ghost use mathlib.Core.List.{IsPrefix};
 
 use crate::book::{Book, HistoryName};
+use crate::entry::{Entry, EntryFrom, Itself};
 use crate::rule::{Adding, LengthRule, NoGain};
 use logbook::{Offer, Seen};
 use std::marker::{Model, PhantomData};
@@ -88,9 +89,26 @@ impl<T, K: HistoryName<T>> Front<T, K> {
         ensures behind { IfErr result (λ history. IsPrefix self.old history × (length self.old < length history)) }
         ensures unchanged { OnErr result (self.new ≡ self.old) }
     {
+        self.add_as::<T, Itself>(book, entry)
+    }
+
+    /// Adds the entry that `M` makes of a value, as `add` adds one: so an entry may stand for what no value of its type is made of.
+    pub fn add_as<X, M: EntryFrom<X, T>>(
+        &mut self,
+        book: &Book<T, K>,
+        about: &X,
+    ) -> Result<(), Behind<T, K>>
+        requires room { length self.old < 2 ^ 62 }
+        requires holds { K.holds (self.old ++ M.entry about.now ∷ []) }
+        ensures added { OnOk result (self.new ≡ self.old ++ M.entry about.now ∷ []) }
+        ensures behind { IfErr result (λ history. IsPrefix self.old history × (length self.old < length history)) }
+        ensures unchanged { OnErr result (self.new ≡ self.old) }
+    {
         // A copy of what was seen takes the step, so that a step that finds another length leaves this front as it is.
         let mut seen = self.seen.again();
-        let mut offer: Offer<T, u64, LengthRule, NoGain> = seen.plain::<NoGain, T, Adding>(entry);
+        let mut offer: Offer<T, u64, LengthRule, NoGain> = seen.plain::<NoGain, X, Entry<X, T, M>>(
+            about,
+        );
         let mut pen = seen.no_pen();
         let entries = self.entries;
         let found = book

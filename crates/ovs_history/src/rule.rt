@@ -1,6 +1,6 @@
 //! The rule of a history: its word is its length. All else that holds of it is kept by the fronts.
 
-use logbook::{Gain, Plain, Play, Rule};
+use logbook::{Gain, Play, Rule};
 
 /// The word is the length of the history.
 pub struct LengthRule;
@@ -32,19 +32,11 @@ impl<T> Gain<T, u64> for NoGain {
     ghost after = { λ names about answer. ftrue };
 }
 
-/// The step that adds an entry, which is the whole of what is asked.
+/// The step that adds the entry that is asked for.
 pub struct Adding;
 
 impl<T> Play<T, u64> for Adding {
     ghost use Rattle.ovs_history.specs.LengthRule.{Adds};
 
     ghost then = { Adds };
-}
-
-impl<T> Plain<T, T, u64> for Adding {
-    ghost use Rattle.std.specs.Prelude.{None};
-
-    ghost ask = { λ entry. entry };
-
-    ghost state = { λ entry. None };
 }

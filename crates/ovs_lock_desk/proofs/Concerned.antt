@@ -12,19 +12,23 @@ use Rattle.ovs_lock_desk.specs.declared.course.Course.{Course}
 use Rattle.ovs_lock_desk.specs.declared.course.Course.TheVariants.{Idle, Sent, Waiting, Held}
 use Rattle.ovs_lock_desk.specs.declared.course.Event.{Event}
 use Rattle.ovs_lock_desk.specs.declared.course.Event.TheVariants as events
+use Rattle.ovs_lock_desk.specs.declared.course.LockReply.{LockReply}
+use Rattle.ovs_lock_desk.specs.declared.course.LockReply.TheVariants as replies
 use Rattle.ovs_lock_desk.specs.declared.course.LockVerb.{LockVerb}
 use Rattle.ovs_lock_desk.specs.declared.course.LockVerb.TheVariants as verbs
 use Rattle.ovs_lock_desk.specs.declared.late_steal.LateSteal.{LateSteal}
+use Rattle.ovs_lock_desk.specs.declared.late_steal.StealOutcome.{StealOutcome}
+use Rattle.ovs_lock_desk.specs.declared.late_steal.StealOutcome.TheVariants as outcomes
 use Rattle.ovs_lock_desk.specs.Course.{is_held, is_sent, course_as_lock}
 use Rattle.ovs_lock_desk.specs.LateSteal.{is_of, is_open, is_due_late, late_of, settled_one, settled, without_one, open_session}
-use Rattle.ovs_lock_desk.specs.DeskLock.{DeskLockValue, concerns, steal_open, own_steal_open, asked_here, stolen_here, held, granted_in, step, asked_again, forgotten_by}
+use Rattle.ovs_lock_desk.specs.DeskLock.{DeskLockValue, concerns, steal_open, own_steal_open, asked_here, stolen_here, held, answered_so, granted_in, step, steal_failed, asked_again, forgotten_by}
 use Rattle.ovs_lock_desk.proofs.DeskOwed.{another, stands_asked, left_alone, forgotten_alone, stands_ended}
 
 pub neither : (a b : Bool) → (a || b) ≡ false → (a ≡ false) × (b ≡ false)
 neither true b e = absurd cc
 neither false b e = (refl, e)
 
-both_not : (a b : Bool) → a ≡ false → b ≡ false → (a || b) ≡ false
+pub both_not : (a b : Bool) → a ≡ false → b ≡ false → (a || b) ≡ false
 both_not a b e f = rw (e, f) refl
 
 -- ---- late steals
@@ -33,18 +37,18 @@ module _ (x : ℕ) where
   abbrev late_of_it : List LateSteal → Bool
   late_of_it late = list_any (is_of x) late
 
-  settled_of : (won : Bool) (e : LateSteal) → is_of x (settled_one won e) ≡ is_of x e
-  settled_of won e = by (is_open e)
+  settled_of : (outcome : StealOutcome) (e : LateSteal) → is_of x (settled_one outcome e) ≡ is_of x e
+  settled_of outcome e = by (is_open e)
     where
-      by : (b : Bool) → is_of x (cond b (record { who = e.who; id = e.id; won = Some won }) e) ≡ is_of x e
+      by : (b : Bool) → is_of x (cond b (record { who = e.who; id = e.id; outcome = Some outcome }) e) ≡ is_of x e
       by true = refl
       by false = refl
 
-  none_settled : (won : Bool) (late : List LateSteal) → late_of_it late ≡ false → late_of_it (settled won late) ≡ false
-  none_settled won [] none = refl
-  none_settled won (e ∷ late) none =
+  none_settled : (outcome : StealOutcome) (late : List LateSteal) → late_of_it late ≡ false → late_of_it (settled outcome late) ≡ false
+  none_settled outcome [] none = refl
+  none_settled outcome (e ∷ late) none =
       let n = neither (is_of x e) (late_of_it late) none in
-      both_not (is_of x (settled_one won e)) (late_of_it (settled won late)) (settled_of won e ∙ n.0) (none_settled won late n.1)
+      both_not (is_of x (settled_one outcome e)) (late_of_it (settled outcome late)) (settled_of outcome e ∙ n.0) (none_settled outcome late n.1)
 
   none_filtered : (q : LateSteal → Bool) (late : List LateSteal) → late_of_it late ≡ false → late_of_it (filter q late) ≡ false
   none_filtered q [] none = refl
@@ -105,23 +109,29 @@ module _ (x : ℕ) where
   none_held : (l : DeskLockValue) → concerns x l ≡ false → concerns x (held l) ≡ false
   none_held l none =
       let n = neither (late_of_it l.late) (stands x l.lock) none in
-      both_not (late_of_it (held l).late) (stands x (held l).lock) (none_settled true l.late n.0) (by (steal_open l) n.1)
+      both_not (late_of_it (held l).late) (stands x (held l).lock) (none_settled outcomes.Won l.late n.0) (by (steal_open l) n.1)
     where
       by : (b : Bool) → stands x l.lock ≡ false → stands x (cond b l.lock (granted_first l.lock)) ≡ false
       by true e = e
       by false e = none_granted l.lock e
+
+  none_failed : (outcome : StealOutcome) (l : DeskLockValue) → concerns x l ≡ false → concerns x (steal_failed outcome l) ≡ false
+  none_failed outcome l none =
+      let n = neither (late_of_it l.late) (stands x l.lock) none in
+      both_not (late_of_it (settled outcome l.late)) (stands x (steal_failed outcome l).lock) (none_settled outcome l.late n.0) (none_forgotten (open_session l.late) l.lock n.1)
 
   pub none_stepped : (event : Event) (l : DeskLockValue) → concerns x l ≡ false → concerns x (step event l) ≡ false
   none_stepped (events.Unlocked who) l none =
       let n = neither (late_of_it l.late) (stands x l.lock) none in
       both_not (late_of_it l.late) (stands x (step (events.Unlocked who) l).lock) n.0 (left_alone who x l.course l.lock n.1)
   none_stepped (events.Sent m) l none = none
-  none_stepped (events.Answered m won) l none = by (is_sent m l.course) won
+  none_stepped (events.Answered m reply) l none = by (is_sent m l.course) reply
     where
-      by : (b won : Bool) → concerns x (cond b (cond won (held l) (record { lock = l.lock; late = l.late; course = Waiting })) l) ≡ false
-      by true true = none_held l none
-      by true false = none
-      by false won = none
+      by : (b : Bool) (reply : LockReply) → concerns x (cond b (answered_so reply l) l) ≡ false
+      by true replies.Given = none_held l none
+      by true replies.Waits = none
+      by true replies.Refused = none_failed outcomes.Refused l none
+      by false reply = none
   none_stepped events.Granted l none = by l.course
     where
       by : (c : Course) → concerns x (granted_in c l) ≡ false
@@ -136,7 +146,8 @@ module _ (x : ℕ) where
       by false = none
   none_stepped events.Lost l none =
       let n = neither (late_of_it l.late) (stands x l.lock) none in
-      both_not (late_of_it (settled false l.late)) (stands x (step events.Lost l).lock) (none_settled false l.late n.0) (none_forgotten (open_session l.late) (cond (is_held l.course) (robbed_first l.lock) l.lock) (by (is_held l.course) n.1))
+      let lock = cond (is_held l.course) (robbed_first l.lock) l.lock in
+      none_failed outcomes.SourceLost (record { lock = lock; late = l.late; course = l.course }) (both_not (late_of_it l.late) (stands x lock) n.0 (by (is_held l.course) n.1))
     where
       by : (b : Bool) → stands x l.lock ≡ false → stands x (cond b (robbed_first l.lock) l.lock) ≡ false
       by true e = none_robbed l.lock e

@@ -40,7 +40,7 @@ told_step who name l es =
 pub still_idle : (event : Event) → is_desk_idle (step event no_desk_lock) ≡ true
 still_idle (events.Unlocked who) = refl
 still_idle (events.Sent n) = refl
-still_idle (events.Answered n won) = refl
+still_idle (events.Answered n reply) = refl
 still_idle events.Granted = refl
 still_idle events.Stolen = refl
 still_idle events.Lost = refl

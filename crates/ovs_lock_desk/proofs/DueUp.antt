@@ -15,7 +15,7 @@ use Rattle.ovs_locks.proofs.Listed.{found}
 use Rattle.ovs_locks.proofs.Relisting.{other_name}
 use Rattle.ovs_locks.proofs.Tables.{apart}
 use Rattle.ovs_lock_desk.specs.Course.{is_sent, verb_due}
-use Rattle.ovs_lock_desk.specs.DeskLock.{DeskLockValue, no_desk_lock, is_desk_idle, is_due_up, step, held}
+use Rattle.ovs_lock_desk.specs.DeskLock.{DeskLockValue, no_desk_lock, is_desk_idle, is_due_up, step, answered_so}
 use Rattle.ovs_lock_desk.specs.DueNames.{DueValue, NotesDue, is_listed}
 use Rattle.ovs_lock_desk.specs.LockDesk.{DeskLocks, ChangesAt, desk_lock_at, stepped, first_due_up, or_else}
 use Rattle.ovs_lock_desk.specs.UpwardTable.{ListsDue, ListsOtherDue}
@@ -23,6 +23,8 @@ use Rattle.ovs_lock_desk.specs.declared.course.Course.{Course}
 use Rattle.ovs_lock_desk.specs.declared.course.Course.TheVariants.{Idle, Sent, Waiting, Held}
 use Rattle.ovs_lock_desk.specs.declared.course.Event.{Event}
 use Rattle.ovs_lock_desk.specs.declared.course.Event.TheVariants as events
+use Rattle.ovs_lock_desk.specs.declared.course.LockReply.{LockReply}
+use Rattle.ovs_lock_desk.specs.declared.course.LockReply.TheVariants as replies
 use Rattle.ovs_lock_desk.specs.declared.course.LockVerb.{LockVerb}
 use Rattle.ovs_lock_desk.proofs.DeskOwed.{idle_is_none}
 use Rattle.ovs_lock_desk.proofs.Named.{past, names_tell}
@@ -87,17 +89,18 @@ due_lost old new ascend change = record {
 }
 
 -- by an answer nothing comes to be due
-pub due_answered : (number : ℕ) (won : Bool) (l : DeskLockValue) → is_due_up l ≡ false → is_due_up (step (events.Answered number won) l) ≡ false
-due_answered number won l none = by (is_sent number l.course) won
+pub due_answered : (number : ℕ) (reply : LockReply) (l : DeskLockValue) → is_due_up l ≡ false → is_due_up (step (events.Answered number reply) l) ≡ false
+due_answered number reply l none = by (is_sent number l.course) reply
   where
-    by : (b won : Bool) → is_due_up (cond b (cond won (held l) (record { lock = l.lock; late = l.late; course = Waiting })) l) ≡ false
-    by true true = refl
-    by true false = refl
-    by false won = none
+    by : (b : Bool) (reply : LockReply) → is_due_up (cond b (answered_so reply l) l) ≡ false
+    by true replies.Given = refl
+    by true replies.Waits = refl
+    by true replies.Refused = refl
+    by false reply = none
 
 -- and what is due is due still
-pub due_unanswered : (number : ℕ) (won : Bool) (l : DeskLockValue) → is_due_up l ≡ true → is_due_up (step (events.Answered number won) l) ≡ true
-due_unanswered number won l some = ap is_due_up (unanswered number won l (by l.course some)) ∙ some
+pub due_unanswered : (number : ℕ) (reply : LockReply) (l : DeskLockValue) → is_due_up l ≡ true → is_due_up (step (events.Answered number reply) l) ≡ true
+due_unanswered number reply l some = ap is_due_up (unanswered number reply l (by l.course some)) ∙ some
   where
     by : (c : Course) → is_some (verb_due c) ≡ true → is_sent number c ≡ false
     by (Idle d) e = refl

@@ -6,10 +6,12 @@ use Rattle.ovs_lock_desk.specs.declared.course.Course.TheVariants.{Idle, Sent, W
 use Rattle.ovs_lock_desk.specs.declared.course.Due.TheVariants as due
 use Rattle.ovs_lock_desk.specs.declared.course.Event.{Event}
 use Rattle.ovs_lock_desk.specs.declared.course.Event.TheVariants as events
+use Rattle.ovs_lock_desk.specs.declared.course.LockReply.{LockReply}
+use Rattle.ovs_lock_desk.specs.declared.course.LockReply.TheVariants as replies
 use Rattle.ovs_lock_desk.specs.declared.course.LockVerb.{LockVerb}
 use Rattle.ovs_lock_desk.specs.declared.course.LockVerb.TheVariants as verbs
 use Rattle.ovs_locks.specs.Lock.{is_free, robbed_first}
-use Rattle.ovs_lock_desk.specs.Course.{is_held, is_sent, waits, gives, course_locked, course_stolen, course_given_up, course_as_lock, course_sent}
+use Rattle.ovs_lock_desk.specs.Course.{is_held, is_sent, waits, is_given, gives, course_locked, course_stolen, course_given_up, course_as_lock, course_sent}
 use Rattle.ovs_lock_desk.specs.DeskLock.{DeskLockValue, step, asked_here, left, own_steal_open, answered_so, granted_in, asked_again}
 
 or_false : (b : Bool) → b ≡ true → (b || false) ≡ true
@@ -48,11 +50,15 @@ sent_held n (Sent m) e = e
 sent_held n Waiting e = e
 sent_held n Held e = e
 
-answered_held : (n : ℕ) (won b : Bool) (l : DeskLockValue) → is_sent n l.course ≡ b → is_held (cond b (answered_so won l) l).course ≡ true → (is_held l.course || (won && is_sent n l.course)) ≡ true
-answered_held n true true l is e = ap (λ (x : Bool). is_held l.course || x) is ∙ true_or (is_held l.course)
-answered_held n false true l is e = absurd cc
-answered_held n true false l is e = ap (λ (x : Bool). is_held l.course || x) is ∙ or_false (is_held l.course) e
-answered_held n false false l is e = or_false (is_held l.course) e
+or_left : (a b : Bool) → a ≡ true → (a || b) ≡ true
+or_left true b e = refl
+or_left false b e = absurd cc
+
+answered_held : (n : ℕ) (reply : LockReply) (b : Bool) (l : DeskLockValue) → is_sent n l.course ≡ b → is_held (cond b (answered_so reply l) l).course ≡ true → (is_held l.course || (is_given reply && is_sent n l.course)) ≡ true
+answered_held n replies.Given true l is e = ap (λ (x : Bool). is_held l.course || x) is ∙ true_or (is_held l.course)
+answered_held n replies.Waits true l is e = absurd cc
+answered_held n replies.Refused true l is e = absurd cc
+answered_held n reply false l is e = or_left (is_held l.course) (is_given reply && is_sent n l.course) e
 
 granted_held : (c : Course) (l : DeskLockValue) → l.course ≡ c → is_held (granted_in c l).course ≡ true → (is_held c || waits c) ≡ true
 granted_held (Idle d) l is e = absurd (let clash = sym e ∙ ap is_held is in cc)
@@ -72,7 +78,7 @@ found_held false c e = absurd cc
 pub held_only : (event : Event) (l : DeskLockValue) → is_held (step event l).course ≡ true → (is_held l.course || gives event l.course) ≡ true
 held_only (events.Unlocked who) l e = or_false (is_held l.course) (given_up_held (is_free (left who l.course l.lock).queue) l.course e)
 held_only (events.Sent n) l e = or_false (is_held l.course) (sent_held n l.course e)
-held_only (events.Answered n won) l e = answered_held n won (is_sent n l.course) l refl e
+held_only (events.Answered n reply) l e = answered_held n reply (is_sent n l.course) l refl e
 held_only events.Granted l e = granted_held l.course l refl e
 held_only events.Stolen l e = or_false (is_held l.course) (robbed_held (is_held l.course) l refl e)
 held_only events.Lost l e = absurd cc

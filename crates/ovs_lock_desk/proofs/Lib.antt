@@ -8,6 +8,7 @@ pub mod Named
 pub mod Names
 pub mod Requests
 pub mod OwedMarks
+pub mod Refusals
 pub mod Settled
 pub mod Silence
 pub mod Stepping

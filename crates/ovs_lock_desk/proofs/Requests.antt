@@ -10,7 +10,7 @@ use Rattle.ovs_locks.proofs.ByName.{same_name}
 use Rattle.ovs_locks.proofs.Gathering.{test}
 use Rattle.ovs_locks.proofs.Relisting.{other_name}
 use Rattle.ovs_lock_desk.specs.Course.{is_held, is_sent, asks_nothing, open_number, verb_due, course_as_lock, course_given_up, course_locked, course_stolen, course_sent}
-use Rattle.ovs_lock_desk.specs.DeskLock.{DeskLockValue, no_desk_lock, is_desk_idle, IsSettled, MayHappen, step, asked_here, own_steal_open, left, held, granted_in, asked_again}
+use Rattle.ovs_lock_desk.specs.DeskLock.{DeskLockValue, no_desk_lock, is_desk_idle, IsSettled, MayHappen, step, asked_here, own_steal_open, left, answered_so, granted_in, asked_again}
 use Rattle.ovs_lock_desk.specs.LockDesk.{DeskLocks, ChangesAt, desk_lock_at, stepped, is_sent_at}
 use Rattle.ovs_lock_desk.specs.UpwardTable.{AreRequested, AreOpen, OthersOpen, AreSettled, Opens, is_open_under}
 use Rattle.ovs_lock_desk.specs.declared.course.Course.{Course}
@@ -18,6 +18,8 @@ use Rattle.ovs_lock_desk.specs.declared.course.Course.TheVariants.{Idle, Sent, W
 use Rattle.ovs_lock_desk.specs.declared.course.Due.TheVariants as due
 use Rattle.ovs_lock_desk.specs.declared.course.Event.{Event}
 use Rattle.ovs_lock_desk.specs.declared.course.Event.TheVariants as events
+use Rattle.ovs_lock_desk.specs.declared.course.LockReply.{LockReply}
+use Rattle.ovs_lock_desk.specs.declared.course.LockReply.TheVariants as replies
 use Rattle.ovs_lock_desk.specs.declared.course.LockVerb.{LockVerb}
 use Rattle.ovs_lock_desk.specs.declared.course.LockVerb.TheVariants as verbs
 use Rattle.ovs_lock_desk.proofs.Named.{after_changes, names_tell}
@@ -61,12 +63,13 @@ module _ (n : ℕ) where
   unsent : (event : Event) (l : DeskLockValue) → MayHappen event l → is_open_under n l ≡ false → is_open_under n (step event l) ≡ false
   unsent (events.Unlocked who) l may none = left_unsent (is_free (left who l.course l.lock).queue) l.course none
   unsent (events.Sent m) l may none = absurd may
-  unsent (events.Answered m won) l may none = by (is_sent m l.course) won
+  unsent (events.Answered m reply) l may none = by (is_sent m l.course) reply
     where
-      by : (b won : Bool) → is_open_under n (cond b (cond won (held l) (record { lock = l.lock; late = l.late; course = Waiting })) l) ≡ false
-      by true true = refl
-      by true false = refl
-      by false won = none
+      by : (b : Bool) (reply : LockReply) → is_open_under n (cond b (answered_so reply l) l) ≡ false
+      by true replies.Given = refl
+      by true replies.Waits = refl
+      by true replies.Refused = refl
+      by false reply = none
   unsent events.Granted l may none = by l.course
     where
       by : (c : Course) → is_open_under n (granted_in c l) ≡ false
@@ -103,17 +106,18 @@ module _ (n : ℕ) where
   unsent_asked has_source who verbs.Unlock id l none = left_unsent (is_free (left who l.course l.lock).queue) l.course none
 
   -- an answered request isn't open
-  answered_unsent : (won : Bool) (l : DeskLockValue) → is_open_under n (step (events.Answered n won) l) ≡ false
-  answered_unsent won l = by (is_sent n l.course) won refl
+  answered_unsent : (reply : LockReply) (l : DeskLockValue) → is_open_under n (step (events.Answered n reply) l) ≡ false
+  answered_unsent reply l = by (is_sent n l.course) reply refl
     where
-      by : (b won : Bool) → is_sent n l.course ≡ b → is_open_under n (cond b (cond won (held l) (record { lock = l.lock; late = l.late; course = Waiting })) l) ≡ false
-      by true true is = refl
-      by true false is = refl
-      by false won is = is
+      by : (b : Bool) (reply : LockReply) → is_sent n l.course ≡ b → is_open_under n (cond b (answered_so reply l) l) ≡ false
+      by true replies.Given is = refl
+      by true replies.Waits is = refl
+      by true replies.Refused is = refl
+      by false reply is = is
 
   -- an answer makes nothing of a lock whose request isn't open under its number
-  pub unanswered : (won : Bool) (l : DeskLockValue) → is_open_under n l ≡ false → step (events.Answered n won) l ≡ l
-  unanswered won l none = rw none refl
+  pub unanswered : (reply : LockReply) (l : DeskLockValue) → is_open_under n l ≡ false → step (events.Answered n reply) l ≡ l
+  unanswered reply l none = rw none refl
 
 -- where there is a source again nothing was asked of it yet
 found_unsent : (n : ℕ) (l : DeskLockValue) → IsSettled l → is_open_under n (step events.Found l) ≡ false
@@ -173,10 +177,10 @@ requested_lost old new s ascend change x q none =
     subst (λ (es : DeskLocks). is_open_under x (desk_lock_at q es) ≡ false) (sym change)
     (after_changes is_desk_idle no_desk_lock (λ l. is_open_under x l ≡ false) refl q (step events.Lost) old ascend refl)
 
-pub requested_answered : (number : ℕ) (won : Bool) (old new : DeskLocks) (s t : Sessions) → Ascends old → AreRequested old s → new ≡ stepped (events.Answered number won) old → Forgets number s t → AreRequested new t
-requested_answered number won old new s t ascend requested change forgets =
-    listed_without is_open_under (λ x. refl) number (events.Answered number won) old new s t ascend requested change forgets
-    (λ x l shut. unsent x (events.Answered number won) l tt shut) (λ l. answered_unsent number won l)
+pub requested_answered : (number : ℕ) (reply : LockReply) (old new : DeskLocks) (s t : Sessions) → Ascends old → AreRequested old s → new ≡ stepped (events.Answered number reply) old → Forgets number s t → AreRequested new t
+requested_answered number reply old new s t ascend requested change forgets =
+    listed_without is_open_under (λ x. refl) number (events.Answered number reply) old new s t ascend requested change forgets
+    (λ x l shut. unsent x (events.Answered number reply) l tt shut) (λ l. answered_unsent number reply l)
 
 -- a Lock or Steal went up, under a number that has its name
 pub requested_sent : (number : ℕ) (name : List ℕ) (mark : Bool) (old new : DeskLocks) (s t : Sessions) → Ascends old → AreRequested old s → Notes s number name (Some mark) t
@@ -357,8 +361,8 @@ pub open_told : (who : ℕ) (old new : DeskLocks) (s : Sessions) → Ascends old
 open_told who old new s ascend opens change n q listed =
     ap (λ (es : DeskLocks). is_open_under n (desk_lock_at q es)) change ∙ ap (is_open_under n) (stepped_at (events.AllTold who) q old ascend) ∙ opens n q listed
 
-pub open_answered : (number : ℕ) (won : Bool) (old new : DeskLocks) (s t : Sessions) → Ascends old → AreOpen old s → new ≡ stepped (events.Answered number won) old → Forgets number s t → AreOpen new t
-open_answered number won old new s t ascend opens change forgets n q listed = by (n == number) refl
+pub open_answered : (number : ℕ) (reply : LockReply) (old new : DeskLocks) (s t : Sessions) → Ascends old → AreOpen old s → new ≡ stepped (events.Answered number reply) old → Forgets number s t → AreOpen new t
+open_answered number reply old new s t ascend opens change forgets n q listed = by (n == number) refl
   where
     by : (b : Bool) → (n == number) ≡ b → is_open_under n (desk_lock_at q new) ≡ true
     by true e =
@@ -368,7 +372,7 @@ open_answered number won old new s t ascend opens change forgets n q listed = by
         let apart = eqb-false n number e in
         let was = opens n q (ap (λ (names : Names). is_some (mark_in q names)) (sym (forgets.sessions n apart)) ∙ listed) in
         ap (λ (es : DeskLocks). is_open_under n (desk_lock_at q es)) change
-        ∙ ap (is_open_under n) (stepped_at (events.Answered number won) q old ascend ∙ unanswered number won (desk_lock_at q old) (sent_alone number n (desk_lock_at q old).course apart was))
+        ∙ ap (is_open_under n) (stepped_at (events.Answered number reply) q old ascend ∙ unanswered number reply (desk_lock_at q old) (sent_alone number n (desk_lock_at q old).course apart was))
         ∙ was
 
 -- ---- what they tell

@@ -15,6 +15,8 @@ use Rattle.ovs_lock_desk.specs.declared.course.Course.TheVariants.{Idle, Sent, W
 use Rattle.ovs_lock_desk.specs.declared.course.Due.TheVariants as due
 use Rattle.ovs_lock_desk.specs.declared.course.Event.{Event}
 use Rattle.ovs_lock_desk.specs.declared.course.Event.TheVariants as events
+use Rattle.ovs_lock_desk.specs.declared.course.LockReply.{LockReply}
+use Rattle.ovs_lock_desk.specs.declared.course.LockReply.TheVariants as replies
 use Rattle.ovs_lock_desk.specs.declared.course.LockVerb.{LockVerb}
 use Rattle.ovs_lock_desk.specs.declared.course.LockVerb.TheVariants as verbs
 use Rattle.ovs_lock_desk.specs.declared.late_steal.LateSteal.{LateSteal}
@@ -22,7 +24,7 @@ use Rattle.ovs_lock_desk.specs.Course.{is_held, is_sent, asks_nothing, is_steal_
 use Rattle.ovs_lock_desk.specs.LateSteal.{is_of, is_open, is_own_open, is_due_late, late_of, settled, without_one, without_late}
 use Rattle.ovs_lock_desk.specs.LockDesk.{DeskLocks, ChangesAt, desk_lock_at, stepped}
 use Rattle.ovs_lock_desk.specs.UpwardTable.{AreSettled}
-use Rattle.ovs_lock_desk.specs.DeskLock.{DeskLockValue, no_desk_lock, is_desk_idle, IsSettled, MayHappen, stealer_in, concerns, steal_open, own_steal_open, asked_here, enters, locked, stolen_here, given_up, left, held, granted_in, step, asked_again}
+use Rattle.ovs_lock_desk.specs.DeskLock.{DeskLockValue, no_desk_lock, is_desk_idle, IsSettled, MayHappen, stealer_in, concerns, steal_open, own_steal_open, asked_here, enters, locked, stolen_here, given_up, left, held, answered_so, granted_in, step, asked_again}
 use Rattle.ovs_lock_desk.proofs.Concerned.{neither}
 use Rattle.ovs_lock_desk.proofs.DeskOwed.{both}
 use Rattle.ovs_lock_desk.proofs.Named.{after_change, after_changes}
@@ -45,7 +47,7 @@ or_left : (a b : Bool) → a ≡ true → (a || b) ≡ true
 or_left true b e = refl
 or_left false b e = absurd cc
 
-or_right : (a b : Bool) → b ≡ true → (a || b) ≡ true
+pub or_right : (a b : Bool) → b ≡ true → (a || b) ≡ true
 or_right true b e = refl
 or_right false b e = e
 
@@ -319,12 +321,13 @@ settled_stepped (events.Unlocked who) l own s =
     settled_given_up (left who l.course l.lock) l.late l.course
     (λ due. (others_wait who l.lock.queue (left who l.course l.lock).queue (λ x apart. in_left who x apart l.course l.lock) l.late own (s.steal due)).0)
 settled_stepped (events.Sent n) l may s = absurd may
-settled_stepped (events.Answered n won) l may s = by (is_sent n l.course) won refl
+settled_stepped (events.Answered n reply) l may s = by (is_sent n l.course) reply refl
   where
-    by : (b won : Bool) → is_sent n l.course ≡ b → IsSettled (cond b (cond won (held l) (record { lock = l.lock; late = l.late; course = Waiting })) l)
-    by true true is = settled_held l (taken l s (sent_asks n l.course is))
-    by true false is = settled_taken (record { lock = l.lock; late = l.late; course = Waiting }) (taken l s (sent_asks n l.course is)) refl
-    by false won is = s
+    by : (b : Bool) (reply : LockReply) → is_sent n l.course ≡ b → IsSettled (cond b (answered_so reply l) l)
+    by true replies.Given is = settled_held l (taken l s (sent_asks n l.course is))
+    by true replies.Waits is = settled_taken (record { lock = l.lock; late = l.late; course = Waiting }) (taken l s (sent_asks n l.course is)) refl
+    by true replies.Refused is = record { free = λ _. refl; steal = λ due. absurd cc }
+    by false reply is = s
 settled_stepped events.Granted l may s = by l.course refl
   where
     by : (c : Course) → l.course ≡ c → IsSettled (granted_in c l)

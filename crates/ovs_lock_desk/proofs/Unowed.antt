@@ -12,13 +12,17 @@ use Rattle.ovs_lock_desk.specs.declared.course.Course.{Course}
 use Rattle.ovs_lock_desk.specs.declared.course.Course.TheVariants.{Idle, Sent, Waiting, Held}
 use Rattle.ovs_lock_desk.specs.declared.course.Event.{Event}
 use Rattle.ovs_lock_desk.specs.declared.course.Event.TheVariants as events
+use Rattle.ovs_lock_desk.specs.declared.course.LockReply.{LockReply}
+use Rattle.ovs_lock_desk.specs.declared.course.LockReply.TheVariants as replies
 use Rattle.ovs_lock_desk.specs.declared.course.LockVerb.{LockVerb}
 use Rattle.ovs_lock_desk.specs.declared.course.LockVerb.TheVariants as verbs
 use Rattle.ovs_lock_desk.specs.declared.late_steal.LateSteal.{LateSteal}
+use Rattle.ovs_lock_desk.specs.declared.late_steal.StealOutcome.{StealOutcome}
+use Rattle.ovs_lock_desk.specs.declared.late_steal.StealOutcome.TheVariants as outcomes
 use Rattle.ovs_lock_desk.specs.declared.error.DeskError.TheVariants as errors
 use Rattle.ovs_lock_desk.specs.Course.{is_held, is_sent, course_as_lock, course_given_up}
 use Rattle.ovs_lock_desk.specs.LateSteal.{is_of, is_open, is_own_open, is_due_late, late_of, settled_one, settled, without_one, open_session}
-use Rattle.ovs_lock_desk.specs.DeskLock.{DeskLockValue, concerns, steal_open, own_steal_open, asked_here, stolen_here, enters, left, held, granted_in, step, asked_again, forgotten_by, desk_owner, refusal, IsStolenByOne}
+use Rattle.ovs_lock_desk.specs.DeskLock.{DeskLockValue, concerns, steal_open, own_steal_open, asked_here, stolen_here, enters, left, held, answered_so, granted_in, step, steal_failed, asked_again, forgotten_by, desk_owner, refusal, IsStolenByOne}
 use Rattle.ovs_lock_desk.specs.LockDesk.{owes_here}
 use Rattle.ovs_lock_desk.proofs.Concerned.{neither}
 
@@ -164,14 +168,14 @@ module _ (x : ℕ) where
   abbrev answers : List LateSteal → Bool
   answers late = list_any (is_due_late x) late
 
-  none_settled : (won : Bool) (late : List LateSteal) → answers late ≡ false → list_any (is_own_open x) late ≡ false → answers (settled won late) ≡ false
-  none_settled won [] none far = refl
-  none_settled won (e ∷ late) none far =
+  none_settled : (outcome : StealOutcome) (late : List LateSteal) → answers late ≡ false → list_any (is_own_open x) late ≡ false → answers (settled outcome late) ≡ false
+  none_settled outcome [] none far = refl
+  none_settled outcome (e ∷ late) none far =
       let n = neither (is_due_late x e) (answers late) none in
       let m = neither (is_own_open x e) (list_any (is_own_open x) late) far in
-      both_not (is_due_late x (settled_one won e)) (answers (settled won late)) (by (is_open e) refl n.0 m.0) (none_settled won late n.1 m.1)
+      both_not (is_due_late x (settled_one outcome e)) (answers (settled outcome late)) (by (is_open e) refl n.0 m.0) (none_settled outcome late n.1 m.1)
     where
-      by : (b : Bool) → is_open e ≡ b → (not b && is_of x e) ≡ false → (b && is_of x e) ≡ false → is_due_late x (cond b (record { who = e.who; id = e.id; won = Some won }) e) ≡ false
+      by : (b : Bool) → is_open e ≡ b → (not b && is_of x e) ≡ false → (b && is_of x e) ≡ false → is_due_late x (cond b (record { who = e.who; id = e.id; outcome = Some outcome }) e) ≡ false
       by true is due own = own
       by false is due own = rw is due
 
@@ -228,11 +232,14 @@ module _ (x : ℕ) where
       not_first [] e = refl
       not_first (a ∷ xs) e = (neither (is_who who a) (is_in who xs) e).0
 
+  owed_failed : (outcome : StealOutcome) (l : DeskLockValue) → IsStolenByOne l → open_session l.late ≢ Some x → answers l.late ≡ false → Silent l.lock → owes_here x (steal_failed outcome l) ≡ false
+  owed_failed outcome l one far late lock =
+      nothing (steal_failed outcome l) (none_settled outcome l.late late (not_own l one far)) (silent_forgotten (open_session l.late) l.lock lock)
+
   pub owed_lost : (l : DeskLockValue) → IsStolenByOne l → desk_owner l ≢ Some x → open_session l.late ≢ Some x → owes_here x l ≡ false → owes_here x (step events.Lost l) ≡ false
   owed_lost l one before far none =
       let p = parts l none in
-      nothing (step events.Lost l) (none_settled false l.late p.late (not_own l one far))
-      (silent_forgotten (open_session l.late) (cond (is_held l.course) (robbed_first l.lock) l.lock) (by (is_held l.course) before p.lock))
+      owed_failed outcomes.SourceLost (record { lock = cond (is_held l.course) (robbed_first l.lock) l.lock; late = l.late; course = l.course }) one far p.late (by (is_held l.course) before p.lock)
     where
       by : (b : Bool) → cond b (owner l.lock) None ≢ Some x → Silent l.lock → Silent (cond b (robbed_first l.lock) l.lock)
       by true before s = silent_robbed l.lock.queue l.lock.stolen s.queue s.stolen before
@@ -241,7 +248,7 @@ module _ (x : ℕ) where
   owed_held : (l : DeskLockValue) → IsStolenByOne l → open_session l.late ≢ Some x → desk_owner (held l) ≢ Some x → owes_here x l ≡ false → owes_here x (held l) ≡ false
   owed_held l one far next none =
       let p = parts l none in
-      nothing (held l) (none_settled true l.late p.late (not_own l one far)) (by (steal_open l) next p.lock)
+      nothing (held l) (none_settled outcomes.Won l.late p.late (not_own l one far)) (by (steal_open l) next p.lock)
     where
       by : (b : Bool) → owner (cond b l.lock (granted_first l.lock)) ≢ Some x → Silent l.lock → Silent (cond b l.lock (granted_first l.lock))
       by true next s = s
@@ -273,13 +280,13 @@ module _ (x : ℕ) where
       → owes_here x (step event l) ≡ false
   owed_stepped (events.Unlocked who) l one before far next none = owed_left who l next none
   owed_stepped (events.Sent m) l one before far next none = none
-  owed_stepped (events.Answered m won) l one before far next none = by (is_sent m l.course) won next
+  owed_stepped (events.Answered m reply) l one before far next none = by (is_sent m l.course) reply next
     where
-      by : (b won : Bool) → desk_owner (cond b (cond won (held l) (record { lock = l.lock; late = l.late; course = Waiting })) l) ≢ Some x
-          → owes_here x (cond b (cond won (held l) (record { lock = l.lock; late = l.late; course = Waiting })) l) ≡ false
-      by true true next = owed_held l one far next none
-      by true false next = none
-      by false won next = none
+      by : (b : Bool) (reply : LockReply) → desk_owner (cond b (answered_so reply l) l) ≢ Some x → owes_here x (cond b (answered_so reply l) l) ≡ false
+      by true replies.Given next = owed_held l one far next none
+      by true replies.Waits next = none
+      by true replies.Refused next = let p = parts l none in owed_failed outcomes.Refused l one far p.late p.lock
+      by false reply next = none
   owed_stepped events.Granted l one before far next none = by l.course next
     where
       by : (c : Course) → desk_owner (granted_in c l) ≢ Some x → owes_here x (granted_in c l) ≡ false
@@ -367,39 +374,40 @@ fewer old new less one x own = by (open_session new) refl
         let its = its_open new y is in
         sym (one y (more y its (list_any (is_own_open y) old) refl)) ∙ one x (more x own (list_any (is_own_open x) old) refl)
 
-one_settled : (won : Bool) (late : List LateSteal) → IsOfOne (settled won late)
-one_settled won late x own = absurd (let clash = sym own ∙ none late in cc)
+one_settled : (outcome : StealOutcome) (late : List LateSteal) → IsOfOne (settled outcome late)
+one_settled outcome late x own = absurd (let clash = sym own ∙ none late in cc)
   where
-    none : (late : List LateSteal) → list_any (is_own_open x) (settled won late) ≡ false
+    none : (late : List LateSteal) → list_any (is_own_open x) (settled outcome late) ≡ false
     none [] = refl
-    none (e ∷ late) = both_not (is_own_open x (settled_one won e)) (list_any (is_own_open x) (settled won late)) (by (is_open e) refl) (none late)
+    none (e ∷ late) = both_not (is_own_open x (settled_one outcome e)) (list_any (is_own_open x) (settled outcome late)) (by (is_open e) refl) (none late)
       where
-        by : (b : Bool) → is_open e ≡ b → is_own_open x (cond b (record { who = e.who; id = e.id; won = Some won }) e) ≡ false
+        by : (b : Bool) → is_open e ≡ b → is_own_open x (cond b (record { who = e.who; id = e.id; outcome = Some outcome }) e) ≡ false
         by true is = refl
         by false is = rw is refl
 
 pub one_stepped : (event : Event) (l : DeskLockValue) → IsStolenByOne l → IsStolenByOne (step event l)
 one_stepped (events.Unlocked who) l one = one
 one_stepped (events.Sent m) l one = one
-one_stepped (events.Answered m won) l one = by (is_sent m l.course) won
+one_stepped (events.Answered m reply) l one = by (is_sent m l.course) reply
   where
-    by : (b won : Bool) → IsStolenByOne (cond b (cond won (held l) (record { lock = l.lock; late = l.late; course = Waiting })) l)
-    by true true = one_settled true l.late
-    by true false = one
-    by false won = one
+    by : (b : Bool) (reply : LockReply) → IsStolenByOne (cond b (answered_so reply l) l)
+    by true replies.Given = one_settled outcomes.Won l.late
+    by true replies.Waits = one
+    by true replies.Refused = one_settled outcomes.Refused l.late
+    by false reply = one
 one_stepped events.Granted l one = by l.course
   where
     by : (c : Course) → IsStolenByOne (granted_in c l)
     by (Idle d) = one
     by (Sent m) = one
-    by Waiting = one_settled true l.late
+    by Waiting = one_settled outcomes.Won l.late
     by Held = one
 one_stepped events.Stolen l one = by (is_held l.course)
   where
     by : (b : Bool) → IsStolenByOne (cond b (record { lock = robbed_first l.lock; late = l.late; course = asked_again (robbed_first l.lock) }) l)
     by true = one
     by false = one
-one_stepped events.Lost l one = one_settled false l.late
+one_stepped events.Lost l one = one_settled outcomes.SourceLost l.late
 one_stepped events.Found l one = one
 one_stepped (events.Ended who) l one = fewer l.late (step (events.Ended who) l).late (λ x none. none_filtered (is_own_open x) (λ e. not (is_of who e)) l.late none) one
 one_stepped (events.AnswerTold who) l one = fewer l.late (step (events.AnswerTold who) l).late (λ x none. none_without (is_own_open x) (is_due_late who) l.late none) one

@@ -6,6 +6,8 @@ use Rattle.ovs_lock_desk.specs.declared.course.Course.{Course}
 use Rattle.ovs_lock_desk.specs.declared.course.Course.TheVariants.{Idle, Sent, Waiting, Held}
 use Rattle.ovs_lock_desk.specs.declared.course.Event.{Event}
 use Rattle.ovs_lock_desk.specs.declared.course.Event.TheVariants as events
+use Rattle.ovs_lock_desk.specs.declared.course.LockReply.{LockReply}
+use Rattle.ovs_lock_desk.specs.declared.course.LockReply.TheVariants as replies
 use Rattle.ovs_lock_desk.specs.declared.course.LockVerb.{LockVerb}
 use Rattle.ovs_lock_desk.specs.declared.course.LockVerb.TheVariants as verbs
 
@@ -166,9 +168,14 @@ waits (Sent n) = false
 waits Waiting = true
 waits Held = false
 
--- by an answer true to the request that is under way, or by telling so while the desk waits
+abbrev pub is_given : LockReply → Bool
+is_given replies.Given = true
+is_given replies.Waits = false
+is_given replies.Refused = false
+
+-- in its answer to the request that is under way, or by telling so while the desk waits
 abbrev pub gives : Event → Course → Bool
-gives (events.Answered n won) c = won && is_sent n c
+gives (events.Answered n reply) c = is_given reply && is_sent n c
 gives events.Granted c = waits c
 gives (events.Unlocked who) c = false
 gives (events.Sent n) c = false

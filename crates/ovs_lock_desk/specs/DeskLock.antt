@@ -11,9 +11,13 @@ use Rattle.ovs_lock_desk.specs.declared.course.Course.{Course}
 use Rattle.ovs_lock_desk.specs.declared.course.Course.TheVariants.{Idle, Sent, Waiting, Held}
 use Rattle.ovs_lock_desk.specs.declared.course.Event.{Event}
 use Rattle.ovs_lock_desk.specs.declared.course.Event.TheVariants as events
+use Rattle.ovs_lock_desk.specs.declared.course.LockReply.{LockReply}
+use Rattle.ovs_lock_desk.specs.declared.course.LockReply.TheVariants as replies
 use Rattle.ovs_lock_desk.specs.declared.course.LockVerb.{LockVerb}
 use Rattle.ovs_lock_desk.specs.declared.course.LockVerb.TheVariants as verbs
 use Rattle.ovs_lock_desk.specs.declared.late_steal.LateSteal.{LateSteal}
+use Rattle.ovs_lock_desk.specs.declared.late_steal.StealOutcome.{StealOutcome}
+use Rattle.ovs_lock_desk.specs.declared.late_steal.StealOutcome.TheVariants as outcomes
 use Rattle.ovs_lock_desk.specs.declared.error.DeskError.{DeskError}
 use Rattle.ovs_lock_desk.specs.declared.error.DeskError.TheVariants as errors
 
@@ -59,15 +63,25 @@ unlocked who l = given_up (left who l.course l.lock) l.late l.course
 
 -- the lock is held: the steal that waits for it is answered, or the first of the queue is owed that it owns it
 abbrev pub held : DeskLockValue → DeskLockValue
-held l = record { lock = if steal_open l then l.lock else granted_first l.lock; late = settled true l.late; course = Held }
+held l = record { lock = if steal_open l then l.lock else granted_first l.lock; late = settled outcomes.Won l.late; course = Held }
 
--- the source gave the lock, or another has it
-abbrev pub answered_so : Bool → DeskLockValue → DeskLockValue
-answered_so won l = if won then held l else record { lock = l.lock; late = l.late; course = Waiting }
+abbrev pub forgotten_by : Option ℕ → LockValue → LockValue
+forgotten_by None lock = lock
+forgotten_by (Some who) lock = forgotten who lock
+
+-- the source has nothing of what was asked, and nothing is due: a steal that isn't answered is answered so, and its session leaves
+abbrev pub steal_failed : StealOutcome → DeskLockValue → DeskLockValue
+steal_failed outcome l = record { lock = forgotten_by (open_session l.late) l.lock; late = settled outcome l.late; course = Idle due.Nothing }
+
+-- the source gave the lock, or another has it, or it refused
+abbrev pub answered_so : LockReply → DeskLockValue → DeskLockValue
+answered_so replies.Given l = held l
+answered_so replies.Waits l = record { lock = l.lock; late = l.late; course = Waiting }
+answered_so replies.Refused l = steal_failed outcomes.Refused l
 
 -- the request of this number was answered
-abbrev pub answered : ℕ → Bool → DeskLockValue → DeskLockValue
-answered n won l = if is_sent n l.course then answered_so won l else l
+abbrev pub answered : ℕ → LockReply → DeskLockValue → DeskLockValue
+answered n reply l = if is_sent n l.course then answered_so reply l else l
 
 abbrev pub granted_in : Course → DeskLockValue → DeskLockValue
 granted_in (Idle d) l = l
@@ -88,17 +102,9 @@ abbrev pub stolen_at_source : DeskLockValue → DeskLockValue
 stolen_at_source l =
     if is_held l.course then record { lock = robbed_first l.lock; late = l.late; course = asked_again (robbed_first l.lock) } else l
 
-abbrev pub forgotten_by : Option ℕ → LockValue → LockValue
-forgotten_by None lock = lock
-forgotten_by (Some who) lock = forgotten who lock
-
--- the source is lost, and with it the lock: the owner is robbed, and a steal that isn't answered is answered and leaves
+-- the source is lost, and with it the lock: the owner is robbed
 abbrev pub lost : DeskLockValue → DeskLockValue
-lost l = record {
-  lock = forgotten_by (open_session l.late) (if is_held l.course then robbed_first l.lock else l.lock);
-  late = settled false l.late;
-  course = Idle due.Nothing;
-}
+lost l = steal_failed outcomes.SourceLost (record { lock = if is_held l.course then robbed_first l.lock else l.lock; late = l.late; course = l.course })
 
 -- there is a source again
 abbrev pub found : DeskLockValue → DeskLockValue
@@ -132,7 +138,7 @@ all_told who l = record { lock = after_telling who l.lock; late = without_due wh
 abbrev pub step : Event → DeskLockValue → DeskLockValue
 step (events.Unlocked who) l = unlocked who l
 step (events.Sent n) l = sent n l
-step (events.Answered n won) l = answered n won l
+step (events.Answered n reply) l = answered n reply l
 step events.Granted l = granted_at_source l
 step events.Stolen l = stolen_at_source l
 step events.Lost l = lost l
@@ -219,7 +225,7 @@ IsStolenByOne l = (who : ℕ) → own_steal_open who l ≡ true → open_session
 abbrev pub MayHappen : Event → DeskLockValue → Type 0
 MayHappen (events.Unlocked who) l = own_steal_open who l ≡ false
 MayHappen (events.Sent n) l = ⊥
-MayHappen (events.Answered n won) l = Unit {0}
+MayHappen (events.Answered n reply) l = Unit {0}
 MayHappen events.Granted l = Unit {0}
 MayHappen events.Stolen l = Unit {0}
 MayHappen events.Lost l = Unit {0}

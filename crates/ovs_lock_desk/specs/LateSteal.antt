@@ -2,10 +2,19 @@
 use Rattle.std.specs.Prelude.{ℕ, Bool, true, false, not, List, [], ◌∷◌, map, filter, Option, Some, None, ◌==◌, ◌&&◌, if◌then◌else◌, is_none}
 use Rattle.serde_json.specs.Data.{Data}
 use Rattle.ovs_lock_desk.specs.declared.late_steal.LateSteal.{LateSteal}
+use Rattle.ovs_lock_desk.specs.declared.late_steal.StealOutcome.{StealOutcome}
+use Rattle.ovs_lock_desk.specs.declared.late_steal.StealOutcome.TheVariants as outcomes
 
 -- its answer isn't known yet
 abbrev pub is_open : LateSteal → Bool
-is_open e = is_none e.won
+is_open e = is_none e.outcome
+
+-- the source gave the lock for it
+abbrev pub is_won : Option StealOutcome → Bool
+is_won None = false
+is_won (Some outcomes.Won) = true
+is_won (Some outcomes.SourceLost) = false
+is_won (Some outcomes.Refused) = false
 
 abbrev pub is_of : ℕ → LateSteal → Bool
 is_of who e = e.who == who
@@ -16,14 +25,14 @@ is_own_open who e = is_open e && is_of who e
 
 -- a steal that was asked for now
 abbrev pub late_of : ℕ → Data → LateSteal
-late_of who id = record { who = who; id = id; won = None }
+late_of who id = record { who = who; id = id; outcome = None }
 
-abbrev pub settled_one : Bool → LateSteal → LateSteal
-settled_one won e = if is_open e then record { who = e.who; id = e.id; won = Some won } else e
+abbrev pub settled_one : StealOutcome → LateSteal → LateSteal
+settled_one outcome e = if is_open e then record { who = e.who; id = e.id; outcome = Some outcome } else e
 
 -- those whose answer wasn't known are answered so
-abbrev pub settled : Bool → List LateSteal → List LateSteal
-settled won late = map (settled_one won) late
+abbrev pub settled : StealOutcome → List LateSteal → List LateSteal
+settled outcome late = map (settled_one outcome) late
 
 -- its answer is known, and is owed to this session
 abbrev pub is_due_late : ℕ → LateSteal → Bool

@@ -1,5 +1,5 @@
 -- The locks of a relay's desk, by name.
-use Rattle.std.specs.Prelude.{◌≡◌, ℕ, Bool, false, not, ◌&&◌, ◌||◌, nat_lt, length, List, [], ◌∷◌, ◌++◌, map, filter, Option, Some, None, if◌then◌else◌, unwrap_or, option_map}
+use Rattle.std.specs.Prelude.{◌≡◌, ℕ, Bool, false, not, ◌&&◌, ◌||◌, nat_lt, length, List, [], ◌∷◌, ◌++◌, map, filter, Option, Some, None, if◌then◌else◌, option_map}
 use Rattle.std.specs.List.{list_any}
 use Rattle.serde_json.specs.Data.{Data}
 use Rattle.ovs_locks.specs.ByName.{ByName, Ascends, named, changed, gathered}
@@ -9,7 +9,7 @@ use Rattle.ovs_locks.specs.declared.notice.LockNotice.{LockNotice}
 use Rattle.ovs_locks.specs.Lock.{owed_for, stands, is_owed}
 use Rattle.ovs_locks.specs.LockTable.{is_lock, most_locks}
 use Rattle.ovs_lock_desk.specs.Course.{is_sent, verb_due}
-use Rattle.ovs_lock_desk.specs.LateSteal.{is_due_late, is_own_open}
+use Rattle.ovs_lock_desk.specs.LateSteal.{is_won, is_due_late, is_own_open}
 use Rattle.ovs_lock_desk.specs.DeskLock.{DeskLockValue, no_desk_lock, is_desk_idle, concerns, step, refusal, enters}
 use Rattle.ovs_lock_desk.specs.declared.course.Event.{Event}
 use Rattle.ovs_lock_desk.specs.declared.course.Event.TheVariants as events
@@ -105,7 +105,7 @@ notices_to who locks = gathered (notices_here who) locks
 
 -- how a late answer is told, under the id of the request
 abbrev pub told_of : LateSteal → DeskNotice
-told_of late = tells.Answered late.id (unwrap_or late.won false)
+told_of late = tells.Answered late.id (is_won late.outcome)
 
 -- the answers that a session is owed, as they are told
 abbrev pub answers_told : ℕ → DeskLocks → List DeskNotice

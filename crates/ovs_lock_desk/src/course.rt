@@ -14,6 +14,17 @@ pub enum LockVerb {
     Unlock,
 }
 
+/// What a source answers to a Lock or Steal.
+#[derive(Clone, Copy, Debug, PartialEq, Eq)]
+pub enum LockReply {
+    /// It gave the lock.
+    Given,
+    /// Another has the lock, and the desk waits for it in the source's queue.
+    Waits,
+    /// It refused what was asked, as where it allows one session no more locks.
+    Refused,
+}
+
 /// What happens to a lock at a desk, but that a session asks for it.
 #[derive(Clone, Copy, Debug, PartialEq, Eq)]
 pub enum Event {
@@ -21,8 +32,8 @@ pub enum Event {
     Unlocked(u64),
     /// What was due first went up under this number.
     Sent(u64),
-    /// The request of this number was answered: whether the source gave the lock.
-    Answered(u64, bool),
+    /// The request of this number was answered so.
+    Answered(u64, LockReply),
     /// The source tells that the lock is held.
     Granted,
     /// The source tells that the lock was stolen.

@@ -4,16 +4,16 @@ ghost use Rattle.std.specs.Prelude.{◌≡◌, ◌++◌, true, false, OnOk, OnEr
 ghost use Rattle.ovs_locks.specs.Lock.{owed_for, stands};
 ghost use Rattle.ovs_lock_desk.specs.Course.{verb_due, is_sent, open_number};
 ghost use Rattle.ovs_lock_desk.specs.LateSteal.{open_session, is_due_late};
-ghost use Rattle.ovs_lock_desk.specs.DeskLock.{no_desk_lock, locked, stolen_here, unlocked, held, answered, granted_at_source, stolen_at_source, forgotten_by, lost, found, ended, sent, desk_owner, is_desk_idle, concerns, asked_here, answer_here, answer_told, all_told, enters, step, refusal, AnswersBy};
+ghost use Rattle.ovs_lock_desk.specs.DeskLock.{no_desk_lock, locked, stolen_here, unlocked, held, answered, granted_at_source, stolen_at_source, forgotten_by, steal_failed, lost, found, ended, sent, desk_owner, is_desk_idle, concerns, asked_here, answer_here, answer_told, all_told, enters, step, refusal, AnswersBy};
 ghost use Rattle.ovs_lock_desk.specs.LockDesk.{owes_here, told_of};
 ghost use Rattle.ovs_lock_desk.specs.OwedMarks.{desk_mark};
 
-use crate::course::{Course, Due, Event, LockVerb};
+use crate::course::{Course, Due, Event, LockReply, LockVerb};
 use crate::desk_notice::DeskNotice;
 use crate::error::DeskError;
 use crate::late_steal::{
-    LateSteal, add_answers, drop_answer, drop_answers, drop_late, first_answer, is_any_due,
-    is_any_of, is_any_open, is_any_own_open, open_session, settle,
+    LateSteal, StealOutcome, add_answers, drop_answer, drop_answers, drop_late, first_answer,
+    is_any_due, is_any_of, is_any_open, is_any_own_open, open_session, settle,
 };
 use ovs_json::{NoMemory, Text};
 use ovs_locks::{Lock, LockNotice};
@@ -236,7 +236,7 @@ impl DeskLock {
         if !is_any_open(&self.late) {
             self.lock.grant_first();
         }
-        settle(&mut self.late, true);
+        settle(&mut self.late, StealOutcome::Won);
         self.course = Course::Held;
     }
 
@@ -248,16 +248,18 @@ impl DeskLock {
     }
 
     // The request of this number was answered; another number is that of a request given up since.
-    fn note_answered(&mut self, number: u64, won: bool)
-        ensures value { self.new ≡ answered number won self.old }
+    fn note_answered(&mut self, number: u64, reply: LockReply)
+        ensures value { self.new ≡ answered number reply self.old }
     {
         if !self.course.is_sent(number) {
             return;
         }
-        if won {
-            self.hold();
-        } else {
-            self.course = Course::Waiting;
+        match reply {
+            LockReply::Given => self.hold(),
+            LockReply::Waits => {
+                self.course = Course::Waiting;
+            }
+            LockReply::Refused => self.fail_steal(StealOutcome::Refused),
         }
     }
 
@@ -294,6 +296,16 @@ impl DeskLock {
         }
     }
 
+    // The source has nothing of what was asked, and nothing is due. The steal that isn't answered comes to this, and its session
+    // leaves; whoever else asked waits on.
+    fn fail_steal(&mut self, outcome: StealOutcome)
+        ensures value { self.new ≡ steal_failed outcome self.old }
+    {
+        self.forget_open();
+        settle(&mut self.late, outcome);
+        self.course = Course::Idle(Due::Nothing);
+    }
+
     // The source is lost.
     fn note_lost(&mut self)
         ensures value { self.new ≡ lost self.old }
@@ -301,9 +313,7 @@ impl DeskLock {
         if self.course.is_held() {
             self.lock.rob();
         }
-        self.forget_open();
-        settle(&mut self.late, false);
-        self.course = Course::Idle(Due::Nothing);
+        self.fail_steal(StealOutcome::SourceLost);
     }
 
     // There is a source again.
@@ -413,7 +423,7 @@ impl DeskLock {
         match event {
             Event::Unlocked(who) => self.leave(who),
             Event::Sent(number) => self.note_sent(number),
-            Event::Answered(number, won) => self.note_answered(number, won),
+            Event::Answered(number, reply) => self.note_answered(number, reply),
             Event::Granted => self.note_granted(),
             Event::Stolen => self.note_stolen(),
             Event::Lost => self.note_lost(),

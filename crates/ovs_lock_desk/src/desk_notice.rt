@@ -10,7 +10,7 @@ pub enum DeskNotice {
     Answered {
         /// The id of the session's request.
         id: Id,
-        /// Whether the session owns the lock; if not, the source was lost first.
+        /// Whether the session owns the lock; if not, the source refused it or was lost first.
         stole: bool,
     },
     /// What became of the lock since.

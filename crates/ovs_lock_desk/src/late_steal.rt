@@ -2,12 +2,23 @@
 
 ghost use Rattle.std.specs.Prelude.{◌≡◌, ◌++◌, OnOk, IfOk, map, filter, slice_get, option_copied};
 ghost use Rattle.std.specs.List.{list_any};
-ghost use Rattle.ovs_lock_desk.specs.LateSteal.{is_open, is_of, is_own_open, late_of, open_session, is_due_late, without_one, without_due, settled_one, settled, without_late};
+ghost use Rattle.ovs_lock_desk.specs.LateSteal.{is_open, is_won, is_of, is_own_open, late_of, open_session, is_due_late, without_one, without_due, settled_one, settled, without_late};
 ghost use Rattle.ovs_lock_desk.specs.LockDesk.{told_of};
 
 use crate::desk_notice::DeskNotice;
 use ovs_json::NoMemory;
 use ovs_wire::Id;
+
+/// What became of a steal.
+#[derive(Clone, Copy, Debug, PartialEq, Eq)]
+pub enum StealOutcome {
+    /// The source gave the lock.
+    Won,
+    /// The source was lost first.
+    SourceLost,
+    /// The source refused it.
+    Refused,
+}
 
 /// A steal whose answer wasn't told. It enters the desk's list when it is asked for, so that its answer takes no memory.
 #[derive(Debug, Drop)]
@@ -16,8 +27,8 @@ pub struct LateSteal {
     pub who: u64,
     /// The id of its request.
     pub id: Id,
-    /// The answer, where it is known: true once the source gave the lock, false where the source was lost.
-    pub won: Option<bool>,
+    /// What became of it, where that is known.
+    pub outcome: Option<StealOutcome>,
 }
 
 impl LateSteal {
@@ -25,14 +36,28 @@ impl LateSteal {
     pub(crate) fn new(who: u64, id: Id) -> LateSteal
         ensures value { result ≡ late_of who id }
     {
-        LateSteal { who, id, won: None }
+        LateSteal {
+            who,
+            id,
+            outcome: None,
+        }
     }
 
     // Whether the answer isn't known yet.
     fn is_open(&self) -> bool
         ensures value { result ≡ is_open self.now }
     {
-        self.won.is_none()
+        self.outcome.is_none()
+    }
+
+    // Whether the source gave the lock for it.
+    fn is_won(&self) -> bool
+        ensures value { result ≡ is_won self.now.outcome }
+    {
+        match self.outcome {
+            Some(StealOutcome::Won) => true,
+            Some(StealOutcome::SourceLost | StealOutcome::Refused) | None => false,
+        }
     }
 
     // The same, of a steal of this session.
@@ -55,16 +80,16 @@ impl LateSteal {
     {
         Ok(DeskNotice::Answered {
             id: self.id.copy()?,
-            stole: self.won.unwrap_or(false),
+            stole: self.is_won(),
         })
     }
 
     // Answers it, unless it is answered.
-    fn settle(&mut self, won: bool)
-        ensures value { self.new ≡ settled_one won self.old }
+    fn settle(&mut self, outcome: StealOutcome)
+        ensures value { self.new ≡ settled_one outcome self.old }
     {
         if self.is_open() {
-            self.won = Some(won);
+            self.outcome = Some(outcome);
         }
     }
 }
@@ -103,11 +128,11 @@ pub(crate) fn open_session(late: &[LateSteal]) -> Option<u64>
 }
 
 /// Answers each steal that isn't answered.
-pub(crate) fn settle(late: &mut [LateSteal], won: bool)
-    ensures value { late.new ≡ settled won late.old }
+pub(crate) fn settle(late: &mut [LateSteal], outcome: StealOutcome)
+    ensures value { late.new ≡ settled outcome late.old }
 {
     for one in late.iter_mut() {
-        one.settle(won);
+        one.settle(outcome);
     }
 }
 

@@ -16,13 +16,13 @@ mod open_requests;
 mod owed_marks;
 mod upward_table;
 
-pub use course::{Course, Due, Event, LockVerb};
+pub use course::{Course, Due, Event, LockReply, LockVerb};
 pub use crossing::lock_desk_sends;
 pub use desk_laws::{
-    a_lock_is_held_only_where_the_source_gave_it, what_is_told_is_owed_no_more,
-    who_unlocks_is_told_no_more,
+    a_lock_is_held_only_where_the_source_gave_it, a_refused_steal_is_answered_and_leaves,
+    what_is_told_is_owed_no_more, who_unlocks_is_told_no_more,
 };
 pub use desk_notice::DeskNotice;
 pub use error::DeskError;
-pub use late_steal::LateSteal;
+pub use late_steal::{LateSteal, StealOutcome};
 pub use lock_desk::LockDesk;

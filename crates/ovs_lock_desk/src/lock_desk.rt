@@ -5,7 +5,7 @@ ghost use Rattle.ovs_locks.specs.LockTable.{is_lock};
 ghost use Rattle.ovs_lock_desk.specs.DeskLock.{step, enters, asked_here, desk_owner, AnswersBy, MayHappen};
 ghost use Rattle.ovs_lock_desk.specs.LockDesk.{IsDeskTable, IsGone, is_full, desk_lock_at, ChangesAt, SendsFirst, refusal_at, stepped, first_due_up, answers_to, notices_to, owed_to, is_sent_at, owes_at};
 
-use crate::course::{Event, LockVerb};
+use crate::course::{Event, LockReply, LockVerb};
 use crate::desk_notice::DeskNotice;
 use crate::error::DeskError;
 use crate::late_steal::LateSteal;
@@ -223,12 +223,13 @@ impl LockDesk {
         self.table.is_sent(number)
     }
 
-    /// The request of this number was answered: whether the source gave the lock. Nothing changes where no request has this
-    /// number, or it was given up since. No memory is taken.
-    pub fn answered(&mut self, number: u64, won: bool)
-        ensures after { self.new ≡ record { has_source = self.old.has_source; locks = stepped (Event.Answered number won) self.old.locks } }
+    /// The request of this number was answered so. With a refusal the steal that isn't answered is, and its session leaves the
+    /// lists; the others wait until the lock is asked for anew: once another session asks for it, or there is a source again.
+    /// Nothing changes where no request has this number, or it was given up since. No memory is taken.
+    pub fn answered(&mut self, number: u64, reply: LockReply)
+        ensures after { self.new ≡ record { has_source = self.old.has_source; locks = stepped (Event.Answered number reply) self.old.locks } }
     {
-        self.table.answered(number, won, &mut self.sessions);
+        self.table.answered(number, reply, &mut self.sessions);
     }
 
     /// The source tells that this lock is held (`locked`, RFC 7047 section 4.1.9). Nothing changes where the desk doesn't wait
@@ -249,7 +250,7 @@ impl LockDesk {
         self.at(name, Event::Stolen);
     }
 
-    /// The source is lost, and with it each lock that it gave; steals that aren't answered are, with false. Nothing is due
+    /// The source is lost, and with it each lock that it gave; each steal that isn't answered is answered so. Nothing is due
     /// until there is a source again. No memory is taken.
     pub fn lost_source(&mut self)
         ensures after { self.new ≡ record { has_source = false; locks = stepped Event.Lost self.old.locks } }

@@ -6,7 +6,7 @@ ghost use Rattle.ovs_lock_desk.specs.DeskLock.{step, refusal, asked_here, enters
 ghost use Rattle.ovs_lock_desk.specs.LockDesk.{IsDeskTable, AreNamed, AreMarked, desk_lock_at, ChangesAt, stepped, SendsFirst, first_due_up, is_sent_at};
 ghost use Rattle.ovs_lock_desk.specs.UpwardTable.{AreRequested, AreOpen, AreStolenByOne, OthersOpen, ListsDue, ListsOtherDue};
 
-use crate::course::{Event, LockVerb};
+use crate::course::{Event, LockReply, LockVerb};
 use crate::desk_table::DeskTable;
 use crate::due_names::DueNames;
 use crate::error::DeskError;
@@ -232,11 +232,11 @@ impl UpwardTable {
         false
     }
 
-    /// The request of this number was answered: whether the source gave the lock. The marks of the sessions follow.
-    pub(crate) fn answered(&mut self, number: u64, won: bool, sessions: &mut BySession)
+    /// The request of this number was answered so. The marks of the sessions follow.
+    pub(crate) fn answered(&mut self, number: u64, reply: LockReply, sessions: &mut BySession)
         requires named { AreNamed self.old sessions.old }
         requires marked { AreMarked self.old sessions.old }
-        ensures after { self.new ≡ stepped (Event.Answered number won) self.old }
+        ensures after { self.new ≡ stepped (Event.Answered number reply) self.old }
         ensures table { IsDeskTable self.new }
         ensures named { AreNamed self.new sessions.new }
         ensures marked { AreMarked self.new sessions.new }
@@ -244,7 +244,7 @@ impl UpwardTable {
         let Some(names) = self.requests.take(number) else {
             return;
         };
-        let event = Event::Answered(number, won);
+        let event = Event::Answered(number, reply);
         at_each(&mut self.table, sessions, &names, event);
     }
 }

@@ -2,12 +2,13 @@
 
 ghost use Rattle.std.specs.Prelude.{◌≡◌};
 ghost use Rattle.ovs_links.specs.Sets.{IsOfTables};
+ghost use Rattle.ovs_service.specs.Replies.{RepliesTo, IsAnswer};
 
 use crate::node_source::NodeSource;
 use crate::origin_desk::OriginDesk;
 use crate::origin_state::OriginState;
 use ovs_authority::Ask;
-use ovs_engine::DeskLock;
+use ovs_engine::{DeskLock, KnownDesk};
 use ovs_hall::Bell;
 use ovs_json::NoMemory;
 use ovs_links::Link;
@@ -38,10 +39,25 @@ impl<'a, K: NodeName, R: Wait> LockedSource<'a, K, R> {
     }
 }
 
-impl<'a, K: NodeName, R: Wait> DeskLock<K> for LockedSource<'a, K, R> {
-    ghost owes = { λ _ _ _ _. Unit {0} };
+impl<'a, K: NodeName, R: Wait> KnownDesk for LockedSource<'a, K, R> {
+    // Of the calls on it nobody knows anything.
+    type Known = ();
 
-    fn ask(&self, alloc: Global, who: u64, ask: Ask) -> Result<Option<Message>, NoMemory> {
+    fn known(&self) {}
+}
+
+impl<'a, K: NodeName, R: Wait> DeskLock<K> for LockedSource<'a, K, R> {
+    ghost replies = { λ _ ask r. RepliesTo ask.id r };
+
+    ghost owes = { λ _ _ _ m. IsAnswer m };
+
+    fn ask(
+        &self,
+        alloc: Global,
+        who: u64,
+        ask: Ask,
+        _known: &mut (),
+    ) -> Result<Option<Message>, NoMemory> {
         self.desk.lock(self.rt).ask(alloc, who, ask)
     }
 
@@ -52,6 +68,7 @@ impl<'a, K: NodeName, R: Wait> DeskLock<K> for LockedSource<'a, K, R> {
         is_held_back: bool,
         view: &mut View<K>,
         session: &ViewSession<K>,
+        _known: &mut (),
     ) -> Result<Option<Message>, NoMemory> {
         let mut state = self.desk.lock(self.rt);
         let collected = state.collect(alloc, who, is_held_back, view, session)?;
@@ -62,7 +79,7 @@ impl<'a, K: NodeName, R: Wait> DeskLock<K> for LockedSource<'a, K, R> {
     }
 
     // An epoch that is due waits for no reply of the session any more.
-    fn end_session(&self, who: u64) {
+    fn end_session(&self, who: u64, _known: &mut ()) {
         let mut state = self.desk.lock(self.rt);
         state.end_session(who);
         if state.trim_once_answered(self.alloc) {

@@ -79,6 +79,7 @@ impl<K: NodeName> OriginState<K> {
         session: &ViewSession<K>,
     ) -> Result<Option<Message>, NoMemory>
         ensures given { IfOk result (λ r. IfSome r IsAnswer) }
+        ensures view { view.new ≡ view.old }
     {
         match self.answers.take_first(who, is_held_back, view, session) {
             Ok(Some(waiting)) => Ok(Some(waiting.into_reply())),

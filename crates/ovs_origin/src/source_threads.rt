@@ -12,8 +12,8 @@ use crate::sending::{SourceFollowed, follow_source};
 use crate::source_crew::SourceCrew;
 use crate::source_line::{SourceLine, SourceSent};
 use ovs_engine::{
-    Back, Counters, FeedSink, Feeds, Finished, Folding, Job, NotFolded, Serving, Watcher,
-    fold_beside,
+    Back, Counters, FeedSink, Feeds, Finished, Folding, Job, KnownDesk, NotFolded, Serving,
+    Watcher, fold_beside,
 };
 use ovs_feed::{FeedName, FeedQueue};
 use ovs_folder::{Node, NodeLink};
@@ -118,7 +118,7 @@ fn beside_source<
     'a,
     K: NodeName + Send + Sync,
     Q: FeedName + Send + Sync,
-    L: OriginDesk<K> + Send + Sync,
+    L: KnownDesk<Known: Send> + OriginDesk<K> + Send + Sync,
     D: Doors<In: Send, Out: Send> + Drop + Send,
     B: Bell + Sync,
     O: Watcher,
@@ -158,7 +158,7 @@ pub fn run_source<
     'a,
     K: NodeName + Send + Sync,
     Q: FeedName + Send + Sync,
-    L: OriginDesk<K> + Send + Sync,
+    L: KnownDesk<Known: Send> + OriginDesk<K> + Send + Sync,
     D: Doors<In: Send, Out: Send> + Drop + Send,
     B: Bell + Sync,
     O: Watcher,
@@ -201,7 +201,6 @@ pub fn run_source<
         desk: shared.desk,
         upward: shared.desk,
         bells: shared.bells,
-        numbers: shared.counters.numbers(),
         running: shared.counters.running(),
         progress: shared.counters.progress(),
         limits: shared.limits,

@@ -42,6 +42,7 @@ fn is_shown<K: NodeName>(
     session: &ViewSession<K>,
 ) -> bool
     ensures shown { result ≡ true → IsShownWhere is_held_back session.now.last waiting.now.standing }
+    ensures view { view.new ≡ view.old }
 {
     !is_held_back || view.has_shown(session, waiting.standing) == Ok(true)
 }
@@ -54,6 +55,7 @@ fn take_shown<K: NodeName>(
     session: &ViewSession<K>,
 ) -> Result<Option<WaitingAnswer>, Waits>
     ensures shown { IfOk result (λ r. IfSome r (λ w. IsShownWhere is_held_back session.now.last w.standing)) }
+    ensures view { view.new ≡ view.old }
 {
     match answers.front() {
         Some(first) if !is_shown(first, is_held_back, view, session) => Err(Waits),
@@ -119,6 +121,7 @@ impl WaitingAnswers {
         session: &ViewSession<K>,
     ) -> Result<Option<WaitingAnswer>, Waits>
         ensures shown { IfOk result (λ r. IfSome r (λ w. IsShownWhere is_held_back session.now.last w.standing)) }
+        ensures view { view.new ≡ view.old }
     {
         let Some(answers) = self.by_session.get_mut(&who) else {
             return Ok(None);

@@ -11,27 +11,28 @@ use Rattle.ovs_reader.specs.Telling.{told_some, reached, moved_past, after_some}
 use Rattle.ovs_reader.specs.declared.subscription.Subscription.{Subscription}
 use Rattle.ovs_reader.proofs.Parts.{all_told, all_past}
 use Rattle.ovs_views.specs.Published.{GoesOn, ViewSessionValue}
+use Rattle.ovs_service.specs.declared.asker.DeskCall.{DeskCall}
 use Rattle.ovs_service.specs.declared.due.Due.{Due}
-use Rattle.ovs_service.specs.Calls.{IsAllTold, most_told, shown_to}
-use Rattle.ovs_service.specs.Client.{ClientValue, IsDueOf, Hears}
+use Rattle.ovs_service.specs.Calls.{AreTasksOf, IsAllTold, most_told, shown_to}
+use Rattle.ovs_service.specs.Client.{ClientValue, Hears}
+use Rattle.ovs_service.specs.Deeds.{tasks}
 
-abbrev client : ViewSessionValue → ℕ → ℕ → List Due → ClientValue
-client session who unanswered due = record { session = session; who = who; due = due; unanswered = unanswered }
+abbrev client : ViewSessionValue → ℕ → List DeskCall → List Due → ClientValue
+client session who calls due = record { session = session; who = who; calls = calls; due = due }
 
-pub hears_at : (schema : SchemaValue) (message : Message) (old : ClientValue) (session now : ViewSessionValue) (shown : List Step) (who unanswered : ℕ)
+pub hears_at : (schema : SchemaValue) (message : Message) (old : ClientValue) (session now : ViewSessionValue) (shown : List Step) (who : ℕ) (calls : List DeskCall)
     (due room new : List Due) (t : TurnValue)
-    → record { session = session; who = who; due = due; unanswered = unanswered } ≡ old → GoesOn schema session.last shown
+    → record { session = session; who = who; calls = calls; due = due } ≡ old → GoesOn schema session.last shown
     → t ≡ turn session.session (folded_by schema shown) message → now ≡ shown_to shown (after_turn session.session (folded_by schema shown) message)
-    → room ≡ due → (added : List Due) × IsDueOf t added × (new ≡ room ++ added)
-    → Hears schema message old (record { session = now; who = who; due = new; unanswered = unanswered })
-hears_at schema message old session now shown who unanswered due room new t is goes_on turned after same (added, due_of, e) =
-    subst (λ (o : ClientValue). Hears schema message o (record { session = now; who = who; due = new; unanswered = unanswered })) is (record {
-      shown = shown;
+    → room ≡ due → (added : List Due) × AreTasksOf t (tasks added) × (new ≡ room ++ added)
+    → Hears schema shown message old (record { session = now; who = who; calls = calls; due = new })
+hears_at schema message old session now shown who calls due room new t is goes_on turned after same (added, gives, e) =
+    subst (λ (o : ClientValue). Hears schema shown message o (record { session = now; who = who; calls = calls; due = new })) is (record {
       goes_on = goes_on;
       added = added;
-      due = subst (λ (made : TurnValue). IsDueOf made added) turned due_of;
-      after = ap (λ (s : ViewSessionValue). client s who unanswered new) after
-          ∙ ap (λ (d : List Due). client (shown_to shown (after_turn session.session (folded_by schema shown) message)) who unanswered d)
+      gives = subst (λ (made : TurnValue). AreTasksOf made (tasks added)) turned gives;
+      after = ap (λ (s : ViewSessionValue). client s who calls new) after
+          ∙ ap (λ (d : List Due). client (shown_to shown (after_turn session.session (folded_by schema shown) message)) who calls d)
           (e ∙ ap (λ (l : List Due). l ++ added) same);
     })
 

@@ -1,9 +1,9 @@
 -- What users are promised follows from what a session does.
-use Rattle.std.proofs.Common.{inl, inr, ◌≡◌, ℕ, Bool, List, [], ◌++◌, Option, length, ap, sym, ◌∙◌, subst, refl}
+use Rattle.std.proofs.Common.{inl, inr, ◌≡◌, ℕ, Bool, List, [], ◌∷◌, ◌++◌, Option, map, length, ap, sym, ◌∙◌, subst, refl}
 use Rattle.ovs_types.specs.Schema.{SchemaValue}
 use Rattle.ovs_links.specs.declared.step.Step.{Step}
 use Rattle.ovs_authority.specs.declared.ask.Ask.{Ask}
-use Rattle.ovs_wire.specs.Frames.{AreFrames}
+use Rattle.ovs_wire.specs.Frames.{AreFrames, Ending}
 use Rattle.ovs_wire.specs.declared.message.Message.{Message}
 use Rattle.ovs_session.specs.Counting.{IsAfter}
 use Rattle.ovs_session.specs.Moving.{Moved, IsBad}
@@ -12,9 +12,11 @@ use Rattle.ovs_session.specs.Whole.{Answers, AnswersAll}
 use Rattle.ovs_session.specs.declared.ended.Ended.{Ended}
 use Rattle.ovs_session.specs.declared.ended.Ended.TheVariants.{Closed, BadInput}
 use Rattle.ovs_session.proofs.Whole.{answers_from_new, answers_all}
-use Rattle.ovs_service.specs.Dues.{Comes}
-use Rattle.ovs_service.specs.Calls.{Give}
+use Rattle.ovs_service.specs.declared.asker.DeskCall.{DeskCall}
 use Rattle.ovs_service.specs.Texts.{AreTextsOf}
+use Rattle.ovs_service.specs.Deeds.{Task, ToSay, task_of, tasks, Settles}
+use Rattle.ovs_views.specs.Published.{ViewSessionValue}
+use Rattle.ovs_service.specs.Calls.{Call, Give, heard}
 use Rattle.ovs_service.specs.Client.{ClientValue, AnswersTo, TellsNew, SaysNothing, new_client, new_view}
 use Rattle.ovs_service.specs.Kept.{IsBadInput, WritesBeginning, WritesAll, Kept}
 use Rattle.ovs_service.proofs.Settled.{append_nil}
@@ -25,10 +27,38 @@ bad_of : (now : SessionValue ClientValue) → IsBad {C = ClientValue} (λ client
 bad_of now (inl (fault, none, no_held, written)) = inl (fault, none, no_held)
 bad_of now (inr (m, held, refused, written)) = inr (m, held, refused)
 
+no_message : (ms : List Message) (left : List Task) → [] ≡ map ToSay ms ++ left → ms ≡ []
+no_message [] left e = refl
+no_message (m ∷ ms) left e = cc
+
+no_task : (ms : List Message) (left : List Task) → [] ≡ map ToSay ms ++ left → left ≡ []
+no_task [] left e = sym e
+no_task (m ∷ ms) left e = cc
+
+module _ (schema : SchemaValue) (replies : Ask → Option Message → Type 0) (owes : Bool → List Step → Message → Type 0) where
+  -- where nothing is to be done then, all is done
+  all_done : (calls : List Call) (start : ViewSessionValue) (ending : Ending) (came went : List ℕ) (now : ClientValue) (todo : List Task)
+      → AreFrames came (heard calls) ending → Give schema owes calls start todo now.session
+      → Settles replies todo now.calls went (tasks now.due) → now.due ≡ [] → WritesAll schema replies owes start came went now
+  all_done calls start ending came went now todo frames gives p settled =
+      let none : [] ≡ map ToSay p.unsaid ++ p.left = sym (ap tasks settled) ∙ p.then in
+      record {
+        calls = calls;
+        ending = ending;
+        frames = frames;
+        deeds = p.deeds;
+        gives = subst (λ (l : List Task). Give schema owes calls start l now.session)
+            (p.does ∙ ap (λ (l : List Task). map task_of p.deeds ++ l) (no_task p.unsaid p.left none) ∙ append_nil (map task_of p.deeds)) gives;
+        made = p.calls;
+        replied = p.replied;
+        texts = subst (λ (l : List Message). AreTextsOf l went)
+            (sym (p.gives ∙ ap (λ (l : List Message). p.given ++ l) (no_message p.unsaid p.left none) ∙ append_nil p.given)) p.texts;
+      }
+
 module _ (schema : SchemaValue) (replies : ℕ → Ask → Option Message → Type 0) (owes : Bool → ℕ → List Step → Message → Type 0) where
   beginning_of : (who : ℕ) (last : List Step) (came went : List ℕ) (now : SessionValue ClientValue) (ended : Ended)
       → (ended ≡ BadInput → IsBad {C = ClientValue} (λ client text. SaysNothing text) now) → Answers (AnswersTo schema replies owes) (TellsNew schema replies owes) (new_client who last) came went now
-      → WritesBeginning schema (replies who) (λ held. owes held who) (new_view last) now.counts ended came went
+      → WritesBeginning schema (replies who) (λ held. owes held who) (new_view last) now.counts ended came went now.core
   beginning_of who last came went now ended bad a =
       let run = run_of schema replies owes a.said (new_client who last) now.core a.runs in
       let serves = run.serves in
@@ -41,14 +71,11 @@ module _ (schema : SchemaValue) (replies : ℕ → Ask → Option Message → Ty
         waiting = now.framing.waiting;
         ending = now.framing.ending;
         frames = subst (λ (found : List (List ℕ)). AreFrames a.framed ((found ++ holding now.held) ++ now.framing.waiting) now.framing.ending) (sym run.heard_all) a.frames;
-        given = serves.settles.given;
+        todo = serves.todo;
+        gives = serves.gives;
         text = text a.said;
-        texts = serves.settles.texts;
+        settles = subst (λ (l : List DeskCall). Settles (replies who) serves.todo l (text a.said) (tasks now.core.due)) (sym serves.all) serves.settles;
         begins = (now.unsent, sym a.written);
-        due = now.core.due;
-        now = now.core.session;
-        gives = λ (later : List Message) (h : Comes (replies who) now.core.due later).
-            serves.gives (serves.settles.given ++ later) (serves.settles.comes later h);
         bad = λ (e : ended ≡ BadInput). bad_of now (bad e);
         messages_counted = subst (λ (found : List (List ℕ)). IsAfter now.counts.messages 0 (length (found ++ holding now.held))) (sym run.heard_all) a.messages_counted;
         bytes_counted = a.bytes_counted;
@@ -56,28 +83,20 @@ module _ (schema : SchemaValue) (replies : ℕ → Ask → Option Message → Ty
 
   all_of : (who : ℕ) (last : List Step) (came went : List ℕ) (now : SessionValue ClientValue)
       → AnswersAll (AnswersTo schema replies owes) (TellsNew schema replies owes) (new_client who last) came went now
-      → now.core.due ≡ [] → WritesAll schema (replies who) (λ held. owes held who) (new_view last) came went
+      → now.core.due ≡ [] → WritesAll schema (replies who) (λ held. owes held who) (new_view last) came went now.core
   all_of who last came went now a settled =
       let run = run_of schema replies owes a.said (new_client who last) now.core a.runs in
       let serves = run.serves in
-      record {
-        calls = run.calls;
-        ending = now.framing.ending;
-        frames = subst (λ (found : List (List ℕ)). AreFrames came found now.framing.ending) (sym run.heard_all) a.frames;
-        given = serves.settles.given;
-        texts = subst (λ (t : List ℕ). AreTextsOf serves.settles.given t) (sym a.written) serves.settles.texts;
-        now = now.core.session;
-        gives = subst (λ (l : List Message). Give schema (replies who) (λ held. owes held who) run.calls (new_view last) l now.core.session)
-            (append_nil serves.settles.given)
-            (serves.gives (serves.settles.given ++ []) (serves.settles.comes []
-            (subst (λ (due : _). Comes (replies who) due []) (sym settled) refl)));
-      }
+      let settles = subst (λ (l : List DeskCall). Settles (replies who) serves.todo l (text a.said) (tasks now.core.due)) (sym serves.all) serves.settles in
+      all_done schema (replies who) (λ held. owes held who) run.calls (new_view last) now.framing.ending came went now.core serves.todo
+      (subst (λ (found : List (List ℕ)). AreFrames came found now.framing.ending) (sym run.heard_all) a.frames) serves.gives
+      (subst (λ (t : List ℕ). Settles (replies who) serves.todo now.core.calls t (tasks now.core.due)) (sym a.written) settles) settled
 
   pub kept_by : (limit who : ℕ) (last : List Step) (input unread output written : Option (List ℕ)) (old now : SessionValue ClientValue) (ended : Ended)
       → Moved (AnswersTo schema replies owes) (TellsNew schema replies owes) limit input unread output written old now
       → old ≡ fresh (new_client who last) → (ended ≡ Closed → IsDone now × (now.core.due ≡ []))
       → (ended ≡ BadInput → IsBad {C = ClientValue} (λ client text. SaysNothing text) now)
-      → Kept schema (replies who) (λ held. owes held who) (new_view last) input unread output written now.counts ended
+      → Kept schema (replies who) (λ held. owes held who) (new_view last) input unread output written now.counts ended now.core
   kept_by limit who last input unread output written old now ended moved began closed bad =
       let served = subst (λ (s : SessionValue ClientValue).
       Served (AnswersTo schema replies owes) (TellsNew schema replies owes) s moved.came moved.went now) began moved.served in
@@ -92,10 +111,3 @@ module _ (schema : SchemaValue) (replies : ℕ → Ask → Option Message → Ty
             (answers_all (AnswersTo schema replies owes) (TellsNew schema replies owes) (new_client who last) moved.came moved.went now served (closed e).0)
             (closed e).1;
       }
-
-  pub who_stays : (limit who : ℕ) (last : List Step) (input unread output written : Option (List ℕ)) (old now : SessionValue ClientValue)
-      → Moved (AnswersTo schema replies owes) (TellsNew schema replies owes) limit input unread output written old now
-      → old ≡ fresh (new_client who last) → now.core.who ≡ who
-  who_stays limit who last input unread output written old now moved began =
-      (run_of schema replies owes moved.served.said old.core now.core moved.served.runs).serves.who
-      ∙ ap (λ (s : SessionValue ClientValue). s.core.who) began

@@ -1,152 +1,135 @@
 -- A client is served, a piece after another.
-use Rattle.std.proofs.Common.{◌≡◌, ℕ, Bool, true, false, List, [], ◌∷◌, ◌++◌, Option, Some, None, map, option_map, inl, inr, ap, sym, ◌∙◌, append_assoc, subst, refl}
-use Rattle.std.specs.Option.{option_to_list}
-use Rattle.std.specs.List.{AllByRecursion}
+use Rattle.std.proofs.Common.{◌≡◌, ℕ, Bool, true, false, List, [], ◌∷◌, ◌++◌, Option, map, ap, sym, ◌∙◌, append_assoc, subst, refl}
 use Rattle.ovs_types.specs.Schema.{SchemaValue}
 use Rattle.ovs_links.specs.Absorbing.{folded_by}
 use Rattle.ovs_links.specs.declared.step.Step.{Step}
 use Rattle.ovs_authority.specs.declared.ask.Ask.{Ask}
 use Rattle.ovs_wire.specs.Message.{Says}
 use Rattle.ovs_wire.specs.declared.message.Message.{Message}
-use Rattle.ovs_reader.specs.Turns.{TurnValue, turn}
 use Rattle.ovs_reader.specs.Telling.{told_some}
 use Rattle.ovs_session.specs.Serving.{Said, Answered, Told, messages, text, Runs}
 use Rattle.ovs_views.specs.Published.{ViewSessionValue}
+use Rattle.ovs_service.specs.declared.asker.DeskCall.{DeskCall}
 use Rattle.ovs_service.specs.declared.due.Due.{Due}
-use Rattle.ovs_service.specs.declared.due.Due.TheVariants.{Say, Put}
-use Rattle.ovs_service.specs.Replies.{IsOwed, seen_ask}
-use Rattle.ovs_service.specs.Dues.{Comes, Settles}
-use Rattle.ovs_service.specs.Calls.{Call, Answer, Pump, Collect, AskGives, TurnGives, CallGives, Give, IsAllTold, heard, most_told}
-use Rattle.ovs_service.specs.Client.{ClientValue, IsDueOf, IsDueOfAll, Hears, IsTold, Serves, AnswersTo, TellsNew}
-use Rattle.ovs_service.proofs.Settled.{append_nil, comes_apart, settles_none, settles_more, settles_before}
+use Rattle.ovs_service.specs.Asking.{AskerValue, HasNothingMore}
+use Rattle.ovs_service.specs.Deeds.{Task, ToSay, ToGive, tasks, Settles, Does, Collects, given_by}
+use Rattle.ovs_service.specs.Calls.{Call, Answer, Pump, Collect, CallGives, Give, IsAllTold, IsCollecting, IsTelling, heard, most_told}
+use Rattle.ovs_service.specs.Client.{ClientValue, asker_of, Hears, IsTold, Serves, AnswersFrom, AnswersTo, TellsOf, TellsNew, HasAll}
+use Rattle.ovs_service.proofs.Settled.{append_nil, tasks_both, settles_none, settles_more, settles_before, settles_collected, said_behind, no_call_made}
 
-module _ (replies : Ask → Option Message → Type 0) where
-  said_gives : (out : Option Message) (given : List Message) → Comes replies (option_to_list (option_map Say out)) given
-      → given ≡ option_to_list out
-  said_gives None given h = h
-  said_gives (Some m) given (more, e, none) = e ∙ ap (λ (l : List Message). m ∷ l) none
+module _ (schema : SchemaValue) (owes : Bool → List Step → Message → Type 0) where
+  give_one : (call : Call) (old new : ViewSessionValue) (todo : List Task) → CallGives schema owes call old todo new
+      → Give schema owes (call ∷ []) old todo new
+  give_one call old new todo h = (new, todo, [], h, (refl, refl), sym (append_nil todo))
 
-  asked_gives : (ask : Option Ask) (given : List Message) → Comes replies (option_to_list (option_map Put ask)) given
-      → AskGives replies (option_map seen_ask ask) given
-  asked_gives None given h = h
-  asked_gives (Some ask) given (reply, r, (more, e, none)) =
-      (ask, refl, (reply, r, e ∙ ap (λ (l : List Message). option_to_list reply ++ l) none ∙ append_nil (option_to_list reply)))
-
-  turn_gives : (t : TurnValue) (due : List Due) (given : List Message) → IsDueOf t due → Comes replies due given
-      → TurnGives replies t given
-  turn_gives t due given (ask, asks, e) h =
-      let p = comes_apart replies (option_to_list (option_map Say t.out)) (option_to_list (option_map Put ask)) given
-      (subst (λ (l : List Due). Comes replies l given) e h) in (
-        p.rest,
-        subst (λ (a : _). AskGives replies a p.rest) asks (asked_gives ask p.rest p.of_rest),
-        p.whole ∙ ap (λ (l : List Message). l ++ p.rest) (said_gives t.out p.first p.of_first),
-      )
-
-  told_gives : (ms : List Message) (due : List Due) (given : List Message) → IsDueOfAll ms due → Comes replies due given → given ≡ ms
-  told_gives ms due given is_due h = elim is_due [
-    | inl e ↦
-        let c = subst (λ (l : List Due). Comes replies l given) e h in
-        c.1 ∙ ap (λ (l : List Message). ms ++ l) c.2 ∙ append_nil ms
-    | inr (e, none) ↦ subst (λ (l : List Due). Comes replies l given) e h ∙ sym none
-  ]
-
-  collected_gives : (ms given : List Message) → Comes replies (map Say ms) given → given ≡ ms
-  collected_gives [] given h = h
-  collected_gives (m ∷ ms) given (more, e, h) = e ∙ ap (λ (l : List Message). m ∷ l) (collected_gives ms more h)
-
-module _ (schema : SchemaValue) (replies : Ask → Option Message → Type 0) (owes : Bool → List Step → Message → Type 0) where
-  give_one : (call : Call) (old new : ViewSessionValue) (given : List Message) → CallGives schema replies owes call old given new
-      → Give schema replies owes (call ∷ []) old given new
-  give_one call old new given h = (new, given, [], h, (refl, refl), sym (append_nil given))
-
-  give_both : (calls more : List Call) (a b c : ViewSessionValue) (first rest : List Message)
-      → Give schema replies owes calls a first b → Give schema replies owes more b rest c
-      → Give schema replies owes (calls ++ more) a (first ++ rest) c
+  give_both : (calls more : List Call) (a b c : ViewSessionValue) (first rest : List Task)
+      → Give schema owes calls a first b → Give schema owes more b rest c → Give schema owes (calls ++ more) a (first ++ rest) c
   give_both [] more a b c first rest (e, f) k =
-      subst (λ (l : List Message). Give schema replies owes more a (l ++ rest) c) (sym e)
-      (subst (λ (s : ViewSessionValue). Give schema replies owes more s rest c) f k)
+      subst (λ (l : List Task). Give schema owes more a (l ++ rest) c) (sym e)
+      (subst (λ (s : ViewSessionValue). Give schema owes more s rest c) f k)
   give_both (call ∷ calls) more a b c first rest (mid, one, others, h, g, e) k = (
     mid,
     one,
     others ++ rest,
     h,
     give_both calls more mid b c others rest g k,
-    ap (λ (l : List Message). l ++ rest) e ∙ append_assoc one others rest,
+    ap (λ (l : List Task). l ++ rest) e ∙ append_assoc one others rest,
   )
 
 heard_both : (calls more : List Call) → heard (calls ++ more) ≡ heard calls ++ heard more
 heard_both [] more = refl
 heard_both (Answer text shown ∷ calls) more = ap (λ (l : List (List ℕ)). text ∷ l) (heard_both calls more)
 heard_both (Pump shown ∷ calls) more = heard_both calls more
-heard_both (Collect held ms ∷ calls) more = heard_both calls more
+heard_both (Collect held taken ∷ calls) more = heard_both calls more
+
+-- where messages are told and collected, none is heard
+nothing_heard_collecting : (calls : List Call) → IsCollecting calls → heard calls ≡ []
+nothing_heard_collecting [] is = refl
+nothing_heard_collecting (Answer text shown ∷ calls) is = absurd is
+nothing_heard_collecting (Pump shown ∷ calls) is = absurd is
+nothing_heard_collecting (Collect held taken ∷ []) is = refl
+nothing_heard_collecting (Collect held taken ∷ call ∷ calls) is = absurd is
+
+nothing_heard : (shown : List Step) (calls : List Call) → IsTelling shown calls → heard calls ≡ []
+nothing_heard shown [] is = refl
+nothing_heard shown (Answer text from ∷ calls) is = absurd is
+nothing_heard shown (Pump from ∷ calls) is = nothing_heard_collecting calls is.1
+nothing_heard shown (Collect held taken ∷ calls) is = absurd is
 
 module _ (schema : SchemaValue) (replies : ℕ → Ask → Option Message → Type 0) (owes : Bool → ℕ → List Step → Message → Type 0) where
-  serves_nothing : (a : ClientValue) → Serves schema replies owes [] a [] a
-  serves_nothing a = record {
-    who = refl;
-    added = [];
-    gives = λ (given : List Message) (h : Comes (replies a.who) [] given). (h, refl);
-    settles = subst (λ (l : List Due). Settles (replies a.who) l [] a.due) (sym (append_nil a.due)) (settles_none (replies a.who) a.due);
+  -- what is added is due
+  still_due : (a b : ClientValue) (added : List Due) → b.due ≡ a.due ++ added → Settles (replies a.who) (tasks a.due ++ tasks added) [] [] (tasks b.due)
+  still_due a b added e =
+      subst (λ (l : List Task). Settles (replies a.who) (tasks a.due ++ tasks added) [] [] l) (sym (ap tasks e ∙ tasks_both a.due added))
+      (settles_none (replies a.who) (tasks a.due ++ tasks added))
+
+  serves_nothing : (a b : ClientValue) → b ≡ a → Serves schema replies owes [] a [] b
+  serves_nothing a b e = record {
+    todo = [];
+    gives = (refl, ap (λ (c : ClientValue). c.session) e);
+    made = [];
+    settles = subst (λ (l : List Task). Settles (replies a.who) l [] [] (tasks b.due)) (sym (append_nil (tasks a.due)))
+        (subst (λ (l : List Task). Settles (replies a.who) (tasks a.due) [] [] l) (sym (ap (λ (c : ClientValue). tasks c.due) e))
+        (settles_none (replies a.who) (tasks a.due)));
+    who = ap (λ (c : ClientValue). c.who) e;
+    all = ap (λ (c : ClientValue). c.calls) e ∙ sym (append_nil a.calls);
   }
 
   -- what is due is done
-  serves_due : (a b : ClientValue) (said : List ℕ) → Settles (replies a.who) a.due said b.due → b ≡ record a { due = b.due; unanswered = b.unanswered }
-      → Serves schema replies owes [] a said b
-  serves_due a b said p e = record {
-    who = ap (λ (c : ClientValue). c.who) e;
-    added = [];
-    gives = λ (given : List Message) (h : Comes (replies a.who) [] given). (h, ap (λ (c : ClientValue). c.session) e);
-    settles = subst (λ (l : List Due). Settles (replies a.who) l said b.due) (sym (append_nil a.due)) p;
+  serves_due : (a b : ClientValue) (o p : List ℕ) (f : Does replies (tasks a.due) (asker_of a) o (tasks b.due) (asker_of b) p) → b.session ≡ a.session
+      → Serves schema replies owes [] a f.said b
+  serves_due a b o p f e = record {
+    todo = [];
+    gives = (refl, e);
+    made = f.made;
+    settles = subst (λ (l : List Task). Settles (replies a.who) l f.made f.said (tasks b.due)) (sym (append_nil (tasks a.due))) f.settles;
+    who = ap (λ (k : AskerValue). k.who) f.calls;
+    all = ap (λ (k : AskerValue). k.calls) f.calls;
   }
 
-  -- what is added is due
-  still_due : (a b : ClientValue) (added : List Due) → b.due ≡ a.due ++ added → Settles (replies a.who) (a.due ++ added) [] b.due
-  still_due a b added e =
-      subst (λ (l : List Due). Settles (replies a.who) (a.due ++ added) [] l) (sym e) (settles_none (replies a.who) (a.due ++ added))
-
-  serves_heard : (a b : ClientValue) (text : List ℕ) (message : Message) → Says text message → Hears schema message a b
-      → AnswersTo schema replies owes a text [] b
-  serves_heard a b text message says p = (
-    p.shown,
-    record {
-      who = ap (λ (c : ClientValue). c.who) p.after;
-      added = p.added;
-      gives = λ (given : List Message) (h : Comes (replies a.who) p.added given).
-          give_one schema (replies a.who) (λ held. owes held a.who) (Answer text p.shown) a.session b.session given
-          (record {
-            message = message;
-            says = says;
-            goes_on = p.goes_on;
-            gives = turn_gives (replies a.who) (turn a.session.session (folded_by schema p.shown) message) p.added given p.due h;
-            after = ap (λ (c : ClientValue). c.session) p.after;
-          });
-      settles = still_due a b p.added (ap (λ (c : ClientValue). c.due) p.after);
-    },
-  )
-
-  serves_told : (a b : ClientValue) (p : IsTold schema a b) → Serves schema replies owes (Pump p.shown ∷ []) a [] b
-  serves_told a b p = record {
-    who = ap (λ (c : ClientValue). c.who) p.after;
-    added = p.added;
-    gives = λ (given : List Message) (h : Comes (replies a.who) p.added given).
-        give_one schema (replies a.who) (λ held. owes held a.who) (Pump p.shown) a.session b.session given
-        (record {
-          goes_on = p.goes_on;
-          gives = told_gives (replies a.who) (told_some most_told a.session.session.monitors (folded_by schema p.shown).steps) p.added given p.due h;
-          after = ap (λ (c : ClientValue). c.session) p.after;
-        });
+  serves_heard : (a b : ClientValue) (text : List ℕ) (message : Message) (shown : List Step) → Says text message → Hears schema shown message a b
+      → Serves schema replies owes (Answer text shown ∷ []) a [] b
+  serves_heard a b text message shown says p = record {
+    todo = tasks p.added;
+    gives = give_one schema (λ held. owes held a.who) (Answer text shown) a.session b.session (tasks p.added) (record {
+      message = message;
+      says = says;
+      goes_on = p.goes_on;
+      gives = p.gives;
+      after = ap (λ (c : ClientValue). c.session) p.after;
+    });
+    made = [];
     settles = still_due a b p.added (ap (λ (c : ClientValue). c.due) p.after);
+    who = ap (λ (c : ClientValue). c.who) p.after;
+    all = ap (λ (c : ClientValue). c.calls) p.after ∙ sym (append_nil a.calls);
   }
 
-  serves_collected : (held : Bool) (a b : ClientValue) (ms : List Message) → IsAllTold a.session → AllByRecursion (IsOwed (owes held a.who a.session.last)) ms
-      → b ≡ record a { due = a.due ++ map Say ms; unanswered = b.unanswered } → Serves schema replies owes (Collect held ms ∷ []) a [] b
-  serves_collected held a b ms all owed e = record {
-    who = ap (λ (c : ClientValue). c.who) e;
-    added = map Say ms;
-    gives = λ (given : List Message) (h : Comes (replies a.who) (map Say ms) given).
-        give_one schema (replies a.who) (λ held. owes held a.who) (Collect held ms) a.session b.session given
-        (all, owed, collected_gives (replies a.who) ms given h, ap (λ (c : ClientValue). c.session) e);
-    settles = still_due a b (map Say ms) (ap (λ (c : ClientValue). c.due) e);
+  serves_told : (a b : ClientValue) (shown : List Step) (p : IsTold schema shown a b) → Serves schema replies owes (Pump shown ∷ []) a [] b
+  serves_told a b shown p = record {
+    todo = tasks p.added;
+    gives = give_one schema (λ held. owes held a.who) (Pump shown) a.session b.session (tasks p.added) (record {
+      goes_on = p.goes_on;
+      gives = p.gives;
+      after = ap (λ (c : ClientValue). c.session) p.after;
+    });
+    made = [];
+    settles = still_due a b p.added (ap (λ (c : ClientValue). c.due) p.after);
+    who = ap (λ (c : ClientValue). c.who) p.after;
+    all = ap (λ (c : ClientValue). c.calls) p.after ∙ sym (append_nil a.calls);
+  }
+
+  -- messages are collected where nothing but messages is due
+  serves_collected : (held : Bool) (a b : ClientValue) (ms : List Message) → IsAllTold a.session → tasks a.due ≡ map ToSay ms
+      → (f : Collects (λ who. owes held who a.session.last) held a.due (asker_of a) b.due (asker_of b)) → b.session ≡ a.session
+      → Serves schema replies owes (Collect held f.taken ∷ []) a [] b
+  serves_collected held a b ms all says f e = record {
+    todo = map (ToGive held) f.taken;
+    gives = give_one schema (λ held. owes held a.who) (Collect held f.taken) a.session b.session (map (ToGive held) f.taken)
+        (all, f.owed, refl, e);
+    made = _;
+    settles = settles_collected (replies a.who) held a.due b.due ms f.taken says f.due;
+    who = ap (λ (k : AskerValue). k.who) f.calls;
+    all = ap (λ (k : AskerValue). k.calls) f.calls;
   }
 
   -- one piece after another
@@ -154,82 +137,119 @@ module _ (schema : SchemaValue) (replies : ℕ → Ask → Option Message → Ty
       → Serves schema replies owes more b t c → Serves schema replies owes (calls ++ more) a (s ++ t) c
   serves_more calls more a b c s t p q =
       let R = replies a.who in
-      let rest_comes = subst (λ (w : ℕ). (given : List Message) → Comes (replies w) q.added given
-      → Give schema (replies w) (λ held. owes held w) more b.session given c.session) p.who q.gives in
-      let rest_settles = subst (λ (w : ℕ). Settles (replies w) (b.due ++ q.added) t c.due) p.who q.settles in
+      let rest_gives = subst (λ (w : ℕ). Give schema (λ held. owes held w) more b.session q.todo c.session) p.who q.gives in
+      let rest_settles = subst (λ (w : ℕ). Settles (replies w) (tasks b.due ++ q.todo) q.made t (tasks c.due)) p.who q.settles in
       record {
+        todo = p.todo ++ q.todo;
+        gives = give_both schema (λ held. owes held a.who) calls more a.session b.session c.session p.todo q.todo p.gives rest_gives;
+        made = p.made ++ q.made;
+        settles = subst (λ (l : List Task). Settles R l (p.made ++ q.made) (s ++ t) (tasks c.due)) (append_assoc (tasks a.due) p.todo q.todo)
+            (settles_more R ((tasks a.due ++ p.todo) ++ q.todo) (tasks b.due ++ q.todo) (tasks c.due) p.made q.made s t
+            (settles_before R (tasks a.due ++ p.todo) (tasks b.due) q.todo p.made s p.settles) rest_settles);
         who = q.who ∙ p.who;
-        added = p.added ++ q.added;
-        gives = λ (given : List Message) (h : Comes R (p.added ++ q.added) given).
-            let parts = comes_apart R p.added q.added given h in
-            subst (λ (l : List Message). Give schema R (λ held. owes held a.who) (calls ++ more) a.session l c.session) (sym parts.whole)
-            (give_both schema R (λ held. owes held a.who) calls more a.session b.session c.session parts.first parts.rest
-            (p.gives parts.first parts.of_first) (rest_comes parts.rest parts.of_rest));
-        settles = subst (λ (l : List Due). Settles R l (s ++ t) c.due) (append_assoc a.due p.added q.added)
-            (settles_more R ((a.due ++ p.added) ++ q.added) (b.due ++ q.added) c.due s t
-            (settles_before R (a.due ++ p.added) b.due q.added s p.settles) rest_settles);
+        all = q.all ∙ ap (λ (l : List DeskCall). l ++ q.made) p.all ∙ append_assoc a.calls p.made q.made;
       }
 
-  -- what is said to a message and behind it is the answer to it
-  answers_more : (a b c : ClientValue) (message s : List ℕ) → AnswersTo schema replies owes a message [] b
-      → Settles (replies b.who) b.due s c.due → c ≡ record b { due = c.due; unanswered = c.unanswered } → AnswersTo schema replies owes a message s c
-  answers_more a b c message s (shown, p) q e =
-      (shown, serves_more (Answer message shown ∷ []) [] a b c [] s p (serves_due b c s q e))
+  -- a message is heard, and what is due is done
+  pub heard_then : (a b c : ClientValue) (o q text : List ℕ) (message : Message) (shown : List Step) → Says text message → Hears schema shown message a b
+      → Does replies (tasks b.due) (asker_of b) o (tasks c.due) (asker_of c) q → c.session ≡ b.session
+      → (t : List ℕ) × AnswersFrom schema replies owes shown a text t c × (q ≡ o ++ t)
+  heard_then a b c o q text message shown says heard does same =
+      (does.said, serves_more (Answer text shown ∷ []) [] a b c [] does.said (serves_heard a b text message shown says heard) (serves_due b c o q does same), does.text)
+
+  -- what monitors told is to be said, where nothing else was due
+  told_alone : (a b : ClientValue) (shown : List Step) → a.due ≡ [] → (told : IsTold schema shown a b)
+      → tasks b.due ≡ map ToSay (told_some most_told a.session.session.monitors (folded_by schema shown).steps)
+  told_alone a b shown settled told =
+      ap (λ (x : ClientValue). tasks x.due) told.after ∙ ap (λ (l : List Due). tasks (l ++ told.added)) settled ∙ told.gives
+
+  -- what is new is told: what monitors tell, what is collected where that is all, and what is due then
+  pub told_new : (is_all : Bool) (a b c d : ClientValue) (o q : List ℕ) (shown known : List Step) → known ≡ shown → a.due ≡ [] → IsTold schema shown a b → (is_all ≡ true → IsAllTold b.session)
+      → (held : Bool) × Collects (λ who. owes held who b.session.last) held b.due (asker_of b) c.due (asker_of c) × (c.session ≡ b.session) → (is_all ≡ false → c ≡ b)
+      → Does replies (tasks c.due) (asker_of c) o (tasks d.due) (asker_of d) q → d.session ≡ c.session
+      → (t : List ℕ) × TellsOf schema replies owes known a t d × (q ≡ o ++ t)
+  told_new true a b c d o q shown known same_view settled told all (held, taken, stays) none does same = (
+    does.said,
+    record {
+      calls = Pump shown ∷ Collect held taken.taken ∷ [];
+      telling = (sym same_view, tt);
+      some = λ (nothing : a.due ≡ []) (e : Pump shown ∷ Collect held taken.taken ∷ [] ≡ []). cc;
+      serves = serves_more (Pump shown ∷ []) (Collect held taken.taken ∷ []) a b d [] does.said (serves_told a b shown told)
+          (serves_more (Collect held taken.taken ∷ []) [] b c d [] does.said
+          (serves_collected held b c (told_some most_told a.session.session.monitors (folded_by schema shown).steps) (all refl) (told_alone a b shown settled told) taken stays)
+          (serves_due c d o q does same));
+    },
+    does.text,
+  )
+  told_new false a b c d o q shown known same_view settled told all collected none does same = (
+    does.said,
+    record {
+      calls = Pump shown ∷ [];
+      telling = (sym same_view, tt);
+      some = λ (nothing : a.due ≡ []) (e : Pump shown ∷ [] ≡ []). cc;
+      serves = serves_more (Pump shown ∷ []) [] a b d [] does.said (serves_told a b shown told)
+          (subst (λ (n : ClientValue). Serves schema replies owes [] n does.said d) (none refl) (serves_due c d o q does same));
+    },
+    does.text,
+  )
+
+  -- all is told, where monitors told all that is new, the desk had nothing more, and nothing is due then
+  pub has_all : (is_all is_told : Bool) (a b c d : ClientValue) (o q : List ℕ) (shown known : List Step) → known ≡ shown → a.due ≡ [] → IsTold schema shown a b → (is_told ≡ true → IsAllTold b.session)
+      → (held : Bool) × Collects (λ who. owes held who b.session.last) held b.due (asker_of b) c.due (asker_of c) × (c.session ≡ b.session)
+      → (is_all ≡ true → (is_told ≡ true) × HasNothingMore c.calls)
+      → Does replies (tasks c.due) (asker_of c) o (tasks d.due) (asker_of d) q → d.session ≡ c.session
+      → (is_all ≡ true) × (d.due ≡ []) → HasAll known d
+  has_all is_all is_told a b c d o q shown known same_view settled told all (held, taken, stays) nothing does same (is, none) =
+      let found = nothing is in
+      let says = said_behind b.due c.due (told_some most_told a.session.session.monitors (folded_by schema shown).steps) (given_by taken.taken)
+      (told_alone a b shown settled told) taken.due in
+      let made = no_call_made (replies c.who) (told_some most_told a.session.session.monitors (folded_by schema shown).steps ++ given_by taken.taken)
+      (tasks c.due) (tasks d.due) does.made does.said says does.settles in
+      let calls : d.calls ≡ c.calls = ap (λ (k : AskerValue). k.calls) does.calls ∙ ap (λ (l : List DeskCall). c.calls ++ l) made ∙ append_nil c.calls in
+      record {
+        due = none;
+        shown = ap (λ (s : ViewSessionValue). s.last) (same ∙ stays) ∙ ap (λ (x : ClientValue). x.session.last) told.after ∙ sym same_view;
+        told = subst IsAllTold (sym (same ∙ stays)) (all found.0);
+        collected = subst HasNothingMore (sym calls) found.1;
+      }
+
+  -- what is told of these steps is told of some
+  pub of_some : (shown : List Step) (a b : ClientValue) (o q : List ℕ) → (t : List ℕ) × TellsOf schema replies owes shown a t b × (q ≡ o ++ t)
+      → (t : List ℕ) × TellsNew schema replies owes a t b × (q ≡ o ++ t)
+  of_some shown a b o q (t, tells, e) = (t, (shown, tells), e)
+
+  pub from_some : (shown : List Step) (a b : ClientValue) (o q text : List ℕ) → (t : List ℕ) × AnswersFrom schema replies owes shown a text t b × (q ≡ o ++ t)
+      → (t : List ℕ) × AnswersTo schema replies owes a text t b × (q ≡ o ++ t)
+  from_some shown a b o q text (t, answers, e) = (t, (shown, answers), e)
 
   -- all that is due is done, and then what is new is told
-  pub told_then : (a b c : ClientValue) (o p q : List ℕ) → (s : List ℕ) × Settles (replies a.who) a.due s b.due × (p ≡ o ++ s)
-      → b ≡ record a { due = b.due; unanswered = b.unanswered } → b.due ≡ [] → (t : List ℕ) × TellsNew schema replies owes b t c × (q ≡ p ++ t)
-      → (t : List ℕ) × TellsNew schema replies owes a t c × (q ≡ o ++ t)
-  told_then a b c o p q (s, settles, e) same all (t, (calls, none, first, serves), f) = (
-    s ++ t,
-    (calls, none, (λ (due : a.due ≡ []). first all), serves_more [] calls a b c s t (serves_due a b s settles same) serves),
-    f ∙ ap (λ (l : List ℕ). l ++ t) e ∙ append_assoc o s t,
+  pub told_then : (a b c : ClientValue) (o p q : List ℕ) (shown : List Step) → Does replies (tasks a.due) (asker_of a) o (tasks b.due) (asker_of b) p
+      → b.session ≡ a.session → b.due ≡ [] → (t : List ℕ) × TellsOf schema replies owes shown b t c × (q ≡ p ++ t)
+      → (t : List ℕ) × TellsOf schema replies owes shown a t c × (q ≡ o ++ t)
+  told_then a b c o p q shown does same all (t, tells, f) = (
+    does.said ++ t,
+    record {
+      calls = tells.calls;
+      telling = tells.telling;
+      some = λ (due : a.due ≡ []). tells.some all;
+      serves = serves_more [] tells.calls a b c does.said t (serves_due a b o p does same) tells.serves;
+    },
+    f ∙ ap (λ (l : List ℕ). l ++ t) does.text ∙ append_assoc o does.said t,
   )
 
   -- something was due, and of it is done what can be, and nothing more
-  pub told_due : (a b c : ClientValue) (o p q : List ℕ) → (s : List ℕ) × Settles (replies a.who) a.due s b.due × (p ≡ o ++ s)
-      → b ≡ record a { due = b.due; unanswered = b.unanswered } → c ≡ b → q ≡ p → (a.due ≡ [] → ⊥) → (t : List ℕ) × TellsNew schema replies owes a t c × (q ≡ o ++ t)
-  told_due a b c o p q (s, settles, e) same still f some = (
-    s,
-    subst (λ (n : ClientValue). TellsNew schema replies owes a s n) (sym still)
-        ([], refl, (λ (none : a.due ≡ []). absurd (some none)), serves_due a b s settles same),
-    f ∙ e,
+  pub told_due : (a b c : ClientValue) (o p q : List ℕ) (shown : List Step) → Does replies (tasks a.due) (asker_of a) o (tasks b.due) (asker_of b) p
+      → b.session ≡ a.session → c ≡ b → q ≡ p → (a.due ≡ [] → ⊥) → (t : List ℕ) × TellsOf schema replies owes shown a t c × (q ≡ o ++ t)
+  told_due a b c o p q shown does same still f some = (
+    does.said,
+    record {
+      calls = [];
+      telling = tt;
+      some = λ (none : a.due ≡ []). absurd (some none);
+      serves = subst (λ (n : ClientValue). Serves schema replies owes [] a does.said n) (sym still) (serves_due a b o p does same);
+    },
+    f ∙ does.text,
   )
-
-  -- what is new is told: what monitors tell, what is collected where that is all, and what is due then
-  pub told_new : (is_all : Bool) (a b c d : ClientValue) (o q : List ℕ) → IsTold schema a b → (is_all ≡ true → IsAllTold b.session)
-      → (held : Bool) × (ms : List Message) × AllByRecursion (IsOwed (owes held b.who b.session.last)) ms × (c ≡ record b { due = b.due ++ map Say ms; unanswered = c.unanswered }) → (is_all ≡ false → c ≡ b)
-      → (s : List ℕ) × Settles (replies c.who) c.due s d.due × (q ≡ o ++ s) → d ≡ record c { due = d.due; unanswered = d.unanswered }
-      → (t : List ℕ) × TellsNew schema replies owes a t d × (q ≡ o ++ t)
-  told_new true a b c d o q told all (held, ms, owed, e) none (s, settles, f) same = (
-    s,
-    (
-      Pump told.shown ∷ Collect held ms ∷ [],
-      refl,
-      (λ (nothing : a.due ≡ []). tt),
-      serves_more (Pump told.shown ∷ []) (Collect held ms ∷ []) a b d [] s (serves_told a b told)
-          (serves_more (Collect held ms ∷ []) [] b c d [] s (serves_collected held b c ms (all refl) owed e) (serves_due c d s settles same)),
-    ),
-    f,
-  )
-  told_new false a b c d o q told all collected none (s, settles, f) same = (
-    s,
-    (
-      Pump told.shown ∷ [],
-      refl,
-      (λ (nothing : a.due ≡ []). tt),
-      serves_more (Pump told.shown ∷ []) [] a b d [] s (serves_told a b told)
-          (subst (λ (n : ClientValue). Serves schema replies owes [] n s d) (none refl) (serves_due c d s settles same)),
-    ),
-    f,
-  )
-
-  -- a message is heard, and what is due is done
-  pub heard_then : (a b c : ClientValue) (o q text : List ℕ) (message : Message) → Says text message → Hears schema message a b
-      → (s : List ℕ) × Settles (replies b.who) b.due s c.due × (q ≡ o ++ s) → c ≡ record b { due = c.due; unanswered = c.unanswered }
-      → (t : List ℕ) × AnswersTo schema replies owes a text t c × (q ≡ o ++ t)
-  heard_then a b c o q text message says heard (s, settles, f) same =
-      (s, answers_more a b c text s (serves_heard a b text message says heard) settles same, f)
 
   -- what was heard and said in a run, with the calls that were made for it
   pub record RunOf (said : List Said) (a b : ClientValue) : Type 0 where
@@ -239,11 +259,7 @@ module _ (schema : SchemaValue) (replies : ℕ → Ask → Option Message → Ty
 
   pub run_of : (said : List Said) (a b : ClientValue)
       → Runs (AnswersTo schema replies owes) (TellsNew schema replies owes) said a b → RunOf said a b
-  run_of [] a b e = record {
-    calls = [];
-    heard_all = refl;
-    serves = subst (λ (c : ClientValue). Serves schema replies owes [] a [] c) (sym e) (serves_nothing a);
-  }
+  run_of [] a b e = record { calls = []; heard_all = refl; serves = serves_nothing a b e }
   run_of (Answered m t ∷ more) a b (mid, (shown, p), runs) =
       let q = run_of more mid b runs in
       record {
@@ -251,10 +267,10 @@ module _ (schema : SchemaValue) (replies : ℕ → Ask → Option Message → Ty
         heard_all = ap (λ (l : List (List ℕ)). m ∷ l) q.heard_all;
         serves = serves_more (Answer m shown ∷ []) q.calls a mid b t (text more) p q.serves;
       }
-  run_of (Told t ∷ more) a b (mid, (calls, none, first, p), runs) =
+  run_of (Told t ∷ more) a b (mid, (shown, p), runs) =
       let q = run_of more mid b runs in
       record {
-        calls = calls ++ q.calls;
-        heard_all = heard_both calls q.calls ∙ ap (λ (l : List (List ℕ)). l ++ heard q.calls) none ∙ q.heard_all;
-        serves = serves_more calls q.calls a mid b t (text more) p q.serves;
+        calls = p.calls ++ q.calls;
+        heard_all = heard_both p.calls q.calls ∙ ap (λ (l : List (List ℕ)). l ++ heard q.calls) (nothing_heard shown p.calls p.telling) ∙ q.heard_all;
+        serves = serves_more p.calls q.calls a mid b t (text more) p.serves q.serves;
       }

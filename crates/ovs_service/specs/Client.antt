@@ -1,52 +1,39 @@
 -- What a node knows of one reader, and what it says to it.
-use Rattle.std.specs.Prelude.{◌≡◌, ◌<◌, ◌+◌, ◌-◌, ℕ, Bool, List, [], ◌∷◌, ◌++◌, ◌⊎◌, Option, Some, None, option_map}
-use Rattle.std.specs.Option.{option_to_list}
+use Rattle.std.specs.Prelude.{◌≡◌, ◌<◌, ℕ, Bool, List, [], ◌∷◌, ◌++◌, Option, map}
 use Rattle.ovs_types.specs.Schema.{SchemaValue}
 use Rattle.ovs_links.specs.Absorbing.{folded_by}
 use Rattle.ovs_links.specs.declared.step.Step.{Step}
 use Rattle.ovs_authority.specs.declared.ask.Ask.{Ask}
 use Rattle.ovs_wire.specs.Message.{Says}
 use Rattle.ovs_wire.specs.declared.message.Message.{Message}
-use Rattle.ovs_wire.specs.declared.message.Message.TheVariants.{Request, Reply, Notice}
 use Rattle.ovs_reader.specs.Session.{new_session}
-use Rattle.ovs_reader.specs.Turns.{TurnValue, turn, after_turn}
+use Rattle.ovs_reader.specs.Turns.{turn, after_turn}
 use Rattle.ovs_reader.specs.Telling.{told_some, after_some}
 use Rattle.ovs_views.specs.Published.{GoesOn, ViewSessionValue}
-use Rattle.ovs_service.specs.Calls.{Call, Answer, Give, heard, most_told, shown_to, TellsFirst}
-use Rattle.ovs_service.specs.Dues.{Comes, Settles}
-use Rattle.ovs_service.specs.Replies.{seen_ask}
+use Rattle.ovs_service.specs.Asking.{AskerValue, HasNothingMore, most_unanswered, without_reply}
+use Rattle.ovs_service.specs.Calls.{Call, Answer, Give, AreTasksOf, IsTelling, IsAllTold, most_told, shown_to}
+use Rattle.ovs_service.specs.Deeds.{Task, ToSay, Settles, tasks}
+use Rattle.ovs_service.specs.declared.asker.DeskCall.{DeskCall}
 use Rattle.ovs_service.specs.declared.due.Due.{Due}
-use Rattle.ovs_service.specs.declared.due.Due.TheVariants.{Say, Tell, Put}
 
--- its session, its number, what is due to it, and how many of its asks have no reply yet
+-- its session, its number, all calls that were made for it at the desk, and what is due to it
 pub record ClientValue : Type 0 where
   pub session : ViewSessionValue
   pub who : ℕ
+  pub calls : List DeskCall
   pub due : List Due
-  pub unanswered : ℕ
 
--- so many asks of a reader at most have no reply yet
-abbrev pub most_unanswered : ℕ
-most_unanswered = 128
-
--- one more where an ask got no reply at once
-abbrev pub asked_on : Option Message → ℕ → ℕ
-asked_on None n = n + 1
-asked_on (Some reply) n = n
-
--- one fewer where a reply was collected
-abbrev pub collected_on : Message → ℕ → ℕ
-collected_on (Reply result error id) n = n - 1
-collected_on (Request method params id) n = n
-collected_on (Notice method params) n = n
+-- the session as the desk knows it
+abbrev pub asker_of : ClientValue → AskerValue
+asker_of c = record { who = c.who; calls = c.calls }
 
 -- nothing is due, and one more may be asked
 abbrev pub MayAsk : ClientValue → Type 0
-MayAsk c = (c.due ≡ []) × (c.unanswered < most_unanswered)
+MayAsk c = (c.due ≡ []) × (without_reply c.calls < most_unanswered)
 
 -- nothing is due, and all that was asked has its reply
 abbrev pub IsAnswered : ClientValue → Type 0
-IsAnswered c = (c.due ≡ []) × (c.unanswered ≡ 0)
+IsAnswered c = (c.due ≡ []) × (without_reply c.calls ≡ 0)
 
 -- a session to which nothing was shown beyond these steps
 abbrev pub new_view : List Step → ViewSessionValue
@@ -54,42 +41,31 @@ new_view last = record { session = new_session; last = last }
 
 -- nothing was heard of it yet
 abbrev pub new_client : ℕ → List Step → ClientValue
-new_client who last = record { session = new_view last; who = who; due = []; unanswered = 0 }
+new_client who last = record { session = new_view last; who = who; calls = []; due = [] }
 
--- this is due after a turn
-abbrev pub IsDueOf : TurnValue → List Due → Type 0
-IsDueOf t due = (ask : Option Ask) × (option_map seen_ask ask ≡ t.ask)
-    × (due ≡ option_to_list (option_map Say t.out) ++ option_to_list (option_map Put ask))
-
--- this is due after messages were told: they are told one after another, if there are some
-abbrev pub IsDueOfAll : List Message → List Due → Type 0
-IsDueOfAll messages due = (due ≡ Tell messages ∷ []) ⊎ ((due ≡ []) × (messages ≡ []))
-
--- a client heard a message, which was answered from steps that go on from those that were shown before: what comes of the turn
--- is due behind what was
-pub record Hears (schema : SchemaValue) (message : Message) (old new : ClientValue) : Type 0 where
-  pub shown : List Step
+-- a client heard a message, which was answered from these steps, which go on from those that were shown before: what comes of the
+-- turn is due behind what was
+pub record Hears (schema : SchemaValue) (shown : List Step) (message : Message) (old new : ClientValue) : Type 0 where
   pub goes_on : GoesOn schema old.session.last shown
   pub added : List Due
-  pub due : IsDueOf (turn old.session.session (folded_by schema shown) message) added
+  pub gives : AreTasksOf (turn old.session.session (folded_by schema shown) message) (tasks added)
   pub after : new ≡ record {
     session = shown_to shown (after_turn old.session.session (folded_by schema shown) message);
     who = old.who;
+    calls = old.calls;
     due = old.due ++ added;
-    unanswered = old.unanswered;
   }
 
--- what its monitors tell in one call of steps that go on from those that were shown before is due behind what was
-pub record IsTold (schema : SchemaValue) (old new : ClientValue) : Type 0 where
-  pub shown : List Step
+-- what its monitors tell in one call of these steps, which go on from those that were shown before, is due behind what was
+pub record IsTold (schema : SchemaValue) (shown : List Step) (old new : ClientValue) : Type 0 where
   pub goes_on : GoesOn schema old.session.last shown
   pub added : List Due
-  pub due : IsDueOfAll (told_some most_told old.session.session.monitors (folded_by schema shown).steps) added
+  pub gives : tasks added ≡ map ToSay (told_some most_told old.session.session.monitors (folded_by schema shown).steps)
   pub after : new ≡ record {
     session = shown_to shown (after_some most_told old.session.session (folded_by schema shown));
     who = old.who;
+    calls = old.calls;
     due = old.due ++ added;
-    unanswered = old.unanswered;
   }
 
 -- the text says no message
@@ -97,18 +73,39 @@ abbrev pub SaysNothing : List ℕ → Type 0
 SaysNothing text = (m : Message) → Says text m → ⊥
 
 module _ (schema : SchemaValue) (replies : ℕ → Ask → Option Message → Type 0) (owes : Bool → ℕ → List Step → Message → Type 0) where
-  -- Calls are made for a client. What comes of them stands behind what was due; its first is said, and the rest is due.
+  -- Calls are made for a client. What comes of them is to be done behind what was due; the first of it is done, by these calls of the
+  -- desk, of which none was made before, and the rest is due.
   pub record Serves (calls : List Call) (old : ClientValue) (said : List ℕ) (new : ClientValue) : Type 0 where
+    pub todo : List Task
+    pub gives : Give schema (λ held. owes held old.who) calls old.session todo new.session
+    pub made : List DeskCall
+    pub settles : Settles (replies old.who) (tasks old.due ++ todo) made said (tasks new.due)
     pub who : new.who ≡ old.who
-    pub added : List Due
-    pub gives : (given : List Message) → Comes (replies old.who) added given
-        → Give schema (replies old.who) (λ held. owes held old.who) calls old.session given new.session
-    pub settles : Settles (replies old.who) (old.due ++ added) said new.due
+    pub all : new.calls ≡ old.calls ++ made
+
+  -- the text is answered from these steps
+  abbrev pub AnswersFrom : List Step → ClientValue → List ℕ → List ℕ → ClientValue → Type 0
+  AnswersFrom shown old text said new = Serves (Answer text shown ∷ []) old said new
+
+  -- What is due is said, and then what is new in these steps; the latter may stay untold only where something was due.
+  pub record TellsOf (shown : List Step) (old : ClientValue) (said : List ℕ) (new : ClientValue) : Type 0 where
+    pub calls : List Call
+    pub telling : IsTelling shown calls
+    pub some : old.due ≡ [] → calls ≡ [] → ⊥
+    pub serves : Serves calls old said new
 
   -- the text is answered
   abbrev pub AnswersTo : ClientValue → List ℕ → List ℕ → ClientValue → Type 0
-  AnswersTo old text said new = (shown : List Step) × Serves (Answer text shown ∷ []) old said new
+  AnswersTo old text said new = (shown : List Step) × AnswersFrom shown old text said new
 
-  -- what is due is said, and then what is new; the latter may stay untold only where something was due
+  -- what is new is told
   abbrev pub TellsNew : ClientValue → List ℕ → ClientValue → Type 0
-  TellsNew old said new = (calls : List Call) × (heard calls ≡ []) × (old.due ≡ [] → TellsFirst calls) × Serves calls old said new
+  TellsNew old said new = (shown : List Step) × TellsOf shown old said new
+
+-- Nothing is due to the client. Each of its monitors was told all that was shown to it, which is all that is known, and the desk had
+-- nothing more for it.
+pub record HasAll (known : List Step) (c : ClientValue) : Type 0 where
+  pub due : c.due ≡ []
+  pub shown : c.session.last ≡ known
+  pub told : IsAllTold c.session
+  pub collected : HasNothingMore c.calls

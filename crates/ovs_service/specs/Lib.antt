@@ -1,6 +1,7 @@
 pub mod Replies
 pub mod Texts
-pub mod Dues
+pub mod Asking
+pub mod Deeds
 pub mod Calls
 pub mod Client
 pub mod Kept

@@ -1,10 +1,10 @@
 //! More becomes due.
-ghost use Rattle.std.specs.Prelude.{◌≡◌, ◌+◌, ◌≤◌, ◌++◌, List, OnOk};
+ghost use Rattle.std.specs.Prelude.{◌≡◌, ◌+◌, ◌≤◌, ◌++◌, List, OnOk, map, option_to_list};
 ghost use Rattle.std.specs.VecDeque.{deque_len, deque_capacity};
-ghost use Rattle.std.specs.Option.{option_to_list};
 ghost use Rattle.ovs_reader.specs.Turns.{seen_turn};
 ghost use Rattle.ovs_service.specs.declared.due.Due.{Due};
-ghost use Rattle.ovs_service.specs.Client.{IsDueOf, IsDueOfAll};
+ghost use Rattle.ovs_service.specs.Calls.{AreTasksOf};
+ghost use Rattle.ovs_service.specs.Deeds.{ToSay, tasks};
 
 use crate::due::{Due, Several};
 use ovs_json::NoMemory;
@@ -35,7 +35,7 @@ pub(crate) fn add(dues: &mut VecDeque<Due>, due: Option<Due>)
 /// Puts what comes of a turn behind what is due before.
 pub(crate) fn add_turn(dues: &mut VecDeque<Due>, turn: Turn)
     requires room { deque_len dues.old + 2 ≤ deque_capacity dues.old }
-    ensures added { (added : List Due) × IsDueOf (seen_turn turn) added × (dues.new.items ≡ dues.old.items ++ added) }
+    ensures added { (added : List Due) × AreTasksOf (seen_turn turn) (tasks added) × (dues.new.items ≡ dues.old.items ++ added) }
 {
     let Turn { out, ask, .. } = turn;
     add(dues, out.map(Due::Say));
@@ -44,7 +44,7 @@ pub(crate) fn add_turn(dues: &mut VecDeque<Due>, turn: Turn)
 
 /// Messages that are due one after another, if there are some.
 pub(crate) fn several(messages: Vec<Message>) -> Option<Due>
-    ensures due { IsDueOfAll messages.items (option_to_list result) }
+    ensures due { tasks (option_to_list result) ≡ map ToSay messages.items }
 {
     if messages.is_empty() {
         None

@@ -1,22 +1,19 @@
 //! What a node knows of one reader.
-ghost use Rattle.std.specs.Prelude.{◌≡◌, ◌++◌, ◌↔◌, ℕ, Bool, List, [], true, false, IsTrue, Err, IfOk, OnOk, OnErr, map};
-ghost use Rattle.std.specs.List.{AllByRecursion};
+ghost use Rattle.std.specs.Prelude.{◌≡◌, ◌↔◌, Bool, [], true, false, IsTrue, Err, IfOk, OnOk, OnErr};
 ghost use Rattle.ovs_links.specs.Absorbing.{folded_by};
-ghost use Rattle.ovs_wire.specs.declared.message.Message.{Message};
 ghost use Rattle.ovs_reader.specs.Turns.{seen_turn, turn, after_turn};
 ghost use Rattle.ovs_reader.specs.Telling.{told_some, after_some};
 ghost use Rattle.ovs_views.specs.Published.{GoesOn};
-ghost use Rattle.ovs_service.specs.declared.due.Due.TheVariants.{Say};
-ghost use Rattle.ovs_service.specs.Replies.{IsOwed};
+ghost use Rattle.ovs_service.specs.Asking.{HasNothingMore};
 ghost use Rattle.ovs_service.specs.Calls.{most_told, shown_to, IsAllTold};
-ghost use Rattle.ovs_service.specs.Client.{new_client, Hears, IsTold, MayAsk, IsAnswered};
-ghost use Rattle.ovs_service.specs.Dues.{Settles};
+ghost use Rattle.ovs_service.specs.Client.{new_client, asker_of, Hears, IsTold, MayAsk, IsAnswered};
+ghost use Rattle.ovs_service.specs.Deeds.{tasks, Does, Collects};
 
 use crate::adding::{add, add_turn, make_room, several};
+use crate::asker::Asker;
 use crate::collecting::collect;
 use crate::desk::Desk;
 use crate::due::Due;
-use crate::expecting::Expecting;
 use crate::settling::settle;
 use ovs_reader::Turn;
 use ovs_session::{Outbox, Refusal};
@@ -31,14 +28,13 @@ use std::marker::Model;
 /// what this takes of memory doesn't grow with what was missed.
 const MOST_TOLD: usize = 256;
 
-/// What a node knows of one reader: its session, with the front of what it was shown last; the number under which the
-/// authority knows it; and what is to be done for it and isn't yet, since memory ran out.
+/// What a node knows of one reader: its session, with the front of what it was shown last; the token by which the authority
+/// knows it; and what is to be done for it and isn't yet, since memory ran out.
 #[derive(Drop)]
 pub struct Client<K: NodeName> {
     session: ViewSession<K>,
-    who: u64,
+    asker: Asker,
     dues: VecDeque<Due>,
-    expecting: Expecting,
 }
 
 impl<K: NodeName> Model for Client<K> {
@@ -48,18 +44,21 @@ impl<K: NodeName> Model for Client<K> {
     ghost use Rattle.ovs_links.specs.declared.step.Step.{Step};
     ghost use Rattle.ovs_reader.specs.contracts.session.ReaderSession as session_row;
     ghost use Rattle.ovs_reader.specs.Session.{SessionValue};
+    ghost use Rattle.ovs_service.specs.contracts.asker.DeskCall as call_row;
     ghost use Rattle.ovs_service.specs.contracts.due.Due as due_row;
+    ghost use Rattle.ovs_service.specs.declared.asker.DeskCall.{DeskCall};
     ghost use Rattle.ovs_service.specs.declared.due.Due.{Due};
     ghost use Rattle.ovs_service.specs.Client.{ClientValue};
 
     ghost Value = { ClientValue };
 
-    ghost coded = { code_by (SessionValue × (List Step × (ℕ × (List Due × ℕ))))
-        (coded× session_row.the_row.coded (coded× (coded_list step_row.the_row.coded) (coded× coded_ℕ (coded× (coded_list due_row.the_row.coded) coded_ℕ))))
-        (λ c. (c.session.session, (c.session.last, (c.who, (c.due, c.unanswered)))))
-        (λ p. record { session = record { session = p.0; last = p.1.0 }; who = p.1.1.0; due = p.1.1.1.0; unanswered = p.1.1.1.1 }) (λ _. refl) };
+    ghost coded = { code_by (SessionValue × (List Step × (ℕ × (List DeskCall × List Due))))
+        (coded× session_row.the_row.coded (coded× (coded_list step_row.the_row.coded)
+        (coded× coded_ℕ (coded× (coded_list call_row.the_row.coded) (coded_list due_row.the_row.coded)))))
+        (λ c. (c.session.session, (c.session.last, (c.who, (c.calls, c.due)))))
+        (λ p. record { session = record { session = p.0; last = p.1.0 }; who = p.1.1.0; calls = p.1.1.1.0; due = p.1.1.1.1 }) (λ _. refl) };
 
-    ghost view = { λ c. record { session = c.session; who = c.who; due = c.dues.items; unanswered = c.expecting } };
+    ghost view = { λ c. record { session = c.session; who = c.asker.who; calls = c.asker.calls; due = c.dues.items } };
 }
 
 // A view refuses so.
@@ -112,22 +111,22 @@ fn pump_at<K: NodeName>(
 
 impl<K: NodeName> Client<K> {
     /// A reader of which nothing was heard yet, and to which no more was shown than this front knows.
-    pub fn new(alloc: Global, who: u64, last: &Front<K>) -> Client<K>
-        ensures value { result ≡ new_client who last.now }
+    pub(crate) fn new(alloc: Global, asker: Asker, last: &Front<K>) -> Client<K>
+        requires new { asker.calls ≡ [] }
+        ensures value { result ≡ new_client asker.who last.now }
     {
         Client {
             session: ViewSession::new(alloc, last),
-            who,
+            asker,
             dues: VecDeque::new(alloc),
-            expecting: Expecting::nothing(),
         }
     }
 
-    /// The number under which the authority knows it.
-    pub fn who(&self) -> u64
-        ensures value { result ≡ self.now.who }
+    /// The token by which the authority knows it.
+    pub fn asker(&self) -> &Asker
+        ensures value { result.now ≡ asker_of self.now }
     {
-        self.who
+        &self.asker
     }
 
     /// Whether nothing is left to be done for it.
@@ -142,7 +141,7 @@ impl<K: NodeName> Client<K> {
     pub fn takes(&self) -> bool
         ensures value { IsTrue result ↔ MayAsk self.now }
     {
-        self.dues.is_empty() && self.expecting.has_room()
+        self.dues.is_empty() && self.asker.has_room()
     }
 
     /// Whether something that it asked for is still to come.
@@ -150,7 +149,7 @@ impl<K: NodeName> Client<K> {
         ensures answered { result ≡ false → IsAnswered self.now }
         ensures awaited { result ≡ true → IsAnswered self.now → ⊥ }
     {
-        !(self.dues.is_empty() && self.expecting.is_answered())
+        !(self.dues.is_empty() && self.asker.is_answered())
     }
 
     /// Hears a message; what comes of it is due then.
@@ -163,7 +162,7 @@ impl<K: NodeName> Client<K> {
         view: &mut View<K>,
         message: Message,
     ) -> Result<(), Refusal>
-        ensures heard { OnOk result (Hears K.schema message self.old self.new) }
+        ensures heard { OnOk result (Hears K.schema view.new message self.old self.new) }
         ensures unchanged { OnErr result (self.new ≡ self.old) }
         ensures never_bad { result ≡ Err Refusal.BadInput → ⊥ }
     {
@@ -178,7 +177,7 @@ impl<K: NodeName> Client<K> {
     /// # Errors
     /// `Gone` and `NoMemory`; nothing is changed then.
     pub(crate) fn pump(&mut self, alloc: Global, view: &mut View<K>) -> Result<bool, Refusal>
-        ensures told { OnOk result (IsTold K.schema self.old self.new) }
+        ensures told { OnOk result (IsTold K.schema view.new self.old self.new) }
         ensures all { IfOk result (λ is_all. is_all ≡ true → IsAllTold self.new.session) }
         ensures unchanged { OnErr result (self.new ≡ self.old) }
         ensures never_bad { result ≡ Err Refusal.BadInput → ⊥ }
@@ -191,32 +190,35 @@ impl<K: NodeName> Client<K> {
     }
 
     /// What the authority owes it is due then, as far as memory allows, where all that is new was told before: so an answer stands
-    /// behind what its monitors tell of the steps that it was shown, and where answers are held back it stands on these.
+    /// behind what its monitors tell of the steps that it was shown, and where answers are held back it stands on these. `true`
+    /// only where nothing more is owed to it now.
     pub(crate) fn collect<D: Desk<K>>(
         &mut self,
         alloc: Global,
         is_all_told: bool,
         view: &mut View<K>,
         desk: &mut D,
-    )
-        ensures collected { (held : Bool) × (given : List Message)
-            × AllByRecursion (IsOwed (D.owes held self.old.who self.old.session.last)) given
-            × (self.new ≡ record self.old { due = self.old.due ++ map Say given; unanswered = self.new.unanswered }) }
+    ) -> bool
+        ensures collected { (held : Bool) × Collects (λ who. D.owes held who self.old.session.last) held self.old.due (asker_of self.old) self.new.due (asker_of self.new)
+            × (self.new.session ≡ self.old.session) }
+        ensures nothing { result ≡ true → (is_all_told ≡ true) × HasNothingMore self.new.calls }
         ensures none { is_all_told ≡ false → self.new ≡ self.old }
+        ensures view { view.new ≡ view.old }
+        ensures none_ended { D.ended desk.new ≡ D.ended desk.old }
     {
-        if is_all_told {
-            let is_held_back = desk.holds_back();
-            collect(
-                alloc,
-                self.who,
-                is_held_back,
-                view,
-                &self.session,
-                &mut self.dues,
-                &mut self.expecting,
-                desk,
-            );
+        if !is_all_told {
+            return false;
         }
+        let is_held_back = desk.holds_back();
+        collect(
+            alloc,
+            is_held_back,
+            view,
+            &self.session,
+            &mut self.dues,
+            &mut self.asker,
+            desk,
+        )
     }
 
     /// Does what is due, in its order, until memory runs out. Whether something was done.
@@ -226,18 +228,12 @@ impl<K: NodeName> Client<K> {
         desk: &mut D,
         out: &mut Outbox,
     ) -> bool
-        ensures settled { (said : List ℕ) × Settles (D.replies self.old.who) self.old.due said self.new.due × (out.new ≡ out.old ++ said) }
-        ensures same { self.new ≡ record self.old { due = self.new.due; unanswered = self.new.unanswered } }
+        ensures settled { Does D.replies (tasks self.old.due) (asker_of self.old) out.old (tasks self.new.due) (asker_of self.new) out.new }
+        ensures same { self.new.session ≡ self.old.session }
         ensures unchanged { result ≡ false → (self.new ≡ self.old) × (out.new ≡ out.old) }
         ensures none { self.old.due ≡ [] → result ≡ false }
+        ensures none_ended { D.ended desk.new ≡ D.ended desk.old }
     {
-        settle(
-            alloc,
-            self.who,
-            &mut self.dues,
-            &mut self.expecting,
-            desk,
-            out,
-        )
+        settle(alloc, &mut self.dues, &mut self.asker, desk, out)
     }
 }

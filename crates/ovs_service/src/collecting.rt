@@ -1,13 +1,13 @@
-//! What the authority owes a reader is collected.
-ghost use Rattle.std.specs.Prelude.{◌≡◌, ◌++◌, List, map};
-ghost use Rattle.std.specs.List.{AllByRecursion};
-ghost use Rattle.ovs_wire.specs.declared.message.Message.{Message};
-ghost use Rattle.ovs_service.specs.declared.due.Due.TheVariants.{Say};
-ghost use Rattle.ovs_service.specs.Replies.{IsOwed};
+//! What the authority owes a session is collected.
+ghost use Rattle.std.specs.Prelude.{◌≡◌, Ok, true, false};
+ghost use Rattle.ovs_service.specs.Asking.{HasNothingMore};
+ghost use Rattle.ovs_service.specs.Deeds.{Collects};
 
+use crate::adding::{add, make_room};
+use crate::asker::Asker;
 use crate::desk::Desk;
 use crate::due::Due;
-use crate::expecting::Expecting;
+use ovs_json::NoMemory;
 use ovs_views::{NodeName, View, ViewSession};
 use std::alloc::Global;
 use std::collections::VecDeque;
@@ -15,59 +15,56 @@ use std::collections::VecDeque;
 /// So many messages at most are collected in a call.
 const MOST_COLLECTED: u32 = 64;
 
-// Collects a message, behind what is due. `false` where nothing may be owed, nothing is, or there is no memory.
+// Collects a message, behind what is due. `false` where nothing may be owed, or nothing is. After `NoMemory` nothing was given.
 fn collect_one<K: NodeName, D: Desk<K>>(
     alloc: Global,
-    who: u64,
     is_held_back: bool,
     view: &mut View<K>,
     session: &ViewSession<K>,
     dues: &mut VecDeque<Due>,
-    expecting: &mut Expecting,
+    asker: &mut Asker,
     desk: &mut D,
-) -> bool
-    ensures given { (given : List Message) × AllByRecursion (IsOwed (D.owes is_held_back who session.now.last)) given × (dues.new.items ≡ dues.old.items ++ map Say given) }
+) -> Result<bool, NoMemory>
+    ensures collected { Collects (λ who. D.owes is_held_back who session.now.last) is_held_back dues.old.items asker.old dues.new.items asker.new }
+    ensures nothing { result ≡ Ok false → HasNothingMore asker.new.calls }
+    ensures view { view.new ≡ view.old }
+    ensures none_ended { D.ended desk.new ≡ D.ended desk.old }
 {
-    if !expecting.may_be_owed() || dues.reserve(1).is_err() {
-        return false;
+    if !asker.may_be_owed() {
+        return Ok(false);
     }
-    match desk.collect(alloc, who, is_held_back, view, session) {
-        Ok(Some(message)) => {
-            expecting.note_collected(&message);
-            dues.push_back_reserved(Due::Say(message));
-            true
+    make_room(dues, 1)?;
+    match desk.collect(alloc, asker, is_held_back, view, session)? {
+        Some(message) => {
+            add(dues, Some(Due::Say(message)));
+            Ok(true)
         }
-        _ => false,
+        None => Ok(false),
     }
 }
 
 /// Collects what the authority owes a session, behind what is due: at most 64 messages, as far as memory allows, and where answers
-/// are held back as far as what they stand for was shown to the session.
+/// are held back as far as what they stand for was shown to the session. `true` only where nothing more is owed now.
 pub(crate) fn collect<K: NodeName, D: Desk<K>>(
     alloc: Global,
-    who: u64,
     is_held_back: bool,
     view: &mut View<K>,
     session: &ViewSession<K>,
     dues: &mut VecDeque<Due>,
-    expecting: &mut Expecting,
+    asker: &mut Asker,
     desk: &mut D,
-)
-    ensures { (given : List Message) × AllByRecursion (IsOwed (D.owes is_held_back who session.now.last)) given × (dues.new.items ≡ dues.old.items ++ map Say given) }
+) -> bool
+    ensures collected { Collects (λ who. D.owes is_held_back who session.now.last) is_held_back dues.old.items asker.old dues.new.items asker.new }
+    ensures nothing { result ≡ true → HasNothingMore asker.new.calls }
+    ensures view { view.new ≡ view.old }
+    ensures none_ended { D.ended desk.new ≡ D.ended desk.old }
 {
     for _collected in 0..MOST_COLLECTED {
-        let is_more = collect_one(
-            alloc,
-            who,
-            is_held_back,
-            view,
-            session,
-            dues,
-            expecting,
-            desk,
-        );
-        if !is_more {
-            break;
+        match collect_one(alloc, is_held_back, view, session, dues, asker, desk) {
+            Ok(true) => {}
+            Ok(false) => return true,
+            Err(NoMemory) => return false,
         }
     }
+    false
 }

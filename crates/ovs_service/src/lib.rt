@@ -3,21 +3,20 @@
 #![tactic(auto)]
 
 mod adding;
+mod asker;
 mod client;
 mod collecting;
 mod desk;
 mod due;
-mod expecting;
 mod laws;
 mod saying;
 mod service;
-mod serving;
 mod settling;
 mod sole;
 
+pub use asker::{Asker, DeskCall};
 pub use client::Client;
 pub use desk::Desk;
 pub use laws::{answers_come_behind_what_they_stand_for, reader_laws};
 pub use service::NodeService;
-pub use serving::{Served, serve_reader};
 pub use sole::{Sole, copy_ask};

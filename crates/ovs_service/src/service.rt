@@ -1,13 +1,16 @@
 //! A node serves its readers.
-ghost use Rattle.std.specs.Prelude.{◌≡◌, ◌++◌, ℕ, List, IfOk, OnOk, OnErr, Err};
+ghost use Rattle.std.specs.Prelude.{◌≡◌, ◌++◌, ◌∷◌, [], ℕ, List, Contains, Ok, Err, true, false, IfOk, OnOk, OnErr};
 ghost use mathlib.Core.List.{IsPrefix};
 ghost use Rattle.ovs_wire.specs.Message.{Says};
-ghost use Rattle.ovs_service.specs.Client.{new_client, SaysNothing, AnswersTo, TellsNew, MayAsk, IsAnswered};
+ghost use Rattle.ovs_links.specs.declared.step.Step.{Step};
+ghost use Rattle.ovs_service.specs.Calls.{IsAllTold};
+ghost use Rattle.ovs_service.specs.Client.{new_client, SaysNothing, AnswersFrom, AnswersTo, TellsOf, TellsNew, MayAsk, IsAnswered, HasAll, Hears, IsTold, ClientValue};
 
+use crate::asker::Asker;
 use crate::client::Client;
 use crate::desk::Desk;
 use ovs_hall::Host;
-use ovs_session::{Outbox, Refusal, Service};
+use ovs_session::{Outbox, Pace, Refusal, Service};
 use ovs_views::{NodeName, Told, View};
 use ovs_wire::{Message, MessageError};
 use std::alloc::Global;
@@ -16,11 +19,23 @@ use std::alloc::Global;
 fn read(alloc: Global, text: &[u8]) -> Result<Message, Refusal>
     ensures says { IfOk result (Says text.now) }
     ensures bad { result ≡ Err Refusal.BadInput → SaysNothing text.now }
+    ensures never_gone { result ≡ Err Refusal.Gone → ⊥ }
 {
     match Message::read(alloc, text) {
         Ok(message) => Ok(message),
         Err(MessageError::NoMemory) => Err(Refusal::NoMemory),
         Err(_) => Err(Refusal::BadInput),
+    }
+}
+
+// Whether a session is to be told more, where this was all that is new, or wasn't.
+fn pace_of<K: NodeName>(is_all: bool, client: &Client<K>) -> Pace
+    ensures all { result ≡ Pace.Idle → (is_all ≡ true) × (client.now.due ≡ []) }
+{
+    if is_all && client.is_settled() {
+        Pace::Idle
+    } else {
+        Pace::Busy
     }
 }
 
@@ -30,6 +45,8 @@ pub struct NodeService<K: NodeName, D: Desk<K>> {
     alloc: Global,
     view: View<K>,
     desk: D,
+    // The view said that what is published can't be read any more.
+    is_gone: bool,
 }
 
 impl<K: NodeName, D: Desk<K>> NodeService<K, D> {
@@ -37,8 +54,14 @@ impl<K: NodeName, D: Desk<K>> NodeService<K, D> {
     pub fn new(alloc: Global, view: View<K>, desk: D) -> NodeService<K, D>
         ensures view { result.view ≡ view }
         ensures desk { result.desk ≡ desk }
+        ensures here { result.is_gone ≡ false }
     {
-        NodeService { alloc, view, desk }
+        NodeService {
+            alloc,
+            view,
+            desk,
+            is_gone: false,
+        }
     }
 
     /// Its view and its authority.
@@ -50,15 +73,17 @@ impl<K: NodeName, D: Desk<K>> NodeService<K, D> {
             alloc: _,
             view,
             desk,
+            is_gone: _,
         } = self;
         (view, desk)
     }
 
-    /// A reader of which nothing was heard yet, which is shown no less than what the view knows.
+    /// A reader of which nothing was heard yet, which is shown no less than what the view knows. The authority knows it by this
+    /// number, which is to be one that no other reader has or had.
     pub fn client(&self, who: u64) -> Client<K>
         ensures value { result ≡ new_client who self.now.view }
     {
-        Client::new(self.alloc, who, self.view.known())
+        Client::new(self.alloc, Asker::new(who), self.view.known())
     }
 
     /// From now on readers are shown no less than this.
@@ -66,21 +91,54 @@ impl<K: NodeName, D: Desk<K>> NodeService<K, D> {
         ensures kept { IsPrefix self.old.view self.new.view }
         ensures told { IsPrefix told.now self.new.view }
         ensures desk { self.new.desk ≡ self.old.desk }
+        ensures gone { self.new.is_gone ≡ self.old.is_gone }
     {
         self.view.learn(told);
     }
 
-    // Tells what its monitors show, as much as one call tells, and where that is all what the authority owes it. After a refusal
-    // nothing has changed.
-    fn tell_new(&mut self, client: &mut Client<K>, out: &mut Outbox) -> Result<(), Refusal>
-        ensures told { OnOk result ((said : List ℕ) × TellsNew K.schema D.replies D.owes client.old said client.new × (out.new ≡ out.old ++ said)) }
+    // Hears a message, and notes where the view is gone. After a refusal nothing has changed of the client.
+    fn hear(&mut self, client: &mut Client<K>, message: Message) -> Result<(), Refusal>
+        ensures heard { OnOk result (Hears K.schema self.new.view message client.old client.new) }
+        ensures unchanged { OnErr result (client.new ≡ client.old) }
+        ensures never_bad { result ≡ Err Refusal.BadInput → ⊥ }
+        ensures gone { result ≡ Err Refusal.Gone → self.new.is_gone ≡ true }
+        ensures desk { self.new.desk ≡ self.old.desk }
+    {
+        let heard = client.hear(self.alloc, &mut self.view, message);
+        self.is_gone = matches!(heard, Err(Refusal::Gone));
+        heard
+    }
+
+    // What monitors tell in one call is due then, and it is noted where the view is gone. After a refusal nothing has changed of the
+    // client.
+    fn pump(&mut self, client: &mut Client<K>) -> Result<bool, Refusal>
+        ensures told { OnOk result (IsTold K.schema self.new.view client.old client.new) }
+        ensures all { IfOk result (λ is_all. is_all ≡ true → IsAllTold client.new.session) }
+        ensures unchanged { OnErr result (client.new ≡ client.old) }
+        ensures never_bad { result ≡ Err Refusal.BadInput → ⊥ }
+        ensures gone { result ≡ Err Refusal.Gone → self.new.is_gone ≡ true }
+        ensures desk { self.new.desk ≡ self.old.desk }
+    {
+        let is_all_told = client.pump(self.alloc, &mut self.view);
+        self.is_gone = matches!(is_all_told, Err(Refusal::Gone));
+        is_all_told
+    }
+
+    // Tells what its monitors show, as much as one call tells, and where that is all what the authority owes it. It is idle only
+    // where nothing more is to be told now. After a refusal nothing has changed of the client.
+    fn tell_new(&mut self, client: &mut Client<K>, out: &mut Outbox) -> Result<Pace, Refusal>
+        requires settled { client.old.due ≡ [] }
+        ensures told { OnOk result ((said : List ℕ) × TellsOf K.schema D.replies D.owes self.new.view client.old said client.new × (out.new ≡ out.old ++ said)) }
+        ensures all { result ≡ Ok Pace.Idle → HasAll self.new.view client.new }
         ensures unchanged { OnErr result ((client.new ≡ client.old) × (out.new ≡ out.old)) }
         ensures never_bad { result ≡ Err Refusal.BadInput → ⊥ }
+        ensures gone { result ≡ Err Refusal.Gone → self.new.is_gone ≡ true }
+        ensures none_ended { D.ended self.new.desk ≡ D.ended self.old.desk }
     {
-        let is_all_told = client.pump(self.alloc, &mut self.view)?;
-        client.collect(self.alloc, is_all_told, &mut self.view, &mut self.desk);
+        let is_all_told = self.pump(client)?;
+        let is_all = client.collect(self.alloc, is_all_told, &mut self.view, &mut self.desk);
         client.settle(self.alloc, &mut self.desk, out);
-        Ok(())
+        Ok(pace_of(is_all, client))
     }
 }
 
@@ -93,9 +151,15 @@ impl<K: NodeName, D: Desk<K>> Service for NodeService<K, D> {
 
     ghost refuses = { λ _ text. SaysNothing text };
 
-    ghost may_answer = { λ _ client. MayAsk client };
+    ghost may_answer = { λ client. MayAsk client };
 
-    ghost is_answered = { λ _ client. IsAnswered client };
+    ghost is_answered = { λ client. IsAnswered client };
+
+    ghost is_told = { λ service client. HasAll service.view client };
+
+    ghost may_tell = { λ _ _. Unit {0} };
+
+    ghost is_gone = { λ service. service.is_gone ≡ true };
 
     // A message is taken where nothing is due and fewer than 128 asks wait for their replies.
     fn takes(&self, client: &Client<K>) -> bool {
@@ -106,42 +170,77 @@ impl<K: NodeName, D: Desk<K>> Service for NodeService<K, D> {
         client.awaits()
     }
 
-    /// Answers a message. What can't be said for want of memory stays due, and is said before all that comes after it.
+    /// Answers a message from what the view shows. What can't be said for want of memory stays due, and is said before all that
+    /// comes after it.
     ///
-    /// `BadInput` where the text says no message.
+    /// `BadInput` where the text says no message; `Gone` where the view is gone, and from then on.
     fn answer(
         &mut self,
         client: &mut Client<K>,
         text: &[u8],
         out: &mut Outbox,
-    ) -> Result<(), Refusal> {
+    ) -> Result<(), Refusal>
+        ensures ok { OnOk result ((said : List ℕ) × AnswersTo K.schema D.replies D.owes client.old text.now said client.new × (out.new ≡ out.old ++ said)) }
+        ensures err { OnErr result ((client.new ≡ client.old) × (out.new ≡ out.old)) }
+        ensures bad { result ≡ Err Refusal.BadInput → SaysNothing text.now }
+        ensures gone { result ≡ Err Refusal.Gone → self.new.is_gone ≡ true }
+        ensures shown { OnOk result ((said : List ℕ) × AnswersFrom K.schema D.replies D.owes self.new.view client.old text.now said client.new × (out.new ≡ out.old ++ said)) }
+        ensures still_gone { self.old.is_gone ≡ true → result ≡ Err Refusal.Gone }
+        ensures none_ended { D.ended self.new.desk ≡ D.ended self.old.desk }
+    {
+        if self.is_gone {
+            return Err(Refusal::Gone);
+        }
         let message = read(self.alloc, text)?;
-        client.hear(self.alloc, &mut self.view, message)?;
+        self.hear(client, message)?;
         client.settle(self.alloc, &mut self.desk, out);
         Ok(())
     }
 
-    /// Says what is due, and then what the client's monitors tell and what the authority owes it.
-    fn tell(&mut self, client: &mut Client<K>, out: &mut Outbox) -> Result<(), Refusal> {
+    /// Says what is due, and then what the client's monitors tell of what the view shows, and what the authority owes it. It is busy
+    /// where that is cut short: by the bounds of a call, or since memory ran out after something was done.
+    ///
+    /// `NoMemory` where memory ran out before something was done; `Gone` where the view is gone, and from then on.
+    fn tell(&mut self, client: &mut Client<K>, out: &mut Outbox) -> Result<Pace, Refusal>
+        ensures ok { OnOk result ((said : List ℕ) × TellsNew K.schema D.replies D.owes client.old said client.new × (out.new ≡ out.old ++ said)) }
+        ensures err { OnErr result ((client.new ≡ client.old) × (out.new ≡ out.old)) }
+        ensures bad { result ≡ Err Refusal.BadInput → ⊥ }
+        ensures told { result ≡ Ok Pace.Idle → HasAll self.new.view client.new }
+        ensures more { result ≡ Ok Pace.Busy → Unit {0} }
+        ensures gone { result ≡ Err Refusal.Gone → self.new.is_gone ≡ true }
+        ensures shown { OnOk result ((said : List ℕ) × TellsOf K.schema D.replies D.owes self.new.view client.old said client.new × (out.new ≡ out.old ++ said)) }
+        ensures still_gone { self.old.is_gone ≡ true → result ≡ Err Refusal.Gone }
+        ensures none_ended { D.ended self.new.desk ≡ D.ended self.old.desk }
+    {
+        if self.is_gone {
+            return Err(Refusal::Gone);
+        }
         let is_changed = client.settle(self.alloc, &mut self.desk, out);
         if !client.is_settled() {
             return if is_changed {
-                Ok(())
+                Ok(Pace::Busy)
             } else {
                 Err(Refusal::NoMemory)
             };
         }
         match self.tell_new(client, out) {
-            Err(_) if is_changed => Ok(()),
-            told => told,
+            Ok(pace) => Ok(pace),
+            Err(_) if is_changed => Ok(Pace::Busy),
+            Err(refusal) => Err(refusal),
         }
     }
 }
 
 impl<K: NodeName, D: Desk<K>> Host for NodeService<K, D> {
-    ghost is_silent = { λ service client. D.is_silent service.desk client.who };
+    ghost begins = { λ client. (who : ℕ) × (last : List Step) × (client ≡ new_client who last) };
 
-    fn end(&mut self, client: Client<K>) {
-        self.desk.end_session(client.who());
+    ghost is_silent = { λ service client. Contains (D.ended service.desk) client.who };
+
+    fn end(&mut self, client: &Client<K>)
+        ensures silent { Contains (D.ended self.new.desk) client.now.who }
+        ensures stays { (other : ClientValue) → Contains (D.ended self.old.desk) other.who → Contains (D.ended self.new.desk) other.who }
+        ensures ended { D.ended self.new.desk ≡ D.ended self.old.desk ++ client.now.who ∷ [] }
+    {
+        self.desk.end_session(client.asker());
     }
 }

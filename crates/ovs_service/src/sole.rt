@@ -1,11 +1,15 @@
 //! An authority that is reached without a lock.
-ghost use Rattle.std.specs.Prelude.{◌≡◌, IfOk, IfSome, OnErr};
+ghost use Rattle.std.specs.Prelude.{◌≡◌, ◌<◌, ◌++◌, ◌∷◌, [], IfOk, IfSome, OnErr};
 ghost use Rattle.ovs_authority.specs.Owing.{AsksTo, CollectsTo, IsSame, silent};
 ghost use Rattle.ovs_reader.specs.Answers.{seen_verb};
+ghost use Rattle.ovs_service.specs.declared.asker.DeskCall.TheVariants as calls;
+ghost use Rattle.ovs_service.specs.Asking.{with_calls, most_unanswered, without_reply};
 ghost use Rattle.ovs_service.specs.Replies.{RepliesTo, IsAnswer, seen_ask};
 
+use crate::asker::Asker;
 use crate::desk::Desk;
 use ovs_authority::{Ask, Authority, Verb};
+use ovs_history::GhostList;
 use ovs_json::NoMemory;
 use ovs_views::{NodeName, View, ViewSession};
 use ovs_wire::Message;
@@ -39,21 +43,30 @@ pub fn copy_ask(ask: &Ask) -> Result<Ask, NoMemory>
 /// An authority that nobody else calls.
 pub struct Sole<A: Authority> {
     authority: A,
+    // The numbers of the sessions that were ended.
+    ended: GhostList<u64>,
 }
 
 impl<A: Authority> Sole<A> {
     /// This authority.
     pub fn new(authority: A) -> Sole<A>
         ensures value { result.authority ≡ authority }
+        ensures none_ended { result.ended ≡ [] }
     {
-        Sole { authority }
+        Sole {
+            authority,
+            ended: GhostList::new(),
+        }
     }
 
     /// The authority.
     pub fn into_inner(self) -> A
         ensures value { result ≡ self.authority }
     {
-        let Sole { authority } = self;
+        let Sole {
+            authority,
+            ended: _,
+        } = self;
         authority
     }
 }
@@ -63,15 +76,26 @@ impl<K: NodeName, A: Authority> Desk<K> for Sole<A> {
 
     ghost owes = { λ _ _ _ message. IsAnswer message };
 
-    ghost is_silent = { λ sole who. A.owing sole.authority who ≡ silent };
+    ghost ended = { λ sole. sole.ended };
 
-    fn ask(&mut self, alloc: Global, who: u64, ask: &Ask) -> Result<Option<Message>, NoMemory>
+    fn ask(
+        &mut self,
+        alloc: Global,
+        asker: &mut Asker,
+        ask: &Ask,
+    ) -> Result<Option<Message>, NoMemory>
+        requires room { without_reply asker.old.calls < most_unanswered }
         ensures replied { IfOk result (λ r. RepliesTo ask.now.id r × RepliesTo ask.now.id r) }
-        ensures asked { IfOk result (λ r. AsksTo (A.owing self.old.authority who) ask.now.id r (A.owing self.new.authority who)) }
-        ensures unchanged { OnErr result (IsSame (A.owing self.old.authority) (A.owing self.new.authority)) }
+        ensures asked { IfOk result (λ r. asker.new ≡ with_calls asker.old (calls.Asked ask.now r ∷ [])) }
+        ensures unchanged { OnErr result (asker.new ≡ asker.old) }
+        ensures none_ended { self.new.ended ≡ self.old.ended }
+        ensures once { IfOk result (λ r. AsksTo (A.owing self.old.authority asker.old.who) ask.now.id r (A.owing self.new.authority asker.old.who)) }
+        ensures nothing { OnErr result (IsSame (A.owing self.old.authority) (A.owing self.new.authority)) }
     {
-        let ask = copy_ask(ask)?;
-        self.authority.ask(alloc, who, ask)
+        let copy = copy_ask(ask)?;
+        let reply = self.authority.ask(alloc, asker.who(), copy)?;
+        asker.note_asked(ask, &reply);
+        Ok(reply)
     }
 
     // What it gives it gives at once: an authority that nobody else calls says what stands behind its answers.
@@ -82,19 +106,30 @@ impl<K: NodeName, A: Authority> Desk<K> for Sole<A> {
     fn collect(
         &mut self,
         alloc: Global,
-        who: u64,
-        _is_held_back: bool,
+        asker: &mut Asker,
+        is_held_back: bool,
         _view: &mut View<K>,
         _session: &ViewSession<K>,
     ) -> Result<Option<Message>, NoMemory>
         ensures given { IfOk result (λ r. IfSome r (λ m. IsAnswer m × IsAnswer m)) }
-        ensures collected { IfOk result (λ r. CollectsTo (A.owing self.old.authority who) r (A.owing self.new.authority who)) }
-        ensures unchanged { OnErr result (IsSame (A.owing self.old.authority) (A.owing self.new.authority)) }
+        ensures collected { IfOk result (λ r. asker.new ≡ with_calls asker.old (calls.Collected is_held_back r ∷ [])) }
+        ensures unchanged { OnErr result (asker.new ≡ asker.old) }
+        ensures view { _view.new ≡ _view.old }
+        ensures none_ended { self.new.ended ≡ self.old.ended }
+        ensures once { IfOk result (λ r. CollectsTo (A.owing self.old.authority asker.old.who) r (A.owing self.new.authority asker.old.who)) }
+        ensures nothing { OnErr result (IsSame (A.owing self.old.authority) (A.owing self.new.authority)) }
     {
-        self.authority.collect(alloc, who)
+        let message = self.authority.collect(alloc, asker.who())?;
+        asker.note_collected(is_held_back, &message);
+        Ok(message)
     }
 
-    fn end_session(&mut self, who: u64) {
+    fn end_session(&mut self, asker: &Asker)
+        ensures ended { self.new.ended ≡ self.old.ended ++ asker.now.who ∷ [] }
+        ensures silent { A.owing self.new.authority asker.now.who ≡ silent }
+    {
+        let who = asker.who();
         self.authority.end_session(who);
+        self.ended.push(&who);
     }
 }

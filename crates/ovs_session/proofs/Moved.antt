@@ -142,6 +142,7 @@ module _ {C : Type 0} (answers : C → List ℕ → List ℕ → C → Type 0) (
     served = served_fed answers tells a b h;
     bounded = inl (subst (λ (l : List ℕ). length l ≤ length a.unsent) (sym (ap (λ z. z.unsent) h.2)) (le_same a.unsent));
     same_end = ap (λ z. z.is_at_end) h.2;
+    same_turns = ap (λ z. z.counts.turns) h.2;
   })
 
   -- why it has ended is noted
@@ -150,6 +151,7 @@ module _ {C : Type 0} (answers : C → List ℕ → List ℕ → C → Type 0) (
     served = served_noted answers tells a b e is;
     bounded = inl (subst (λ (l : List ℕ). length l ≤ length a.unsent) (sym (ap (λ z. z.unsent) is)) (le_same a.unsent));
     same_end = ap (λ z. z.is_at_end) is;
+    same_turns = ap (λ z. z.counts.turns) is;
   })
 
   -- where nothing has happened, what is the same at the beginning

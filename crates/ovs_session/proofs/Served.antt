@@ -241,11 +241,12 @@ module _ {C : Type 0} (answers : C → List ℕ → List ℕ → C → Type 0) (
     served = served_more a b c [] [] [] [] p.served q.served;
     bounded = bounded_more limit a b c p.bounded q.bounded;
     same_end = q.same_end ∙ p.same_end;
+    same_turns = q.same_turns ∙ p.same_turns;
   }
 
   pub worked_still : (limit : ℕ) (a b : SessionValue C) → b ≡ a → Worked answers tells limit a b
   worked_still limit a b e = subst (λ (z : SessionValue C). Worked answers tells limit a z) (sym e)
-      (record { served = served_still a; bounded = inl (le_refl (length a.unsent)); same_end = refl })
+      (record { served = served_still a; bounded = inl (le_refl (length a.unsent)); same_end = refl; same_turns = refl })
 
   pub worked_hold : (limit : ℕ) (a b : SessionValue C) → (b ≡ a) ⊎ Holds a b → Worked answers tells limit a b
   worked_hold limit a b (inl e) = worked_still limit a b e
@@ -253,6 +254,7 @@ module _ {C : Type 0} (answers : C → List ℕ → List ℕ → C → Type 0) (
     served = served_held a b h;
     bounded = same_unsent limit a b (ap (λ z. z.unsent) h.now);
     same_end = ap (λ z. z.is_at_end) h.now;
+    same_turns = ap (λ z. z.counts.turns) h.now;
   }
 
   pub answered_at : (limit : ℕ) (v a b : SessionValue C) (m t : List ℕ) (c : C) → v ≡ a → v.held ≡ Some m → answers v.core m t c
@@ -262,6 +264,7 @@ module _ {C : Type 0} (answers : C → List ℕ → List ℕ → C → Type 0) (
         served = served_answered v b m t c held p e;
         bounded = inr (t, (Answered m t, v.core, c, p, append_nil t), subst (λ (l : List ℕ). length l < limit + length t) (ap (λ z. z.unsent) (sym e)) (below_and limit 0 v.unsent t short));
         same_end = ap (λ z. z.is_at_end) e;
+        same_turns = ap (λ z. z.counts.turns) e;
       }) below
 
   pub told_at : (limit : ℕ) (v a b : SessionValue C) (t : List ℕ) (c : C) → v ≡ a → tells v.core t c
@@ -271,6 +274,7 @@ module _ {C : Type 0} (answers : C → List ℕ → List ℕ → C → Type 0) (
         served = served_told v b t c p e;
         bounded = inr (t, (Told t, v.core, c, p, append_nil t), subst (λ (l : List ℕ). length l < limit + length t) (ap (λ z. z.unsent) (sym e)) (below_and limit 0 v.unsent t short));
         same_end = ap (λ z. z.is_at_end) e;
+        same_turns = ap (λ z. z.counts.turns) e;
       }) below
 
   pub still_at : (limit : ℕ) (v a b : SessionValue C) → v ≡ a → b ≡ v → Worked answers tells limit a b

@@ -125,3 +125,4 @@ module _ {C : Type 0} (answers : C → List ℕ → List ℕ → C → Type 0) (
     pub served : Served old [] [] new
     pub bounded : IsBounded limit old new
     pub same_end : new.is_at_end ≡ old.is_at_end
+    pub same_turns : new.counts.turns ≡ old.counts.turns

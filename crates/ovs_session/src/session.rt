@@ -1,10 +1,12 @@
 //! A session: bytes in, texts out.
-ghost use Rattle.std.specs.Prelude.{◌≡◌, ◌≤◌, ◌+◌, ◌⊎◌, ◌||◌, ◌++◌, ◌↔◌, ℕ, List, [], Some, None, Ok, Err, Bool, true, false, IsTrue, IfErr, IfOk, OnOk, OnErr, length, vec_len, vec_capacity};
+ghost use Rattle.std.specs.Prelude.{◌≡◌, ◌≤◌, ◌<◌, ◌+◌, ◌⊎◌, ◌||◌, ◌++◌, ◌↔◌, ℕ, List, [], Some, None, Ok, Err, Bool, true, false, IsTrue, IfErr, IfOk, OnOk, OnErr, length, vec_len, vec_capacity};
 ghost use Rattle.std.specs.Io.KnownBytes.{Consumes, Appends, IsAtEnd};
+ghost use Rattle.ovs_wire.specs.Counted.{one_more};
 ghost use Rattle.ovs_wire.specs.Framing.{Framing, Feeds};
 ghost use Rattle.ovs_session.specs.Counting.{HasCalled, HasWritten};
 ghost use Rattle.ovs_session.specs.Moving.{is_end, is_fault, ended_by};
 ghost use Rattle.ovs_session.specs.Serving.{SessionValue, Holds, fresh};
+ghost use Rattle.ovs_session.specs.Turning.{IsCalled, IsUncalled, CountsFault};
 
 mod answering;
 
@@ -17,7 +19,7 @@ use crate::reading::Reading;
 use crate::reserved::append_reserved;
 pub(crate) use answering::{answer_held, tell_new};
 use ovs_json::NoMemory;
-use ovs_wire::is_passing;
+use ovs_wire::{Counted, is_passing};
 use std::alloc::Global;
 use std::io::{ErrorKind, Read, Write};
 use std::marker::Model;
@@ -26,13 +28,15 @@ use std::marker::Model;
 const READ_BYTES: usize = 4096;
 
 // Reads once, behind bytes that have the room for it.
-fn read_behind<R: Read>(bytes: &mut Vec<u8>, reader: &mut R) -> Result<Came, Ended>
+fn read_behind<R: Read>(bytes: &mut Vec<u8>, reader: &mut Counted<R>) -> Result<Came, Ended>
     requires room { vec_len bytes.old + 4096 ≤ vec_capacity bytes.old }
-    ensures read { (came : List ℕ) × Consumes (R.remaining reader.old) (R.remaining reader.new) came
+    ensures read { (came : List ℕ) × Consumes (R.remaining reader.old.device) (R.remaining reader.new.device) came
         × (bytes.new.items ≡ bytes.old.items ++ came) }
-    ensures end { IfOk result (λ came. is_end came ≡ true → IsAtEnd (R.remaining reader.new)) }
+    ensures end { IfOk result (λ came. is_end came ≡ true → IsAtEnd (R.remaining reader.new.device)) }
     ensures nothing { result ≡ Ok Came.Nothing → bytes.new.items ≡ bytes.old.items }
     ensures fault { IfErr result (λ e. e ≡ Ended.ReadFault) }
+    ensures called { reader.new.calls ≡ one_more reader.old.calls }
+    ensures faults { CountsFault Ended.ReadFault result reader.old.failures reader.new.failures }
 {
     let mut piece = [0u8; READ_BYTES];
     match reader.read(&mut piece) {
@@ -186,13 +190,16 @@ impl<C> Session<C> {
     /// Reads once, into the bytes that are to be fed.
     ///
     /// `ReadFault` where the read failed. `NoMemory`: nothing was read.
-    pub(crate) fn read_once<R: Read>(&mut self, reader: &mut R) -> Result<Came, Ended>
-        ensures read { (came : List ℕ) × Consumes (R.remaining reader.old) (R.remaining reader.new) came
+    pub(crate) fn read_once<R: Read>(&mut self, reader: &mut Counted<R>) -> Result<Came, Ended>
+        ensures read { (came : List ℕ) × Consumes (R.remaining reader.old.device) (R.remaining reader.new.device) came
             × (self.new ≡ record self.old { unfed = self.old.unfed ++ came; counts = self.new.counts }) }
         ensures counted { HasCalled self.old.counts self.new.counts }
-        ensures end { IfOk result (λ came. is_end came ≡ true → IsAtEnd (R.remaining reader.new)) }
+        ensures end { IfOk result (λ came. is_end came ≡ true → IsAtEnd (R.remaining reader.new.device)) }
         ensures nothing { result ≡ Ok Came.Nothing → self.new.unfed ≡ self.old.unfed }
         ensures fault { IfErr result (λ e. (e ≡ Ended.ReadFault) ⊎ (e ≡ Ended.NoMemory)) }
+        ensures called { (result ≡ Err Ended.NoMemory → ⊥) → IsCalled reader.old reader.new self.old.counts self.new.counts }
+        ensures uncalled { result ≡ Err Ended.NoMemory → IsUncalled reader.old reader.new self.old.counts self.new.counts }
+        ensures faults { CountsFault Ended.ReadFault result reader.old.failures reader.new.failures }
     {
         if self.unfed.reserve(READ_BYTES).is_err() {
             return Err(Ended::NoMemory);
@@ -226,6 +233,7 @@ impl<C> Session<C> {
     pub(crate) fn hold(&mut self) -> Result<bool, NoMemory>
         ensures held { (self.new ≡ self.old) ⊎ Holds self.old self.new }
         ensures none { result ≡ Ok false → (self.new ≡ self.old) × (self.old.held ≡ None) × (self.old.framing.waiting ≡ []) }
+        ensures some { result ≡ Ok true → (message : List ℕ) × (self.new.held ≡ Some message) }
     {
         if self.held.is_some() {
             return Ok(true);
@@ -244,13 +252,16 @@ impl<C> Session<C> {
     /// Writes once. Whether bytes passed.
     ///
     /// `WriteFault`, its only error.
-    pub(crate) fn write_once<W: Write>(&mut self, writer: &mut W) -> Result<bool, Ended>
-        ensures written { (went rest : List ℕ) × Appends (W.contents writer.old) (W.contents writer.new) went
+    pub(crate) fn write_once<W: Write>(&mut self, writer: &mut Counted<W>) -> Result<bool, Ended>
+        ensures written { (went rest : List ℕ) × Appends (W.contents writer.old.device) (W.contents writer.new.device) went
             × (self.old.unsent ≡ went ++ rest)
             × (self.new ≡ record self.old { unsent = rest; counts = self.new.counts })
             × HasWritten (length went) self.old.counts self.new.counts }
         ensures nothing { result ≡ Ok false → self.new.unsent ≡ self.old.unsent }
+        ensures some { result ≡ Ok true → length self.new.unsent < length self.old.unsent }
         ensures fault { IfErr result (λ e. e ≡ Ended.WriteFault) }
+        ensures called { IsCalled writer.old writer.new self.old.counts self.new.counts }
+        ensures faults { CountsFault Ended.WriteFault result writer.old.failures writer.new.failures }
     {
         self.counts.add_turn();
         let count = self.outbox.write_once(writer)?;

@@ -1,14 +1,17 @@
 //! The steps of a turn.
-ghost use Rattle.std.specs.Prelude.{◌≡◌, ◌<◌, ◌⊎◌, ℕ, List, [], Option, Some, None, Ok, Err, true, false, IfErr, OnOk, length};
+ghost use Rattle.std.specs.Prelude.{◌≡◌, ◌<◌, ◌≤◌, ◌⊎◌, ℕ, List, [], Option, Some, None, Ok, Err, true, false, IfErr, IfOk, IsOkAnd, OnOk, length};
 ghost use Rattle.ovs_session.specs.Counting.{SpendsAtMost};
 ghost use Rattle.ovs_session.specs.Moving.{Moved, IsBad, IsRefusal, is_fault};
 ghost use Rattle.ovs_session.specs.Serving.{Worked, Waits, IsDone, IsIdle};
+ghost use Rattle.ovs_session.specs.Turning.{IsCalled, IsUncalled, CountsFault, IsExchange, HasPassed, HasAnswered, with_devices};
+ghost use Rattle.ovs_session.specs.Working.{MayGoOn, GoesOn};
 
 use crate::came::Came;
 use crate::ended::Ended;
 use crate::limits::{Limits, Pace};
 use crate::service::Service;
 use crate::session::{Session, answer_held, tell_new};
+use ovs_wire::Counted;
 use std::io::{Read, Write};
 
 /// What is left of the messages at hand once a turn has answered those that it may.
@@ -22,6 +25,8 @@ pub(crate) enum Left {
     Untaken,
     /// One that the service refuses, before which something was asked that is still to come.
     Refused,
+    /// Maybe some, and the service has more to tell.
+    Untold,
 }
 
 /// Answers messages, while the service takes them and what waits to be written is below the limit.
@@ -35,7 +40,10 @@ pub(crate) fn answer_all<S: Service>(
     ensures spent { SpendsAtMost 0 limits.messages session.old.counts session.new.counts }
     ensures refused { IfErr result (λ e. IsRefusal e) }
     ensures bad { result ≡ Err Ended.BadInput → (m : List ℕ) × (session.new.held ≡ Some m) × S.refuses session.new.core m }
-    ensures never_refused { result ≡ Ok Left.Refused → ⊥ }
+    ensures never { (result ≡ Ok Left.Refused → ⊥) × (result ≡ Ok Left.Untold → ⊥) }
+    ensures more { result ≡ Ok Left.More → (0 < length session.new.unsent) ⊎ HasAnswered session.old session.new }
+    ensures untaken { result ≡ Ok Left.Untaken → S.may_answer session.new.core → ⊥ }
+    ensures gone { result ≡ Err Ended.Gone → S.is_gone service.new }
 {
     for _answered in 0..limits.messages {
         if session.unsent() >= limits.most_unsent {
@@ -57,13 +65,19 @@ fn tell_below<S: Service>(
     session: &mut Session<S::Session>,
     service: &mut S,
     limits: Limits,
-) -> Result<(), Ended>
+) -> Result<Pace, Ended>
     ensures worked { Worked S.answers S.tells limits.most_unsent session.old session.new }
     ensures rest { session.new ≡ record session.old { core = session.new.core; unsent = session.new.unsent } }
     ensures refused { IfErr result (λ e. IsRefusal e × (e ≡ Ended.BadInput → ⊥)) }
+    ensures told { result ≡ Ok Pace.Idle → S.is_told service.new session.new.core ⊎ (0 < length session.new.unsent) }
+    ensures more { result ≡ Ok Pace.Busy → S.may_tell service.new session.new.core }
+    ensures grows { length session.old.unsent ≤ length session.new.unsent }
+    ensures some { OnOk result ((0 < length session.new.unsent) ⊎ ((said : List ℕ) × S.tells session.old.core said session.new.core)) }
+    ensures gone { result ≡ Err Ended.Gone → S.is_gone service.new }
 {
-    if limits.most_unsent <= session.unsent() {
-        return Ok(());
+    let is_full = limits.most_unsent <= session.unsent();
+    if is_full {
+        return Ok(Pace::Idle);
     }
     tell_new(session, service)
 }
@@ -80,18 +94,23 @@ pub(crate) fn answer_and_tell<S: Service>(
     ensures spent { SpendsAtMost 0 limits.messages session.old.counts session.new.counts }
     ensures refused { IfErr result (λ e. IsRefusal e) }
     ensures bad { result ≡ Err Ended.BadInput → (m : List ℕ) × (session.new.held ≡ Some m) × S.refuses session.new.core m }
-    ensures quiet { result ≡ Err Ended.BadInput → S.is_answered service.new session.new.core }
+    ensures quiet { result ≡ Err Ended.BadInput → S.is_answered session.new.core }
     ensures held { result ≡ Ok Left.Refused → (m : List ℕ) × (session.new.held ≡ Some m) }
+    ensures busy { IfOk result (λ left. MayGoOn S.tells S.may_answer S.is_answered (S.may_tell service.new) left session.old session.new) }
+    ensures told { IfOk result (λ left. (left ≡ Left.Untold) ⊎ S.is_told service.new session.new.core ⊎ (0 < length session.new.unsent)) }
+    ensures gone { result ≡ Err Ended.Gone → S.is_gone service.new }
 {
     match answer_all(session, service, limits) {
-        Ok(left) => {
-            tell_below(session, service, limits)?;
-            Ok(left)
-        }
+        Ok(left) => match tell_below(session, service, limits)? {
+            Pace::Idle => Ok(left),
+            Pace::Busy => Ok(Left::Untold),
+        },
         // What it asked before is answered first.
         Err(Ended::BadInput) if service.awaits(session.core()) => {
-            tell_below(session, service, limits)?;
-            Ok(Left::Refused)
+            match tell_below(session, service, limits)? {
+                Pace::Idle => Ok(Left::Refused),
+                Pace::Busy => Ok(Left::Untold),
+            }
         }
         Err(ended) => Err(ended),
     }
@@ -101,12 +120,15 @@ pub(crate) fn answer_and_tell<S: Service>(
 fn send<S: Service, W: Write>(
     session: &mut Session<S::Session>,
     _service: &S,
-    writer: &mut W,
+    writer: &mut Counted<W>,
 ) -> Result<Pace, Ended>
     requires some { 0 < length session.old.unsent }
     ensures moved { (limit : ℕ) (input : Option (List ℕ)) → Moved S.answers S.tells limit input input
-        (W.contents writer.old) (W.contents writer.new) session.old session.new }
+        (W.contents writer.old.device) (W.contents writer.new.device) session.old session.new }
     ensures idle { result ≡ Ok Pace.Idle → 0 < length session.new.unsent }
+    ensures busy { result ≡ Ok Pace.Busy → length session.new.unsent < length session.old.unsent }
+    ensures called { IsCalled writer.old writer.new session.old.counts session.new.counts }
+    ensures faults { CountsFault Ended.WriteFault result writer.old.failures writer.new.failures }
     ensures spent { SpendsAtMost 1 0 session.old.counts session.new.counts }
     ensures fault { IfErr result (λ e. e ≡ Ended.WriteFault) }
 {
@@ -121,11 +143,15 @@ fn send<S: Service, W: Write>(
 fn refill<S: Service, R: Read>(
     session: &mut Session<S::Session>,
     _service: &S,
-    reader: &mut R,
+    reader: &mut Counted<R>,
 ) -> Result<Pace, Ended>
     requires none { session.old.framing.waiting ≡ [] }
     ensures moved { (limit : ℕ) (output : Option (List ℕ)) → session.old.is_at_end ≡ false → Moved S.answers S.tells limit
-        (R.remaining reader.old) (R.remaining reader.new) output output session.old session.new }
+        (R.remaining reader.old.device) (R.remaining reader.new.device) output output session.old session.new }
+    ensures called { IsCalled reader.old reader.new session.old.counts session.new.counts
+        ⊎ IsUncalled reader.old reader.new session.old.counts session.new.counts }
+    ensures busy { result ≡ Ok Pace.Busy → IsCalled reader.old reader.new session.old.counts session.new.counts }
+    ensures faults { CountsFault Ended.ReadFault result reader.old.failures reader.new.failures }
     ensures idle { result ≡ Ok Pace.Idle → (session.new.unfed ≡ session.old.unfed) × (session.new.framing ≡ session.old.framing)
         × (session.new.held ≡ session.old.held) × (session.new.is_at_end ≡ session.old.is_at_end) }
     ensures same { (session.new.core ≡ session.old.core) × (session.new.unsent ≡ session.old.unsent) }
@@ -144,10 +170,11 @@ fn refill<S: Service, R: Read>(
 // Why the input is over, once nothing is still to come that was asked before.
 fn end_of_input<S: Service>(session: &Session<S::Session>, service: &S) -> Result<Pace, Ended>
     requires over { (is_fault session.now.framing.ending ≡ true) ⊎ (session.now.is_at_end ≡ true) }
-    ensures closed { result ≡ Err Ended.Closed → (session.now.is_at_end ≡ true) × S.is_answered service.now session.now.core }
-    ensures bad { result ≡ Err Ended.BadInput → (is_fault session.now.framing.ending ≡ true) × S.is_answered service.now session.now.core }
-    ensures idle { OnOk result (S.is_answered service.now session.now.core → ⊥) }
+    ensures closed { result ≡ Err Ended.Closed → (session.now.is_at_end ≡ true) × S.is_answered session.now.core }
+    ensures bad { result ≡ Err Ended.BadInput → (is_fault session.now.framing.ending ≡ true) × S.is_answered session.now.core }
+    ensures idle { OnOk result (S.is_answered session.now.core → ⊥) }
     ensures ends { IfErr result (λ e. (e ≡ Ended.Closed) ⊎ (e ≡ Ended.BadInput)) }
+    ensures never_busy { result ≡ Ok Pace.Busy → ⊥ }
 {
     let is_awaited = service.awaits(session.core());
     if is_awaited {
@@ -163,16 +190,23 @@ fn end_of_input<S: Service>(session: &Session<S::Session>, service: &S) -> Resul
 fn take_in<S: Service, R: Read>(
     session: &mut Session<S::Session>,
     service: &S,
-    reader: &mut R,
+    reader: &mut Counted<R>,
 ) -> Result<Pace, Ended>
     requires none { (session.old.held ≡ None) × (session.old.framing.waiting ≡ []) }
     ensures moved { (limit : ℕ) (output : Option (List ℕ)) → Moved S.answers S.tells limit
-        (R.remaining reader.old) (R.remaining reader.new) output output session.old session.new }
+        (R.remaining reader.old.device) (R.remaining reader.new.device) output output session.old session.new }
+    ensures called { (IsCalled reader.old reader.new session.old.counts session.new.counts × (session.old.unfed ≡ []))
+        ⊎ IsUncalled reader.old reader.new session.old.counts session.new.counts }
+    ensures busy { result ≡ Ok Pace.Busy → (IsCalled reader.old reader.new session.old.counts session.new.counts × (session.old.unfed ≡ []))
+        ⊎ ((session.old.unfed ≡ [] → ⊥) × (session.new.unfed ≡ [])) }
+    ensures faults { CountsFault Ended.ReadFault result reader.old.failures reader.new.failures }
+    ensures ends { IfErr result (λ e. (e ≡ Ended.WriteFault → ⊥) × (e ≡ Ended.Gone → ⊥) × (e ≡ Ended.TurnsSpent → ⊥)) }
+    ensures core { session.new.core ≡ session.old.core }
     ensures closed { result ≡ Err Ended.Closed → (session.new ≡ session.old) × (session.old.unfed ≡ []) × (session.old.is_at_end ≡ true)
-        × S.is_answered service.now session.old.core }
-    ensures idle { result ≡ Ok Pace.Idle → Waits (S.is_answered service.now) session.new }
+        × S.is_answered session.old.core }
+    ensures idle { result ≡ Ok Pace.Idle → Waits S.is_answered session.new }
     ensures bad { result ≡ Err Ended.BadInput → (session.new ≡ session.old) × (is_fault session.old.framing.ending ≡ true)
-        × S.is_answered service.now session.old.core }
+        × S.is_answered session.old.core }
     ensures same { session.new.unsent ≡ session.old.unsent }
     ensures spent { SpendsAtMost 1 0 session.old.counts session.new.counts }
 {
@@ -191,8 +225,8 @@ fn take_in<S: Service, R: Read>(
 
 // Whether the service takes messages again, which took none before it told what is new.
 fn pace_of<S: Service>(session: &Session<S::Session>, service: &S) -> Pace
-    ensures idle { result ≡ Pace.Idle → S.may_answer service.now session.now.core → ⊥ }
-    ensures busy { result ≡ Pace.Busy → S.may_answer service.now session.now.core }
+    ensures idle { result ≡ Pace.Idle → S.may_answer session.now.core → ⊥ }
+    ensures busy { result ≡ Pace.Busy → S.may_answer session.now.core }
 {
     if service.takes(session.core()) {
         Pace::Busy
@@ -203,8 +237,8 @@ fn pace_of<S: Service>(session: &Session<S::Session>, service: &S) -> Pace
 
 // Whether nothing is still to come that was asked before a message that the service refuses.
 fn pace_of_refused<S: Service>(session: &Session<S::Session>, service: &S) -> Pace
-    ensures idle { result ≡ Pace.Idle → S.is_answered service.now session.now.core → ⊥ }
-    ensures busy { result ≡ Pace.Busy → S.is_answered service.now session.now.core }
+    ensures idle { result ≡ Pace.Idle → S.is_answered session.now.core → ⊥ }
+    ensures busy { result ≡ Pace.Busy → S.is_answered session.now.core }
 {
     if service.awaits(session.core()) {
         Pace::Idle
@@ -218,20 +252,30 @@ fn pace_of_refused<S: Service>(session: &Session<S::Session>, service: &S) -> Pa
 pub(crate) fn exchange<S: Service, R: Read, W: Write>(
     session: &mut Session<S::Session>,
     service: &S,
-    reader: &mut R,
-    writer: &mut W,
+    reader: &mut Counted<R>,
+    writer: &mut Counted<W>,
     left: Result<Left, Ended>,
 ) -> Result<Pace, Ended>
     requires none { left ≡ Ok Left.Nothing → (session.old.held ≡ None) × (session.old.framing.waiting ≡ []) }
     requires refused { IfErr left (λ e. IsRefusal e) }
     requires bad { left ≡ Err Ended.BadInput → (m : List ℕ) × (session.old.held ≡ Some m) × S.refuses session.old.core m }
-    requires quiet { left ≡ Err Ended.BadInput → S.is_answered service.now session.old.core }
+    requires quiet { left ≡ Err Ended.BadInput → S.is_answered session.old.core }
     requires held { left ≡ Ok Left.Refused → (m : List ℕ) × (session.old.held ≡ Some m) }
-    ensures moved { (limit : ℕ) → Moved S.answers S.tells limit (R.remaining reader.old) (R.remaining reader.new)
-        (W.contents writer.old) (W.contents writer.new) session.old session.new }
-    ensures closed { result ≡ Err Ended.Closed → IsDone session.new × S.is_answered service.now session.new.core }
-    ensures idle { result ≡ Ok Pace.Idle → IsIdle (S.may_answer service.now) (S.is_answered service.now) session.new }
-    ensures bad { result ≡ Err Ended.BadInput → IsBad S.refuses session.new × S.is_answered service.now session.new.core }
+    requires told { IfOk left (λ l. (l ≡ Left.Untold) ⊎ S.is_told service.now session.old.core ⊎ (0 < length session.old.unsent)) }
+    requires gone { left ≡ Err Ended.Gone → S.is_gone service.now }
+    ensures moved { (limit : ℕ) → Moved S.answers S.tells limit (R.remaining reader.old.device) (R.remaining reader.new.device)
+        (W.contents writer.old.device) (W.contents writer.new.device) session.old session.new }
+    ensures exchanged { IsExchange (with_devices session.old reader.old writer.old) (with_devices session.new reader.new writer.new) }
+    ensures busy { result ≡ Ok Pace.Busy → HasPassed (with_devices session.old reader.old writer.old) (with_devices session.new reader.new writer.new)
+        ⊎ ((session.old.unsent ≡ []) × (session.new ≡ session.old) × IsOkAnd left (λ l. GoesOn S.may_answer S.is_answered l session.old.core)) }
+    ensures told { result ≡ Ok Pace.Idle → S.is_told service.now session.new.core ⊎ (0 < length session.new.unsent) }
+    ensures gone { result ≡ Err Ended.Gone → S.is_gone service.now }
+    ensures unspent { result ≡ Err Ended.TurnsSpent → ⊥ }
+    ensures read_faults { CountsFault Ended.ReadFault result reader.old.failures reader.new.failures }
+    ensures write_faults { CountsFault Ended.WriteFault result writer.old.failures writer.new.failures }
+    ensures closed { result ≡ Err Ended.Closed → IsDone session.new × S.is_answered session.new.core }
+    ensures idle { result ≡ Ok Pace.Idle → IsIdle S.may_answer S.is_answered session.new }
+    ensures bad { result ≡ Err Ended.BadInput → IsBad S.refuses session.new × S.is_answered session.new.core }
     ensures written { (e : _) → result ≡ Err e → (e ≡ Ended.WriteFault → ⊥) → session.new.unsent ≡ [] }
     ensures spent { SpendsAtMost 1 0 session.old.counts session.new.counts }
 {
@@ -240,7 +284,7 @@ pub(crate) fn exchange<S: Service, R: Read, W: Write>(
     }
     match left {
         Err(ended) => Err(ended),
-        Ok(Left::More) => Ok(Pace::Busy),
+        Ok(Left::More | Left::Untold) => Ok(Pace::Busy),
         Ok(Left::Untaken) => Ok(pace_of(session, service)),
         Ok(Left::Refused) => Ok(pace_of_refused(session, service)),
         Ok(Left::Nothing) => take_in(session, service, reader),

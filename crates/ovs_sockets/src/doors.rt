@@ -1,6 +1,7 @@
 //! Where a worker's readers come in.
 
-ghost use Rattle.std.specs.Prelude.{◌≡◌, ◌+◌, ◌<◌, ◌≤◌, true, false, None, IfSome, IfOk};
+ghost use Rattle.std.specs.Prelude.{◌≡◌, ◌≢◌, ◌+◌, ◌++◌, ◌<◌, ◌≤◌, ◌⊎◌, ℕ, [], true, false, None, IfSome, IfOk, option_map, option_to_list};
+ghost use Rattle.ovs_hall.specs.Connections.{out_of};
 
 use crate::bell::{Hearing, SocketBell};
 use crate::client::Half;
@@ -9,7 +10,7 @@ use crate::ending::IsEnding;
 use log::{Log, info};
 use mio::net::{TcpListener, TcpStream};
 use mio::{Events, Interest, Poll, Token, Waker};
-use ovs_hall::{Doors, Ready, Timeout, Woken};
+use ovs_hall::{Connections, Doors, Ready, Timeout, Woken};
 use ovs_session::Ended;
 use std::alloc::Global;
 use std::collections::VecDeque;
@@ -69,6 +70,10 @@ pub struct SocketDoors<R: Log + Drop> {
     // So often the connection that waits was left to the other workers.
     was_left: u32,
     is_ending: IsEnding,
+    // It was seen that all is to end.
+    is_over: bool,
+    // Those that came in and aren't back.
+    connections: Connections<Half, Half>,
 }
 
 impl<R: Net + Log + Drop> SocketDoors<R> {
@@ -82,6 +87,8 @@ impl<R: Net + Log + Drop> SocketDoors<R> {
         is_ending: IsEnding,
     ) -> io::Result<SocketDoors<R>>
         ensures count { IfOk result (λ doors. doors.accepts_left ≡ accepts) }
+        ensures none { IfOk result (λ doors. (key : ℕ) → out_of doors.connections key ≡ None) }
+        ensures none_back { IfOk result (λ doors. doors.connections.back ≡ []) }
     {
         let poll = Poll::new(&rt)?;
         let bell = Arc::new(alloc, Waker::new(poll.registry(), BELL)?)?;
@@ -103,6 +110,8 @@ impl<R: Net + Log + Drop> SocketDoors<R> {
             is_short: false,
             was_left: 0,
             is_ending,
+            is_over: false,
+            connections: Connections::new(),
         })
     }
 }
@@ -120,9 +129,10 @@ impl<R: Log + Drop> SocketDoors<R> {
     // Whether no connection is taken any more.
     fn is_closed(&self) -> bool
         ensures open { result ≡ false → 0 < self.now.accepts_left }
+        ensures closed { result ≡ true → (self.now.accepts_left ≡ 0) ⊎ (self.now.is_over ≡ true) }
         ensures none { self.now.accepts_left ≡ 0 → result ≡ true }
     {
-        self.accepts_left == 0 || self.is_ending.is_asked()
+        self.accepts_left == 0 || self.is_over
     }
 
     // How long to wait at most.
@@ -143,7 +153,7 @@ impl<R: Log + Drop> SocketDoors<R> {
 
     // Notes what came.
     fn note_events(&mut self) -> Told
-        ensures same { self.new.accepts_left ≡ self.old.accepts_left }
+        ensures same { (self.new.accepts_left ≡ self.old.accepts_left) × (self.new.is_over ≡ self.old.is_over) × (self.new.connections ≡ self.old.connections) }
     {
         let mut told = Told {
             is_rung: false,
@@ -168,7 +178,7 @@ impl<R: Log + Drop> SocketDoors<R> {
 
     // The next connection that waits, without waiting for one.
     fn next_stream(&mut self) -> Option<(TcpStream, SocketAddr)>
-        ensures same { self.new.accepts_left ≡ self.old.accepts_left }
+        ensures same { (self.new.accepts_left ≡ self.old.accepts_left) × (self.new.is_over ≡ self.old.is_over) × (self.new.connections ≡ self.old.connections) }
     {
         match self.listener.accept() {
             Ok(connection) => {
@@ -185,7 +195,7 @@ impl<R: Log + Drop> SocketDoors<R> {
     // Whether the connection that waits is left to workers that serve fewer sessions, for a while: all are woken by it, and the
     // same ones would mostly be the first.
     fn leaves_it(&mut self) -> bool
-        ensures same { self.new.accepts_left ≡ self.old.accepts_left }
+        ensures same { (self.new.accepts_left ≡ self.old.accepts_left) × (self.new.is_over ≡ self.old.is_over) × (self.new.connections ≡ self.old.connections) }
     {
         let leaves = self.was_left < MOST_LEFT && self.hearing.is_above_part();
         self.was_left = if leaves { self.was_left + 1 } else { 0 };
@@ -194,7 +204,7 @@ impl<R: Log + Drop> SocketDoors<R> {
 
     // None waits, or the one that waits can't be had now, which is no reason to take no others.
     fn note_refusal(&mut self, kind: ErrorKind)
-        ensures same { self.new.accepts_left ≡ self.old.accepts_left }
+        ensures same { (self.new.accepts_left ≡ self.old.accepts_left) × (self.new.is_over ≡ self.old.is_over) × (self.new.connections ≡ self.old.connections) }
     {
         if kind == ErrorKind::WouldBlock {
             self.may_accept = false;
@@ -202,6 +212,25 @@ impl<R: Log + Drop> SocketDoors<R> {
         } else {
             self.is_short = true;
         }
+    }
+
+    // Takes the next connection for the session of this number, one of those that may be, where one waits.
+    fn take(&mut self, key: usize) -> Option<(Half, Half)>
+        ensures few { IfSome result (λ _. self.old.accepts_left ≡ self.new.accepts_left + 1) }
+        ensures no_more { self.new.accepts_left ≤ self.old.accepts_left }
+        ensures none { self.old.accepts_left ≡ 0 → result ≡ None }
+        ensures same { (self.new.is_over ≡ self.old.is_over) × (self.new.connections ≡ self.old.connections) }
+    {
+        if self.is_closed() || self.is_ending.is_asked() || self.leaves_it() {
+            return None;
+        }
+        let (stream, peer) = self.next_stream()?;
+        self.accepts_left -= 1;
+        let halves = self.seat(key, stream).ok()?;
+        self.hearing.add_session();
+        let worker = self.worker;
+        info!(self.rt; "worker {worker} session {key} opened by {peer}");
+        Some(halves)
     }
 
     // Has the session of this number wait for what comes by a connection.
@@ -218,19 +247,31 @@ impl<R: Log + Drop> SocketDoors<R> {
     }
 }
 
+// Once all connections are taken that may be, or it was seen that all is to end, none is taken any more.
 impl<R: Log + Drop> Doors for SocketDoors<R> {
     type In = Half;
 
     type Out = Half;
 
+    ghost out = { λ doors. out_of doors.connections };
+
+    ghost back = { λ doors. doors.connections.back };
+
+    ghost is_closed = { λ doors. (doors.accepts_left ≡ 0) ⊎ (doors.is_over ≡ true) };
+
+    ghost is_over = { λ doors. doors.is_over ≡ true };
+
     fn worker(&self) -> usize {
         self.worker
     }
 
-    // Once all connections are taken that may be, none is taken any more.
     fn wait(&mut self, timeout: Timeout) -> Woken
-        ensures closed { self.old.accepts_left ≡ 0 → (result.is_closed ≡ true) × (result.may_accept ≡ false) }
-        ensures same { self.new.accepts_left ≡ self.old.accepts_left }
+        ensures may_accept { self.old.accepts_left ≡ 0 → (result.is_closed ≡ true) × (result.may_accept ≡ false) }
+        ensures count { self.new.accepts_left ≡ self.old.accepts_left }
+        ensures same { (key : ℕ) → out_of self.new.connections key ≡ out_of self.old.connections key }
+        ensures back { self.new.connections.back ≡ self.old.connections.back }
+        ensures closed { result.is_closed ≡ true → (self.new.accepts_left ≡ 0) ⊎ (self.new.is_over ≡ true) }
+        ensures over { result.is_over ≡ true → self.new.is_over ≡ true }
     {
         let patience = self.patience(timeout);
         // Where the system refuses to tell, each session looks for itself whether something came.
@@ -240,6 +281,7 @@ impl<R: Log + Drop> Doors for SocketDoors<R> {
             // Before the sessions look at what is new, so that nothing is new behind it that no ring tells.
             self.hearing.hear();
         }
+        self.is_over |= self.is_ending.is_asked();
         let is_any_ready = is_refused || told.is_lost;
         let is_closed = self.is_closed();
         Woken {
@@ -247,38 +289,52 @@ impl<R: Log + Drop> Doors for SocketDoors<R> {
             is_any_ready,
             may_accept: (self.may_accept || self.is_short) && !is_closed,
             is_closed,
-            is_over: self.is_ending.is_asked(),
+            is_over: self.is_over,
         }
     }
 
     fn next_ready(&mut self) -> Option<Ready>
-        ensures same { self.new.accepts_left ≡ self.old.accepts_left }
+        ensures count { self.new.accepts_left ≡ self.old.accepts_left }
+        ensures same { (key : ℕ) → out_of self.new.connections key ≡ out_of self.old.connections key }
+        ensures back { self.new.connections.back ≡ self.old.connections.back }
+        ensures closed { (self.old.accepts_left ≡ 0) ⊎ (self.old.is_over ≡ true) → (self.new.accepts_left ≡ 0) ⊎ (self.new.is_over ≡ true) }
+        ensures over { self.old.is_over ≡ true → self.new.is_over ≡ true }
     {
         self.ready.pop_front()
     }
 
     // Each connection that is taken is one of those that may be.
     fn accept(&mut self, key: usize) -> Option<(Half, Half)>
+        requires free { out_of self.old.connections key ≡ None }
         ensures few { IfSome result (λ _. self.old.accepts_left ≡ self.new.accepts_left + 1) }
         ensures no_more { self.new.accepts_left ≤ self.old.accepts_left }
-        ensures over { self.old.accepts_left ≡ 0 → result ≡ None }
+        ensures none { self.old.accepts_left ≡ 0 → result ≡ None }
+        ensures came { out_of self.new.connections key ≡ option_map (λ connection. (connection.0, connection.1)) result }
+        ensures others { (other : ℕ) → other ≢ key → out_of self.new.connections other ≡ out_of self.old.connections other }
+        ensures back { self.new.connections.back ≡ self.old.connections.back }
+        ensures closed { (self.old.accepts_left ≡ 0) ⊎ (self.old.is_over ≡ true) → (self.new.accepts_left ≡ 0) ⊎ (self.new.is_over ≡ true) }
+        ensures over { self.old.is_over ≡ true → self.new.is_over ≡ true }
     {
-        if self.is_closed() || self.leaves_it() {
-            return None;
+        match self.take(key) {
+            Some((reader, writer)) => {
+                self.connections.note_came(key, &reader, &writer);
+                Some((reader, writer))
+            }
+            None => None,
         }
-        let (stream, peer) = self.next_stream()?;
-        self.accepts_left -= 1;
-        let halves = self.seat(key, stream).ok()?;
-        self.hearing.add_session();
-        let worker = self.worker;
-        info!(self.rt; "worker {worker} session {key} opened by {peer}");
-        Some(halves)
     }
 
     // A file handle is free again.
-    fn left(&mut self, key: usize, ended: Ended)
-        ensures same { self.new.accepts_left ≡ self.old.accepts_left }
+    fn left(&mut self, key: usize, reader: Half, writer: Half, ended: Ended)
+        ensures count { self.new.accepts_left ≡ self.old.accepts_left }
+        ensures gone { out_of self.new.connections key ≡ None }
+        ensures others { (other : ℕ) → other ≢ key → out_of self.new.connections other ≡ out_of self.old.connections other }
+        ensures back { self.new.connections.back ≡ self.old.connections.back ++ option_to_list (out_of self.old.connections key) }
+        ensures closed { (self.old.accepts_left ≡ 0) ⊎ (self.old.is_over ≡ true) → (self.new.accepts_left ≡ 0) ⊎ (self.new.is_over ≡ true) }
+        ensures over { self.old.is_over ≡ true → self.new.is_over ≡ true }
     {
+        self.connections.note_left(key);
+        drop((reader, writer));
         self.hearing.remove_session();
         self.may_accept |= self.is_short;
         let worker = self.worker;

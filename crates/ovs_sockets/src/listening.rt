@@ -1,6 +1,7 @@
 //! Where readers connect.
 
-ghost use Rattle.std.specs.Prelude.{◌≡◌, IfOk};
+ghost use Rattle.std.specs.Prelude.{◌≡◌, ℕ, [], None, IfOk};
+ghost use Rattle.ovs_hall.specs.Connections.{out_of};
 
 use crate::crowd::Crowd;
 use crate::doors::SocketDoors;
@@ -53,6 +54,8 @@ impl Listening {
         is_ending: &IsEnding,
     ) -> io::Result<SocketDoors<R>>
         ensures count { IfOk result (λ doors. doors.accepts_left ≡ accepts) }
+        ensures none { IfOk result (λ doors. (key : ℕ) → out_of doors.connections key ≡ None) }
+        ensures unback { IfOk result (λ doors. doors.connections.back ≡ []) }
     {
         SocketDoors::new(
             rt,

@@ -10,6 +10,7 @@ ghost use Rattle.ovs_session.specs.declared.ended.Ended.{Ended};
 use crate::error::TierError;
 use ovs_engine::{Connector, Finished, Line, Party, Returned};
 use ovs_fold::chain_lines;
+use ovs_hall::Doors;
 use ovs_links::LinkStore;
 use ovs_node::{
     Board, FeedEnd, FeedName, FeedQueue, Handle, MAX_UPSTREAMS, MAX_VIEWS, Node, NodeLink, NodeName,
@@ -87,7 +88,7 @@ fn closing_of<K: NodeName, Q: FeedName, H: Wait + Drop, R: Wait>(
 }
 
 // What the threads of a relay's upstreams sent with.
-fn ends_of_relay<K: NodeName, Q: FeedName, C: Connector, D: Drop, N>(
+fn ends_of_relay<K: NodeName, Q: FeedName, C: Connector, D: Doors + Drop, N>(
     alloc: Global,
     ran: &mut Finished<K, Line<K, Q, C>, D, N>,
 ) -> Result<Vec<FeedEnd<NodeLink<K>, Q>>, TierError>
@@ -119,7 +120,7 @@ fn end_of<K: NodeName, Q: FeedName, L: OriginDesk<K>>(
 }
 
 // What the threads sent with that send a source's links.
-fn ends_of_source<K: NodeName, Q: FeedName, L: OriginDesk<K>, D: Drop, N>(
+fn ends_of_source<K: NodeName, Q: FeedName, L: OriginDesk<K>, D: Doors + Drop, N>(
     alloc: Global,
     ran: &mut Finished<K, SourceSent<K, Q, L>, D, N>,
 ) -> Result<Vec<FeedEnd<NodeLink<K>, Q>>, TierError>
@@ -143,7 +144,7 @@ pub(crate) fn closing_of_relay<
     K: NodeName,
     Q: FeedName,
     C: Connector,
-    D: Drop,
+    D: Doors + Drop,
     H: Wait + Drop,
     R: Wait,
 >(
@@ -165,7 +166,7 @@ pub(crate) fn closing_of_source<
     K: NodeName,
     Q: FeedName,
     L: OriginDesk<K>,
-    D: Drop,
+    D: Doors + Drop,
     H: Wait + Drop,
     R: Wait,
 >(

@@ -2,6 +2,8 @@
 
 use crate::error::TierError;
 use log::Log;
+use ovs_engine::Unused;
+use ovs_hall::Doors;
 use ovs_session::Limits;
 use ovs_sockets::{IsEnding, Listening, SocketBell, SocketDoors};
 use std::alloc::Global;
@@ -18,9 +20,12 @@ pub(crate) const WORKERS: usize = 8;
 
 /// Where a node's workers take readers in, and what wakes them.
 #[derive(Drop)]
-pub(crate) struct Places<R: Log + Drop> {
+pub(crate) struct Places<R: Log + Drop>
+where
+    SocketDoors<R>: Doors,
+{
     pub(crate) address: SocketAddr,
-    pub(crate) doors: Vec<SocketDoors<R>>,
+    pub(crate) doors: Vec<Unused<SocketDoors<R>>>,
     pub(crate) bells: Vec<SocketBell>,
 }
 
@@ -42,7 +47,7 @@ impl<R: Net + Log + Copy + Drop> Places<R> {
         for worker in 0..WORKERS {
             let place = listening.doors(rt, alloc, worker, accepts, is_ending)?;
             bells.push(place.bell()?)?;
-            doors.push(place)?;
+            doors.push(Unused::new(place))?;
         }
         Ok(Places {
             address: listening.address()?,

@@ -13,17 +13,18 @@ use crate::stop::Stop;
 use crate::upstreams::{UpstreamSockets, Upstreams};
 use crate::watching::Watching;
 use log::Log;
-use ovs_desk::RelayDesk;
 use ovs_engine::{
-    Counters, Crew, Line, LockedDesk, Shared, SourceDesk, UpstreamParts, WorkerParts,
-    relay_desk_sends, run_node,
+    Counters, Crew, Line, LockedDesk, Shared, SourceDesk, Unused, UpstreamParts, WorkerParts,
+    run_node,
 };
+use ovs_hall::Doors;
 use ovs_json::Text;
 use ovs_links::Step;
 use ovs_node::{
     Board, FeedEnd, FeedName, FeedQueue, Handle, Node, NodeError, NodeLink, NodeName, OpenNode,
     Opened, Parts, View,
 };
+use ovs_recorded_desk::{DeskName, DeskStep, RecordedDesk, relay_desk_sends};
 use ovs_sockets::{Ending, IsEnding, SocketBell, SocketDoors};
 use ovs_types::Schema;
 use std::alloc::Global;
@@ -51,7 +52,10 @@ pub struct RelayPlan<'a> {
 
 /// A relay that listens, and is served once it runs.
 #[derive(Drop)]
-pub struct Relay<R: Net + Log + Drop> {
+pub struct Relay<R: Net + Log + Drop>
+where
+    SocketDoors<R>: Doors,
+{
     rt: R,
     alloc: Global,
     places: Places<R>,
@@ -162,13 +166,15 @@ fn named<
     requires publisher { IsInStep (published node.publisher.handle) (pending node.publisher.handle) node.publisher.front node.publisher.kept [] }
 {
     let parts = node.named::<Q>()?;
-    run(rt, relay, schema, parts)
+    let database = Text::new(relay.alloc, schema.name())?;
+    let opened = Opened::<DeskStep>::new();
+    run::<K, Q, Brand, R>(rt, relay, schema, parts, database, opened)
 }
 
 // What a relay's threads share beside its node's own.
 #[derive(Drop)]
-struct Stage<'x, R: Wait> {
-    desk: LockedDesk<'x, R>,
+struct Stage<'x, N: DeskName, R: Wait> {
+    desk: LockedDesk<'x, N, R>,
     // Of the workers.
     bells: Vec<SocketBell>,
     // Of the source's thread.
@@ -176,21 +182,23 @@ struct Stage<'x, R: Wait> {
     counters: Counters,
 }
 
-impl<'x, R: Wait> Stage<'x, R> {
-    // With the bells of the workers, and of the upstreams, the first of which is the source.
+impl<'x, N: DeskName, R: Wait> Stage<'x, N, R> {
+    // With a desk for the database of this name, and the bells of the workers, and of the upstreams, the first of which is the source.
     fn new(
         rt: &'x R,
         alloc: Global,
-        schema: &Schema,
+        database: Text,
+        opened: Opened<DeskStep>,
         bells: Vec<SocketBell>,
         upward: Vec<SocketBell>,
-    ) -> Result<Stage<'x, R>, TierError> {
-        let name = Text::new(alloc, schema.name())?;
-        let desk = LockedDesk::new(rt, RelayDesk::new(alloc, name));
+    ) -> Result<Stage<'x, N, R>, TierError>
+        requires name { (opened.seen.book ≡ N.book) × (database ≡ N.database) }
+    {
+        let (desk, _known) = RecordedDesk::new(alloc, database, opened);
         let mut upward = upward.into_iter();
         let upward = upward.next().ok_or(TierError::Node(NodeError::BadCount))?;
         Ok(Stage {
-            desk,
+            desk: LockedDesk::new(rt, desk),
             bells,
             upward,
             counters: Counters::new(),
@@ -200,30 +208,33 @@ impl<'x, R: Wait> Stage<'x, R> {
 
 // What a relay's threads have for their own.
 #[derive(Drop)]
-struct Outfit<K: NodeName, Q: FeedName, R: Net + Log + Drop> {
-    doors: Vec<SocketDoors<R>>,
+struct Outfit<K: NodeName, Q: FeedName, R: Net + Log + Drop>
+where
+    SocketDoors<R>: Doors,
+{
+    doors: Vec<Unused<SocketDoors<R>>>,
     ends: Vec<FeedEnd<NodeLink<K>, Q>>,
     connectors: Vec<UpstreamSockets<R>>,
     views: Vec<View<K>>,
 }
 
 // A relay's threads.
-type RelayCrew<'a, 'x, K, Q, R> = Crew<
+type RelayCrew<'a, 'x, K, Q, N, R> = Crew<
     'a,
     K,
     Q,
     UpstreamSockets<R>,
     SocketDoors<R>,
-    LockedDesk<'x, R>,
+    LockedDesk<'x, N, R>,
     SocketBell,
 >;
 
 // A worker at each of these doors, with the last of the views.
-fn add_workers<'a, 'x, K: NodeName, Q: FeedName, R: Wait + Net + Log + Drop>(
-    crew: RelayCrew<'a, 'x, K, Q, R>,
-    doors: Vec<SocketDoors<R>>,
+fn add_workers<'a, 'x, K: NodeName, Q: FeedName, N: DeskName + Send, R: Wait + Net + Log + Drop>(
+    crew: RelayCrew<'a, 'x, K, Q, N, R>,
+    doors: Vec<Unused<SocketDoors<R>>>,
     views: &mut Vec<View<K>>,
-) -> Result<RelayCrew<'a, 'x, K, Q, R>, TierError> {
+) -> Result<RelayCrew<'a, 'x, K, Q, N, R>, TierError> {
     let mut crew = crew;
     for doors in doors {
         let view = views.pop().ok_or(TierError::Node(NodeError::BadCount))?;
@@ -235,13 +246,13 @@ fn add_workers<'a, 'x, K: NodeName, Q: FeedName, R: Wait + Net + Log + Drop>(
 }
 
 // An upstream for each of these lines. The first is the source, to which the desk's requests go.
-fn add_upstreams<'a, 'x, K: NodeName, Q: FeedName, R: Wait + Net + Log + Drop>(
-    crew: RelayCrew<'a, 'x, K, Q, R>,
-    stage: &'a Stage<'x, R>,
+fn add_upstreams<'a, 'x, K: NodeName, Q: FeedName, N: DeskName + Send, R: Wait + Net + Log + Drop>(
+    crew: RelayCrew<'a, 'x, K, Q, N, R>,
+    stage: &'a Stage<'x, N, R>,
     lines: Vec<Line<K, Q, UpstreamSockets<R>>>,
     connectors: Vec<UpstreamSockets<R>>,
     views: Vec<View<K>>,
-) -> Result<RelayCrew<'a, 'x, K, Q, R>, TierError> {
+) -> Result<RelayCrew<'a, 'x, K, Q, N, R>, TierError> {
     let mut crew = crew;
     let progress = if connectors.len() == 1 {
         Some(stage.counters.progress())
@@ -281,11 +292,11 @@ fn lines_of<K: NodeName, Q: FeedName, R: Net + Log + Drop>(
 }
 
 // A thread for each upstream, and one for each worker.
-fn crew_of<'a, 'x, K: NodeName, Q: FeedName, R: Wait + Net + Log + Drop>(
+fn crew_of<'a, 'x, K: NodeName, Q: FeedName, N: DeskName + Send, R: Wait + Net + Log + Drop>(
     alloc: Global,
-    stage: &'a Stage<'x, R>,
+    stage: &'a Stage<'x, N, R>,
     outfit: Outfit<K, Q, R>,
-) -> Result<RelayCrew<'a, 'x, K, Q, R>, TierError>
+) -> Result<RelayCrew<'a, 'x, K, Q, N, R>, TierError>
     requires unsent { AllByRecursion (λ e. e.1 ≡ []) outfit.ends.items }
 {
     let Outfit {
@@ -299,11 +310,12 @@ fn crew_of<'a, 'x, K: NodeName, Q: FeedName, R: Wait + Net + Log + Drop>(
     add_upstreams(crew, &*stage, lines, connectors, views)
 }
 
-// Runs the node, and tells what came of it.
+// Runs the node with a desk for its database, and tells what came of it.
 fn run<
     'x,
     K: NodeName + Send + Sync,
     Q: FeedName + Send + Sync,
+    N: DeskName + Send,
     R: Threads
         + Wait
         + Net<Listener = TcpListener, Stream = TcpStream>
@@ -317,7 +329,10 @@ fn run<
     relay: Relay<R>,
     schema: &'x Schema,
     parts: Parts<K, Q, Handle<K, &'x R>>,
+    database: Text,
+    opened: Opened<DeskStep>,
 ) -> Result<Closing, TierError>
+    requires desk { (opened.seen.book ≡ N.book) × (database ≡ N.database) }
     requires schema { schema.now ≡ K.schema }
     requires in_step { IsInStep (published parts.node.publisher.handle) (pending parts.node.publisher.handle) parts.node.publisher.front parts.node.publisher.kept (steps_in parts.node.intake.store) }
     requires unsent { AllByRecursion (λ e. e.1 ≡ []) parts.ends.items }
@@ -350,7 +365,7 @@ fn run<
         connectors,
         views,
     };
-    let stage = Stage::new(rt, alloc, schema, bells, upward)?;
+    let stage = Stage::<'x, N, R>::new(rt, alloc, database, opened, bells, upward)?;
     let rung = if ends_on_refusal {
         Some(&*ending)
     } else {
@@ -372,6 +387,7 @@ fn staged<
     'e,
     K: NodeName + Send + Sync,
     Q: FeedName + Send + Sync,
+    N: DeskName + Send,
     R: Threads
         + Wait
         + Net<Listener = TcpListener, Stream = TcpStream>
@@ -386,7 +402,7 @@ fn staged<
     schema: &'a Schema,
     queue: &'a FeedQueue<NodeLink<K>, Q>,
     board: &'a Mutex<Board<K>>,
-    stage: &'a Stage<'x, R>,
+    stage: &'a Stage<'x, N, R>,
     watching: &'a Watching<'x, 'e, R>,
     node: Node<K, Q, Handle<K, &'x R>>,
     outfit: Outfit<K, Q, R>,

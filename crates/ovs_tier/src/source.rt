@@ -13,7 +13,8 @@ use crate::places::{LIMITS, Places, WORKERS};
 use crate::stop::Stop;
 use crate::watching::Watching;
 use log::Log;
-use ovs_engine::{Counters, WorkerParts};
+use ovs_engine::{Counters, Unused, WorkerParts};
+use ovs_hall::Doors;
 use ovs_links::Step;
 use ovs_node::{
     Board, FeedEnd, FeedName, FeedQueue, Handle, Node, NodeError, NodeLink, NodeName, OpenNode,
@@ -49,7 +50,10 @@ pub struct SourcePlan {
 
 /// A source that listens, and is served once it runs.
 #[derive(Drop)]
-pub struct SourceNode<R: Net + Log + Drop> {
+pub struct SourceNode<R: Net + Log + Drop>
+where
+    SocketDoors<R>: Doors,
+{
     rt: R,
     alloc: Global,
     places: Places<R>,
@@ -198,7 +202,7 @@ fn crew_of<'a, K: NodeName, Q: FeedName, R: Wait + Log + Drop>(
     alloc: Global,
     end: FeedEnd<NodeLink<K>, Q>,
     views: Vec<View<K>>,
-    doors: Vec<SocketDoors<R>>,
+    doors: Vec<Unused<SocketDoors<R>>>,
 ) -> Result<SourceCrew<K, Q, LockedSource<'a, K, R>, SocketDoors<R>>, TierError>
     requires unsent { end.1 ≡ [] }
 {

@@ -1,9 +1,10 @@
 //! A session answers a message, and tells what is new.
-ghost use Rattle.std.specs.Prelude.{◌≡◌, ◌<◌, ℕ, List, Some, None, Err, IfErr, OnOk, length};
+ghost use Rattle.std.specs.Prelude.{◌≡◌, ◌<◌, ◌≤◌, ℕ, List, Some, None, Ok, Err, IfErr, OnOk, length};
 ghost use Rattle.ovs_session.specs.Moving.{IsRefusal};
 ghost use Rattle.ovs_session.specs.Serving.{Worked};
 
 use crate::ended::Ended;
+use crate::limits::Pace;
 use crate::service::Service;
 use crate::session::Session;
 
@@ -12,12 +13,13 @@ pub(crate) fn answer_held<S: Service>(
     session: &mut Session<S::Session>,
     service: &mut S,
 ) -> Result<(), Ended>
-    requires taken { S.may_answer service.old session.old.core }
+    requires taken { S.may_answer session.old.core }
     ensures worked { (limit : ℕ) → length session.old.unsent < limit → Worked S.answers S.tells limit session.old session.new }
     ensures none { OnOk result (session.new.held ≡ None) }
     ensures rest { session.new ≡ record session.old { held = session.new.held; core = session.new.core; unsent = session.new.unsent } }
     ensures refused { IfErr result (λ e. IsRefusal e) }
     ensures bad { result ≡ Err Ended.BadInput → (m : List ℕ) × (session.new.held ≡ Some m) × S.refuses session.new.core m }
+    ensures gone { result ≡ Err Ended.Gone → S.is_gone service.new }
 {
     match session.held.take() {
         None => Ok(()),
@@ -39,10 +41,15 @@ pub(crate) fn answer_held<S: Service>(
 pub(crate) fn tell_new<S: Service>(
     session: &mut Session<S::Session>,
     service: &mut S,
-) -> Result<(), Ended>
+) -> Result<Pace, Ended>
     ensures worked { (limit : ℕ) → length session.old.unsent < limit → Worked S.answers S.tells limit session.old session.new }
     ensures rest { session.new ≡ record session.old { core = session.new.core; unsent = session.new.unsent } }
     ensures refused { IfErr result (λ e. IsRefusal e × (e ≡ Ended.BadInput → ⊥)) }
+    ensures told { result ≡ Ok Pace.Idle → S.is_told service.new session.new.core }
+    ensures more { result ≡ Ok Pace.Busy → S.may_tell service.new session.new.core }
+    ensures grows { length session.old.unsent ≤ length session.new.unsent }
+    ensures some { OnOk result ((said : List ℕ) × S.tells session.old.core said session.new.core) }
+    ensures gone { result ≡ Err Ended.Gone → S.is_gone service.new }
 {
     Ok(service.tell(&mut session.core, &mut session.outbox)?)
 }

@@ -10,10 +10,11 @@ returns-clause-followed g c =
     let serve = c.serve-ended.ensures in
     record {
       now = c.serve-ended.new.session;
-      moved = subst (λ (s : SessionValue FollowingValue). Moved Hears Asks c.args.limits.most_unsent (g.R.Read.remaining c.args.reader.now) (g.R.Read.remaining c.serve-ended.new.reader)
-          (g.W.Write.contents c.args.writer.now) (g.W.Write.contents c.serve-ended.new.writer) s c.serve-ended.new.session) began serve.moved;
+      moved = subst (λ (s : SessionValue FollowingValue). Moved Hears Asks c.args.limits.most_unsent (g.R.Read.remaining c.args.reader.now.device) (g.R.Read.remaining c.serve-ended.new.reader.device)
+          (g.W.Write.contents c.args.writer.now.device) (g.W.Write.contents c.serve-ended.new.writer.device) s c.serve-ended.new.session) began serve.moved;
       counted = c.counts-counts.ensures.value;
-      sends = c.into_sink.ensures.sent ∙ ap (λ f. f.sent) c.into_core.ensures.value;
+      sends = c.into_parts-sink.ensures.sent ∙ ap (λ f. f.sent) c.into_core.ensures.value;
+      makes = c.into_parts-sink.ensures.made ∙ ap (λ f. f.made) c.into_core.ensures.value;
       closed = λ is. let done = serve.closed (ap (λ s. s.ended) began) (ap (λ s. s.is_at_end) began) is in (done.0, done.1);
       bad = λ is. serve.bad (ap (λ s. s.ended) began) is;
     }

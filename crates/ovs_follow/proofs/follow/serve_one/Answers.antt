@@ -8,9 +8,9 @@ use Rattle.ovs_follow.proofs.follow.serve_one.Goals as goal
 
 pub returns-in-Ok-clause-followed : goal.returns-in-Ok-clause-followed
 returns-in-Ok-clause-followed g c =
-    subst (λ (f : FollowingValue). HasFollowed f c.args.limits.most_unsent (g.R.Read.remaining c.args.reader.now) (g.R.Read.remaining c.serve_new.new.reader)
-    (g.W.Write.contents c.args.writer.now) (g.W.Write.contents c.serve_new.new.writer) c.serve_new.result.ended c.serve_new.result.counts
-    (g.S.LinkSink.sent c.serve_new.result.sink)) c.in-Ok.ensures.begun c.serve_new.ensures.followed
+    subst (λ (f : FollowingValue). HasFollowed g.D.SourceSide.refuses f c.args.limits.most_unsent (g.R.Read.remaining c.args.reader.now.device) (g.R.Read.remaining c.serve_new.new.reader.device)
+    (g.W.Write.contents c.args.writer.now.device) (g.W.Write.contents c.serve_new.new.writer.device) c.serve_new.result.ended c.serve_new.result.counts
+    (g.S.LinkSink.sent c.serve_new.result.sink) c.serve_new.result.made) c.in-Ok.ensures.begun c.serve_new.ensures.followed
 
 pub returns-in-Err-clause-followed : goal.returns-in-Err-clause-followed
 returns-in-Err-clause-followed g c =
@@ -20,6 +20,7 @@ returns-in-Err-clause-followed g c =
       moved = moved_still Hears Asks c.args.limits.most_unsent _ _ _;
       counted = c.unserved.ensures.counts;
       sends = ap g.S.LinkSink.sent (c.unserved.ensures.sink ∙ c.in-Err.ensures.back);
+      makes = c.unserved.ensures.made;
       closed = λ is. absurd (let no : NoMemory ≡ Closed = sym ended ∙ is in cc);
       bad = λ is. absurd (let no : NoMemory ≡ BadInput = sym ended ∙ is in cc);
     }

@@ -14,8 +14,8 @@ pub loop-one-preserved : goal.loop-one-preserved
 loop-one-preserved c =
     let i = c.loop-one.one-index in
     let xs = c.args.late.now in
-    let so_far : c.loop-one.late ≡ settled c.args.won (take i xs) ++ drop i xs = c.loop-one.invariant in
+    let so_far : c.loop-one.late ≡ settled c.args.outcome (take i xs) ++ drop i xs = c.loop-one.invariant in
     rw add-one (
     ap (set c.loop-one.late i) c.settle.ensures.value
-    ∙ ap (λ ys. set ys i (settled_one c.args.won (get_or ys i c.one-item.result))) so_far
-    ∙ step (settled_one c.args.won) xs i c.one-item.result (omega arith))
+    ∙ ap (λ ys. set ys i (settled_one c.args.outcome (get_or ys i c.one-item.result))) so_far
+    ∙ step (settled_one c.args.outcome) xs i c.one-item.result (omega arith))

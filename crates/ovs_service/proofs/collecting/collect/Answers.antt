@@ -1,11 +1,21 @@
-use Rattle.ovs_service.specs.Replies.{IsOwed}
-use Rattle.ovs_service.proofs.Settled.{adds_more}
+use Rattle.std.proofs.Common.{◌∙◌}
+use Rattle.ovs_service.proofs.Settled.{collects_more}
 use Rattle.ovs_service.proofs.collecting.collect.Goals as goal
 
-pub loop-collected-preserved : goal.loop-collected-preserved
-loop-collected-preserved g c =
-    adds_more (IsOwed (g.D.Desk.owes c.args.is_held_back c.args.who c.args.session.now.last)) _ _ _ c.loop-collected.invariant c.collect_one-is_more.ensures.given
+pub returns-in-Ok-false-clause-collected : goal.returns-in-Ok-false-clause-collected
+returns-in-Ok-false-clause-collected g c =
+    collects_more (λ who. g.D.Desk.owes c.args.is_held_back who c.args.session.now.last) c.args.is_held_back _ _ _ _ _ _
+    c.loop-collected.invariant.0 c.collect_one.ensures.collected
 
-pub returns-then-not-is_more : goal.returns-then-not-is_more
-returns-then-not-is_more g c =
-    adds_more (IsOwed (g.D.Desk.owes c.args.is_held_back c.args.who c.args.session.now.last)) _ _ _ c.loop-collected.invariant c.collect_one-is_more.ensures.given
+pub returns-in-Err-clause-collected : goal.returns-in-Err-clause-collected
+returns-in-Err-clause-collected g c =
+    collects_more (λ who. g.D.Desk.owes c.args.is_held_back who c.args.session.now.last) c.args.is_held_back _ _ _ _ _ _
+    c.loop-collected.invariant.0 c.collect_one.ensures.collected
+
+pub loop-collected-preserved : goal.loop-collected-preserved
+loop-collected-preserved g c = (
+  collects_more (λ who. g.D.Desk.owes c.args.is_held_back who c.args.session.now.last) c.args.is_held_back _ _ _ _ _ _
+      c.loop-collected.invariant.0 c.collect_one.ensures.collected,
+  c.collect_one.ensures.view ∙ c.loop-collected.invariant.1,
+  c.collect_one.ensures.none_ended ∙ c.loop-collected.invariant.2,
+)

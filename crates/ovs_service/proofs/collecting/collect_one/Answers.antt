@@ -1,14 +1,14 @@
-use Rattle.std.proofs.Common.{ap, ◌∙◌, ◌++◌, ◌∷◌, List, []}
-use Rattle.ovs_service.specs.declared.due.Due.{Due}
-use Rattle.ovs_service.specs.declared.due.Due.TheVariants.{Say}
+use Rattle.std.proofs.Common.{Some, None, sym}
+use Rattle.ovs_service.proofs.Settled.{append_nil, collects_one}
 use Rattle.ovs_service.proofs.collecting.collect_one.Goals as goal
 
-pub returns-in-Ok-Some : goal.returns-in-Ok-Some
-returns-in-Ok-Some g c =
-    let owed = rw c.in-Ok-Some.field-0-is at c.in-Ok-Some.ensures.given in record {
-      given = (
-        c.in-Ok-Some.message ∷ [],
-        (owed, tt),
-        ◌∙◌ {A = List Due} c.push_back_reserved.ensures.items (ap (λ (l : List Due). l ++ (Say c.in-Ok-Some.message ∷ [])) c.reserve.ensures.items),
-      );
-    }
+pub returns-in-Some-clause-collected : goal.returns-in-Some-clause-collected
+returns-in-Some-clause-collected g c =
+    collects_one (λ who. g.D.Desk.owes c.args.is_held_back who c.args.session.now.last) c.args.is_held_back _ _ _ _ _ (Some c.in-Some.message)
+    c.make_room.ensures.same c.add.ensures.items
+    (rw c.in-Some.is at c.in_ok-message.ensures.collected) (rw c.in-Some.is at c.in_ok-message.ensures.given)
+
+pub returns-in-None-clause-collected : goal.returns-in-None-clause-collected
+returns-in-None-clause-collected g c =
+    collects_one (λ who. g.D.Desk.owes c.args.is_held_back who c.args.session.now.last) c.args.is_held_back _ _ _ _ _ None
+    c.make_room.ensures.same (sym (append_nil c.make_room.new.dues.items)) (rw c.in-None.is at c.in_ok-message.ensures.collected) tt

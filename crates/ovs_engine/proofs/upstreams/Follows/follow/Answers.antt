@@ -2,6 +2,7 @@ use Rattle.std.proofs.Common.{sym, subst}
 use Rattle.std.proofs.Math.Logic.{∥∥₁_map}
 use Rattle.ovs_types.specs.Schema.{SchemaValue}
 use Rattle.ovs_links.specs.Sets.{AllOf, IsOfTables}
+use Rattle.ovs_engine.specs.Lines.{AdmitsBytes}
 use Rattle.ovs_engine.proofs.Admitted.{admitted_more}
 use Rattle.ovs_engine.proofs.upstreams.Follows.follow.Goals as goal
 
@@ -11,6 +12,7 @@ follow_upstream-followed-requires g c =
 
 pub again-requires : goal.again-requires
 again-requires g c =
+    let lawful = subst (λ (r : _). AdmitsBytes g.C.Connector.admits c.args.asked (g.C.In.Read.remaining r)) (sym c.new-reader.ensures.device) c.requires.lawful in
     let was = ∥∥₁_map c.into_end.ensures.admitted (λ a. subst (λ (e : _). AllOf g.C.Connector.admits e.1) (sym c.new-sink.ensures.end) a) in
-    let now = ∥∥₁_map was (λ a. admitted_more g.C.Connector.admits c.args.self.now.schema.now c.args.asked _ _ _ c.requires.lawful c.follow_upstream-followed.ensures.sent a) in
+    let now = ∥∥₁_map was (λ a. admitted_more g.C.Connector.admits c.args.self.now.schema.now c.args.asked _ _ _ lawful c.follow_upstream-followed.ensures.sent a) in
     record { admitted = ∥∥₁_map now (λ a. subst (λ (e : _). AllOf g.C.Connector.admits e.1) (sym c.into_parts-end.ensures.end) a) }

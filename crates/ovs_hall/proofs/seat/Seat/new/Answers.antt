@@ -1,8 +1,21 @@
-use Rattle.std.proofs.Common.{ap}
+use Rattle.std.proofs.Common.{rules, ap, sym, ◌∙◌}
+use Rattle.ovs_session.specs.Serving.{fresh}
 use Rattle.ovs_session.proofs.Moved.{moved_from}
 use Rattle.ovs_hall.proofs.seat.Seat.new.Goals as goal
 
 pub invariant_of-result : goal.invariant_of-result
 invariant_of-result g c = record {
-  lawful = ∣ moved_from g.V.Service.answers g.V.Service.tells _ _ _ _ _ _ _ (ap g.R.Read.remaining c.of-2.ensures) (ap g.W.Write.contents c.of-3.ensures) c.of.ensures ∣₁;
+  lawful = ∣ record {
+    begun = search rules;
+    moved = moved_from g.V.Service.answers g.V.Service.tells _ _ _ _ _ _ _
+        (ap g.R.Read.remaining (c.of.ensures ∙ sym c.new.ensures.device))
+        (ap g.W.Write.contents (c.of-2.ensures ∙ sym c.new-2.ensures.device))
+        (ap fresh c.of-began.ensures ∙ sym c.new-session.ensures.fresh ∙ sym c.read_when_told.ensures.same);
+    end = record {
+      closed = search rules;
+      bad = search rules;
+      read_faults = record { once = search rules; never = search rules };
+      write_faults = record { once = search rules; never = search rules };
+    };
+  } ∣₁;
 }

@@ -1,4 +1,4 @@
-use Rattle.std.proofs.Common.{rules, ◌++◌, ◌≤◌, ℕ, List, length, take, drop, ap, sym, ◌∙◌}
+use Rattle.std.proofs.Common.{rules, arith, ◌+◌, ◌++◌, ◌≤◌, ℕ, List, length, take, drop, ap, sym, ◌∙◌}
 use Rattle.std.specs.Io.KnownBytes.{Appends}
 use Rattle.ovs_session.proofs.Written.{goes, went_length, slice_end}
 use Rattle.ovs_session.proofs.outbox.Outbox.write_once.Goals as goal
@@ -9,13 +9,14 @@ returns-in-Ok-clause-written g c =
     let out = c.self.inside.bytes.items in
     let n = c.in-Ok.count in
     let contents = g.W.Write.contents in
-    let within : s ≤ length out = c.self.invariant in
+    let half : s + s ≤ length out = c.self.invariant in
+    let within : s ≤ length out = omega arith in
     let whole = slice_end s out within in
     let some : n ≤ length (drop s out) = search rules in
-    let went : Appends (contents c.args.writer.now) (contents c.write.new.self) (take n (drop s out)) = search rules in (
+    let went : Appends (contents c.args.writer.now.device) (contents c.write.new.self.device) (take n (drop s out)) = search rules in (
       take n (drop s out),
       went,
-      sym c.self.view_is ∙ goes s n out within some ∙ ap (λ (l : List ℕ). take n (drop s out) ++ l) (sym c.compact.ensures.value),
+      sym c.self.view_is ∙ goes s n out within some ∙ ap (λ (l : List ℕ). take n (drop s out) ++ l) (sym c.compact-self-inside.ensures.value),
       went_length n (drop s out) some,
       tt,
     )

@@ -1,0 +1,36 @@
+-- What the last step of a relay's desk says of the call that made it.
+use Rattle.std.proofs.Common.{◌≡◌, ℕ, List, Option, Some, None, Result, Ok, Err}
+use Rattle.std.specs.Prelude.{IfOk, IfSome}
+use Rattle.serde_json.specs.Data.{Data}
+use Rattle.ovs_authority.specs.Owing.{Owing, AsksTo}
+use Rattle.ovs_authority.specs.declared.ask.Ask.{Ask}
+use Rattle.ovs_desk.specs.RelayDesk.{owing_of}
+use Rattle.ovs_json.specs.declared.no_memory.NoMemory.{NoMemory}
+use Rattle.ovs_recorded_desk.specs.Steps.{IsStep, EndsRun, EndsWith, RecordedValue}
+use Rattle.ovs_recorded_desk.specs.declared.step.DeskStep.{DeskStep}
+use Rattle.ovs_recorded_desk.specs.declared.step.DeskStep.TheVariants as steps
+use Rattle.ovs_recorded_desk.proofs.Recording.{ends_run}
+use Rattle.ovs_service.specs.Replies.{RepliesTo}
+use Rattle.ovs_wire.specs.declared.message.Message.{Message}
+use Rattle.ovs_wire.specs.declared.message.Message.TheVariants.{Request, Reply, Notice}
+
+replies_to : (old new : Owing) (id : Data) (r : Option Message) → AsksTo old id r new → RepliesTo id r
+replies_to old new id None h = tt
+replies_to old new id (Some (Reply result error replied)) h = h.0
+replies_to old new id (Some (Request method params asked)) h = h
+replies_to old new id (Some (Notice method params)) h = h
+
+-- what replies to a session ends a run of the desk
+pub asked : (database : List ℕ) (who : ℕ) (ask : Ask) (before after : RecordedValue) (r : Result (Option Message) NoMemory)
+    → IfOk r (λ m. AsksTo (owing_of before.desk who) ask.id m (owing_of after.desk who)) → IfOk r (λ m. IsStep database (steps.Asked who ask m) before after)
+    → IfOk r (λ m. EndsRun database (steps.Asked who ask m) × RepliesTo ask.id m)
+asked database who ask before after (Ok m) replied is =
+    (ends_run database (steps.Asked who ask m) before after is, replies_to (owing_of before.desk who) (owing_of after.desk who) ask.id m replied)
+asked database who ask before after (Err x) replied is = tt
+
+-- a message that is given is
+pub given : (who : ℕ) (known now : List DeskStep) (r : Result (Option Message) NoMemory)
+    → IfOk r (λ m. EndsWith (steps.Collected who m) known now) → IfOk r (λ o. IfSome o (λ m. EndsWith (steps.Collected who (Some m)) known now))
+given who known now (Ok None) ends = tt
+given who known now (Ok (Some m)) ends = ends
+given who known now (Err x) ends = tt

@@ -1,0 +1,5 @@
+pub mod Empty
+pub mod Ends
+pub mod Tallies
+pub mod Leaving
+pub mod Noted

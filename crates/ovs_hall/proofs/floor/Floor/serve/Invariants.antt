@@ -1,0 +1,5 @@
+use Rattle.ovs_hall.proofs.floor.Floor.serve.Given as goal
+
+-- doors that were closed still are
+abbrev pub invariant-loop-turn : goal.invariant-loop-turn
+invariant-loop-turn g l = g.D.Doors.is_closed l.fn.self.doors → g.D.Doors.is_closed l.self.doors

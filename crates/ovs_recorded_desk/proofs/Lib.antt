@@ -1,0 +1,4 @@
+pub mod Accounting
+pub mod Closing
+pub mod Recording
+pub mod Sending

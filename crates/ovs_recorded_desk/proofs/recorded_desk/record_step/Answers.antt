@@ -1,0 +1,15 @@
+use Rattle.std.proofs.Common.{subst, sym}
+use Rattle.ovs_desk.specs.RelayDesk.{new_desk}
+use Rattle.ovs_recorded_desk.specs.Steps.{DoesAll}
+use Rattle.ovs_recorded_desk.proofs.Recording.{does_last}
+use Rattle.ovs_recorded_desk.proofs.recorded_desk.record_step.Goals as goal
+
+pub record_entry-requires : goal.record_entry-requires
+record_entry-requires g c = record {
+  holds = (c.args.desk.now, does_last (new_desk g.N.DeskName.database) c.args.before.now.value c.args.desk.now c.args.front.now (g.M.EntryFrom.entry c.args.about.now) c.requires.made c.requires.does);
+}
+
+pub returns-clause-made : goal.returns-clause-made
+returns-clause-made g c =
+    subst (λ made. DoesAll (new_desk g.N.DeskName.database) made c.args.desk.now) (sym c.record_entry.ensures.added)
+    (does_last (new_desk g.N.DeskName.database) c.args.before.now.value c.args.desk.now c.args.front.now (g.M.EntryFrom.entry c.args.about.now) c.requires.made c.requires.does)
