@@ -1,2 +1,3 @@
-pub mod Answering
+pub mod Giving
+pub mod Learning
 pub mod Sent

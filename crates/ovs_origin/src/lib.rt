@@ -2,20 +2,14 @@
 //! caller's thread.
 #![tactic(auto)]
 
-mod crossing;
 mod locked_source;
-mod node_source;
 mod origin_desk;
-mod origin_state;
 mod sending;
 mod source_crew;
 mod source_line;
 mod source_threads;
-mod waiting_answers;
 
-pub use crossing::waiting_answers_send;
 pub use locked_source::LockedSource;
-pub use node_source::NodeSource;
 pub use origin_desk::OriginDesk;
 pub use sending::{SourceFollowed, follow_source};
 pub use source_crew::{SourceCrew, SourceParts};

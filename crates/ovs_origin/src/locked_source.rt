@@ -1,64 +1,164 @@
 //! A source's desk behind a lock.
 
-ghost use Rattle.std.specs.Prelude.{◌≡◌};
+ghost use Rattle.std.specs.Prelude.{◌≡◌, Some, true, IfOk, IfSome};
+ghost use mathlib.Core.List.{IsPrefix};
+ghost use Rattle.std.specs.Coded.{Coded-set};
+ghost use Rattle.std.specs.Option.{ForSome};
 ghost use Rattle.ovs_links.specs.Sets.{IsOfTables};
+ghost use Rattle.ovs_recorded_source.specs.Steps.{EndsRun, EndsWith, IsAsked, IsGiven};
+ghost use Rattle.ovs_recorded_source.specs.Waiting.{next_standing};
+ghost use Rattle.ovs_recorded_source.specs.declared.step.SourceStep.TheVariants as steps;
+ghost use Rattle.ovs_types.specs.contracts.schema.Schema as schema;
 ghost use Rattle.ovs_service.specs.Replies.{RepliesTo, IsAnswer};
+ghost use Rattle.ovs_views.specs.Published.{is_shown};
+ghost use Rattle.ovs_origin.specs.Giving.{IsCollected};
+ghost use Rattle.ovs_origin.specs.Learning.{Learns};
 
-use crate::node_source::NodeSource;
 use crate::origin_desk::OriginDesk;
-use crate::origin_state::OriginState;
-use ovs_authority::Ask;
+use ovs_authority::{Ask, Verb};
 use ovs_engine::{DeskLock, KnownDesk};
 use ovs_hall::Bell;
 use ovs_json::NoMemory;
 use ovs_links::Link;
+use ovs_recorded_source::{RecordedSource, SourceFront, SourceName};
 use ovs_views::{NodeName, View, ViewSession};
 use ovs_wire::Message;
 use std::alloc::Global;
+use std::marker::PhantomData;
 use std::sync::{Mutex, Wait};
 use std::thread::Parker;
 
-/// A source's desk behind a lock, which is taken for one call at a time.
-#[derive(Drop)]
-pub struct LockedSource<'a, K: NodeName, R: Wait> {
-    rt: &'a R,
-    alloc: Global,
-    desk: Mutex<OriginState<K>>,
-    bell: Parker,
+// Whether a session may be given what it is given next: where answers are held back, the reply that waits first for it only once it was
+// shown where that stands.
+fn may_be_given<K: NodeName, N: SourceName>(
+    desk: &RecordedSource<N>,
+    who: u64,
+    is_held_back: bool,
+    view: &mut View<K>,
+    session: &ViewSession<K>,
+) -> bool
+    ensures shown { result ≡ true → is_held_back ≡ true → ForSome (next_standing who desk.now.state.waiting) (λ id. is_shown session.now.last id ≡ true) }
+    ensures view { view.new ≡ view.old }
+{
+    match desk.standing(who) {
+        Some(id) if is_held_back => view.has_shown(session, id) == Ok(true),
+        _ => true,
+    }
 }
 
-impl<'a, K: NodeName, R: Wait> LockedSource<'a, K, R> {
-    /// This desk.
-    pub fn new(rt: &'a R, alloc: Global, desk: NodeSource<K>) -> LockedSource<'a, K, R> {
+// The next message for a session, where that may be given.
+fn collect_shown<K: NodeName, N: SourceName, R: Wait>(
+    rt: &R,
+    alloc: Global,
+    desk: &mut RecordedSource<N>,
+    who: u64,
+    is_held_back: bool,
+    view: &mut View<K>,
+    session: &ViewSession<K>,
+    known: &mut SourceFront<N>,
+) -> Result<Option<Message>, NoMemory>
+    ensures given { IfOk result (λ r. IfSome r (λ m. IsCollected N.start is_held_back who session.now.last m × IsAnswer m)) }
+    ensures ends { IfOk result (λ r. IfSome r (λ m. IsGiven (λ s. EndsWith s known.old known.new) who (Some m))) }
+    ensures view { view.new ≡ view.old }
+{
+    if !may_be_given(&*desk, who, is_held_back, view, session) {
+        return Ok(None);
+    }
+    desk.collect(rt, alloc, who, known)
+}
+
+// An epoch that is due begins before a transaction, though replies wait: it is after so many commits, and no more.
+fn begin_before<N: SourceName, R: Wait>(
+    rt: &R,
+    alloc: Global,
+    desk: &mut RecordedSource<N>,
+    verb: &Verb,
+    known: &mut SourceFront<N>,
+)
+    ensures learnt { IsPrefix known.old known.new }
+{
+    if let Verb::Transact(_) = verb {
+        let _has_begun = desk.trim_if_due(rt, alloc, known);
+    }
+}
+
+// Asks for a session.
+fn ask_in_epoch<N: SourceName, R: Wait>(
+    rt: &R,
+    alloc: Global,
+    desk: &mut RecordedSource<N>,
+    who: u64,
+    ask: Ask,
+    known: &mut SourceFront<N>,
+) -> Result<Option<Message>, NoMemory>
+    ensures replied { IfOk result (λ r. IsAsked (EndsRun N.start) who ask r × RepliesTo ask.id r) }
+    ensures ends { IfOk result (λ r. IsAsked (λ s. EndsWith s known.old known.new) who ask r) }
+{
+    begin_before(rt, alloc, &mut *desk, &ask.verb, known);
+    desk.ask(rt, alloc, who, ask, known)
+}
+
+/// A source's desk behind a lock, which is taken for one call at a time. All calls on it are steps of one run, of which each caller
+/// knows those that were made up to its last.
+#[derive(Drop)]
+pub struct LockedSource<'a, K: NodeName, N: SourceName, R: Wait> {
+    rt: &'a R,
+    alloc: Global,
+    desk: Mutex<RecordedSource<N>>,
+    bell: Parker,
+    of: PhantomData<K>,
+    ghost schema: { N.start.source.schema ≡ K.schema } by { Coded-set schema.the_row.coded N.start.source.schema K.schema },
+}
+
+impl<'a, K: NodeName, N: SourceName, R: Wait> LockedSource<'a, K, N, R> {
+    /// This desk, which began with a database of the node's schema.
+    pub fn new(rt: &'a R, alloc: Global, desk: RecordedSource<N>) -> LockedSource<'a, K, N, R>
+        requires schema { N.start.source.schema ≡ K.schema }
+    {
         LockedSource {
             rt,
             alloc,
-            desk: Mutex::new(OriginState::new(alloc, desk)),
+            desk: Mutex::new(desk),
             bell: Parker::new(),
+            of: PhantomData,
+        }
+    }
+
+    // An epoch that is due begins, if no reply waits, and the thread that sends its link is woken.
+    fn trim_once_answered(&self, desk: &mut RecordedSource<N>, known: &mut SourceFront<N>)
+        ensures learnt { IsPrefix known.old known.new }
+    {
+        if desk.trim_once_answered(self.rt, self.alloc, known) {
+            self.bell.unpark();
         }
     }
 }
 
-impl<'a, K: NodeName, R: Wait> KnownDesk for LockedSource<'a, K, R> {
-    // Of the calls on it nobody knows anything.
-    type Known = ();
+impl<'a, K: NodeName, N: SourceName, R: Wait> KnownDesk for LockedSource<'a, K, N, R> {
+    type Known = SourceFront<N>;
 
-    fn known(&self) {}
+    fn known(&self) -> SourceFront<N> {
+        self.desk.lock(self.rt).known()
+    }
 }
 
-impl<'a, K: NodeName, R: Wait> DeskLock<K> for LockedSource<'a, K, R> {
-    ghost replies = { λ _ ask r. RepliesTo ask.id r };
+impl<'a, K: NodeName, N: SourceName, R: Wait> DeskLock<K> for LockedSource<'a, K, N, R> {
+    ghost replies = { λ who ask r. IsAsked (EndsRun N.start) who ask r };
 
-    ghost owes = { λ _ _ _ m. IsAnswer m };
+    ghost owes = { λ held who steps m. IsCollected N.start held who steps m };
 
     fn ask(
         &self,
         alloc: Global,
         who: u64,
         ask: Ask,
-        _known: &mut (),
-    ) -> Result<Option<Message>, NoMemory> {
-        self.desk.lock(self.rt).ask(alloc, who, ask)
+        known: &mut SourceFront<N>,
+    ) -> Result<Option<Message>, NoMemory>
+        ensures replied { IfOk result (λ r. IsAsked (EndsRun N.start) who ask r × RepliesTo ask.id r) }
+        ensures ends { IfOk result (λ r. IsAsked (λ s. EndsWith s known.old known.new) who ask r) }
+    {
+        let mut desk = self.desk.lock(self.rt);
+        ask_in_epoch(self.rt, alloc, &mut *desk, who, ask, known)
     }
 
     fn collect(
@@ -68,37 +168,51 @@ impl<'a, K: NodeName, R: Wait> DeskLock<K> for LockedSource<'a, K, R> {
         is_held_back: bool,
         view: &mut View<K>,
         session: &ViewSession<K>,
-        _known: &mut (),
-    ) -> Result<Option<Message>, NoMemory> {
-        let mut state = self.desk.lock(self.rt);
-        let collected = state.collect(alloc, who, is_held_back, view, session)?;
-        if state.trim_once_answered(alloc) {
-            self.bell.unpark();
-        }
+        known: &mut SourceFront<N>,
+    ) -> Result<Option<Message>, NoMemory>
+        ensures given { IfOk result (λ r. IfSome r (λ m. IsCollected N.start is_held_back who session.now.last m × IsAnswer m)) }
+        ensures view { view.new ≡ view.old }
+        ensures learnt { IfOk result (λ r. IfSome r (λ m. IsGiven (λ s. Learns s known.old known.new) who (Some m))) }
+    {
+        let mut desk = self.desk.lock(self.rt);
+        let collected = collect_shown(
+            self.rt,
+            alloc,
+            &mut *desk,
+            who,
+            is_held_back,
+            view,
+            session,
+            known,
+        )?;
+        self.trim_once_answered(&mut *desk, known);
         Ok(collected)
     }
 
     // An epoch that is due waits for no reply of the session any more.
-    fn end_session(&self, who: u64, _known: &mut ()) {
-        let mut state = self.desk.lock(self.rt);
-        state.end_session(who);
-        if state.trim_once_answered(self.alloc) {
-            self.bell.unpark();
-        }
+    fn end_session(&self, who: u64, known: &mut SourceFront<N>)
+        ensures learnt { Learns (steps.Ended who) known.old known.new }
+    {
+        let mut desk = self.desk.lock(self.rt);
+        desk.end_session(self.rt, who, known);
+        self.trim_once_answered(&mut *desk, known);
     }
 }
 
-impl<'a, K: NodeName, R: Wait> Bell for LockedSource<'a, K, R> {
+impl<'a, K: NodeName, N: SourceName, R: Wait> Bell for LockedSource<'a, K, N, R> {
     fn ring(&self) {
         self.bell.unpark();
     }
 }
 
-impl<'a, K: NodeName, R: Wait> OriginDesk<K> for LockedSource<'a, K, R> {
-    ghost gives = { λ l. IsOfTables K.schema.description.tables l };
+impl<'a, K: NodeName, N: SourceName, R: Wait> OriginDesk<K> for LockedSource<'a, K, N, R> {
+    ghost gives = { λ l. EndsRun N.start (steps.TookLink (Some l)) };
 
-    fn next_link(&self) -> Option<Link> {
-        self.desk.lock(self.rt).next_link()
+    fn next_link(&self, known: &mut SourceFront<N>) -> Option<Link>
+        ensures given { IfSome result (λ l. EndsRun N.start (steps.TookLink (Some l)) × IsOfTables K.schema.description.tables l) }
+        ensures ends { EndsWith (steps.TookLink result) known.old known.new }
+    {
+        self.desk.lock(self.rt).next_link(self.rt, known)
     }
 
     fn wait(&self) {

@@ -15,7 +15,7 @@ pub trait OriginDesk<K: NodeName>: DeskLock<K> + Bell {
     ghost gives: { Link → Type 0 };
 
     /// The next link that came of what was asked, which is taken out, if there is one.
-    fn next_link(&self) -> Option<Link>
+    fn next_link(&self, known: &mut Self::Known) -> Option<Link>
         ensures given { IfSome result (λ l. gives l × IsOfTables K.schema.description.tables l) };
 
     /// Waits until it was rung since the last call came back, or, if this is the first, at all. Only the thread that sends its

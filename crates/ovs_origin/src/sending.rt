@@ -24,6 +24,7 @@ pub struct SourceFollowed<S: LinkSink> {
 // Sends the next link of the desk; false where there is none.
 fn send_next<K: NodeName, L: OriginDesk<K>, S: LinkSink>(
     desk: &L,
+    known: &mut L::Known,
     sink: &mut S,
     counts: &mut Counts,
 ) -> bool
@@ -31,7 +32,7 @@ fn send_next<K: NodeName, L: OriginDesk<K>, S: LinkSink>(
     ensures sent { HasSent L.gives (S.sent sink.old) (S.sent sink.new) counts.old.messages counts.new.messages }
     ensures none { result ≡ false → (sink.new ≡ sink.old) × (counts.new ≡ counts.old) }
 {
-    let Some(link) = desk.next_link() else {
+    let Some(link) = desk.next_link(known) else {
         return false;
     };
     sink.send(link);
@@ -51,10 +52,11 @@ fn send_all<K: NodeName, L: OriginDesk<K>, S: LinkSink, R: Wait>(
     requires takes { (l : Link) → IsOfTables K.schema.description.tables l → S.takes l }
     ensures sent { HasSent L.gives (S.sent sink.old) (S.sent sink.new) counts.old.messages counts.new.messages }
 {
+    let mut known = desk.known();
     for _ in rt.forever() {
         // Who ends after this has asked before, so that no link comes later than it is looked for.
         let is_last = running.load(Ordering::SeqCst) <= 1;
-        match send_next::<K, L, S>(desk, sink, counts) {
+        match send_next::<K, L, S>(desk, &mut known, sink, counts) {
             true => {}
             false if is_last => break,
             false => desk.wait(),

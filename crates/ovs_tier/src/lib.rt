@@ -2,7 +2,6 @@
 #![tactic(auto)]
 
 mod closing;
-mod crossing;
 mod error;
 mod places;
 mod relay;

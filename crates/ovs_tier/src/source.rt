@@ -1,13 +1,12 @@
 //! The source over sockets.
 
-ghost use Rattle.std.specs.Prelude.{◌≡◌, ◌≤◌, []};
+ghost use Rattle.std.specs.Prelude.{◌≡◌, ◌≤◌, [], IfOk};
 ghost use Rattle.std.specs.List.{AllByRecursion};
 ghost use Rattle.left_right.specs.Handles.{published, pending};
 ghost use Rattle.ovs_folder.specs.InStep.{IsInStep};
 ghost use Rattle.ovs_folder.specs.Ledger.{IsFresh, steps_in};
 
 use crate::closing::{Closing, closing_of_source};
-use crate::crossing::source_desk_sends;
 use crate::error::TierError;
 use crate::places::{LIMITS, Places, WORKERS};
 use crate::stop::Stop;
@@ -20,10 +19,8 @@ use ovs_node::{
     Board, FeedEnd, FeedName, FeedQueue, Handle, Node, NodeError, NodeLink, NodeName, OpenNode,
     Opened, Parts, View,
 };
-use ovs_origin::{
-    LockedSource, NodeSource, SharedSource, SourceCrew, SourceLine, SourceParts, run_source,
-    waiting_answers_send,
-};
+use ovs_origin::{LockedSource, SharedSource, SourceCrew, SourceLine, SourceParts, run_source};
+use ovs_recorded_source::{RecordedSource, SourceName, SourceStep, holding_desk_sends};
 use ovs_sockets::{Ending, IsEnding, SocketBell, SocketDoors};
 use ovs_source::{FreshRows, Source, SourceDesk};
 use ovs_types::{RowId, Schema, TxnId};
@@ -169,7 +166,9 @@ fn named<
     requires publisher { IsInStep (published node.publisher.handle) (pending node.publisher.handle) node.publisher.front node.publisher.kept [] }
 {
     let parts = node.named::<Q>()?;
-    run(rt, source, schema, parts)
+    let desk = desk_of(source.alloc, schema, source.begins)?;
+    let opened = Opened::<SourceStep>::new();
+    run::<K, Q, Brand, R>(rt, source, parts, desk, opened)
 }
 
 // Has the desk begin a new epoch after so many links, where that is wanted; none where it is after no link.
@@ -183,27 +182,23 @@ fn renew_every(desk: &mut SourceDesk, every: Option<u32>)
 }
 
 // A desk of a source without a commit.
-fn desk_of<K: NodeName>(
-    alloc: Global,
-    schema: &Schema,
-    begins: Begins,
-) -> Result<NodeSource<K>, TierError>
-    requires schema { schema.now ≡ K.schema }
+fn desk_of(alloc: Global, schema: &Schema, begins: Begins) -> Result<SourceDesk, TierError>
+    ensures schema { IfOk result (λ d. d.source.schema ≡ schema.now) }
 {
     let source = Source::new(alloc, schema)?;
     let fresh = FreshRows::new(begins.first_row);
     let mut desk = SourceDesk::new(alloc, source, fresh, begins.first_commit);
     renew_every(&mut desk, begins.trim_every);
-    Ok(NodeSource::new(desk))
+    Ok(desk)
 }
 
 // The desk's thread, and a worker at each of these doors.
-fn crew_of<'a, K: NodeName, Q: FeedName, R: Wait + Log + Drop>(
+fn crew_of<'a, K: NodeName, Q: FeedName, N: SourceName, R: Wait + Log + Drop>(
     alloc: Global,
     end: FeedEnd<NodeLink<K>, Q>,
     views: Vec<View<K>>,
     doors: Vec<Unused<SocketDoors<R>>>,
-) -> Result<SourceCrew<K, Q, LockedSource<'a, K, R>, SocketDoors<R>>, TierError>
+) -> Result<SourceCrew<K, Q, LockedSource<'a, K, N, R>, SocketDoors<R>>, TierError>
     requires unsent { end.1 ≡ [] }
 {
     let mut views = views;
@@ -224,18 +219,19 @@ fn crew_of<'a, K: NodeName, Q: FeedName, R: Wait + Log + Drop>(
 
 // What a source's threads share beside its node's own.
 #[derive(Drop)]
-struct Stage<'x, K: NodeName, R: Wait> {
-    desk: LockedSource<'x, K, R>,
+struct Stage<'x, K: NodeName, N: SourceName, R: Wait> {
+    desk: LockedSource<'x, K, N, R>,
     // Of the workers.
     bells: Vec<SocketBell>,
     counters: Counters,
 }
 
-// Runs the node, and tells what came of it.
+// Runs the node with this desk, and tells what came of it.
 fn run<
     'x,
     K: NodeName + Send + Sync,
     Q: FeedName + Send + Sync,
+    N: SourceName + Send,
     R: Threads
         + Wait
         + Net<Listener = TcpListener, Stream = TcpStream>
@@ -247,10 +243,12 @@ fn run<
 >(
     rt: &'x R,
     source: SourceNode<R>,
-    schema: &Schema,
     parts: Parts<K, Q, Handle<K, &'x R>>,
+    desk: SourceDesk,
+    opened: Opened<SourceStep>,
 ) -> Result<Closing, TierError>
-    requires schema { schema.now ≡ K.schema }
+    requires desk { (opened.seen.book ≡ N.book) × (desk ≡ N.start) }
+    requires schema { desk.source.schema ≡ K.schema }
     requires in_step { IsInStep (published parts.node.publisher.handle) (pending parts.node.publisher.handle) parts.node.publisher.front parts.node.publisher.kept (steps_in parts.node.intake.store) }
     requires unsent { AllByRecursion (λ e. e.1 ≡ []) parts.ends.items }
 {
@@ -261,16 +259,11 @@ fn run<
         views,
         board,
     } = parts;
-    let SourceNode {
-        alloc,
-        places,
-        begins,
-        ..
-    } = source;
+    let SourceNode { alloc, places, .. } = source;
     let Places { doors, bells, .. } = places;
-    let desk = LockedSource::new(rt, alloc, desk_of::<K>(alloc, schema, begins)?);
+    let (desk, _known) = RecordedSource::<N>::new(alloc, desk, opened);
     let stage = Stage {
-        desk,
+        desk: LockedSource::new(rt, alloc, desk),
         bells,
         counters: Counters::new(),
     };
@@ -290,6 +283,7 @@ fn staged<
     'e,
     K: NodeName + Send + Sync,
     Q: FeedName + Send + Sync,
+    N: SourceName + Send,
     R: Threads
         + Wait
         + Net<Listener = TcpListener, Stream = TcpStream>
@@ -303,10 +297,10 @@ fn staged<
     alloc: Global,
     queue: &'a FeedQueue<NodeLink<K>, Q>,
     board: &'a Mutex<Board<K>>,
-    stage: &'a Stage<'x, K, R>,
+    stage: &'a Stage<'x, K, N, R>,
     watching: &'a Watching<'x, 'e, R>,
     node: Node<K, Q, Handle<K, &'x R>>,
-    crew: SourceCrew<K, Q, LockedSource<'x, K, R>, SocketDoors<R>>,
+    crew: SourceCrew<K, Q, LockedSource<'x, K, N, R>, SocketDoors<R>>,
 ) -> Result<Closing, TierError>
     requires in_step { IsInStep (published node.publisher.handle) (pending node.publisher.handle) node.publisher.front node.publisher.kept (steps_in node.intake.store) }
 {
@@ -320,8 +314,7 @@ fn staged<
         watcher: &*watching,
         limits: LIMITS,
     };
-    source_desk_sends();
-    waiting_answers_send();
+    holding_desk_sends();
     match run_source(alloc, &shared, node, crew) {
         Ok(ran) => closing_of_source(&*rt, alloc, &*queue, &*board, ran),
         Err(_unrun) => Err(TierError::NoMemory),

@@ -1,0 +1,4 @@
+pub mod Accounts
+pub mod Nobody
+pub mod Steps
+pub mod Waiting

@@ -1,0 +1,289 @@
+//! A source's desk with its history.
+
+ghost use Rattle.std.specs.Prelude.{◌≡◌, [], true, false, IfOk, IfNone, IfSome, OnOk, OnErr};
+ghost use Rattle.ovs_links.specs.Sets.{IsOfTables};
+ghost use Rattle.ovs_links.specs.Store.{tables_of};
+ghost use Rattle.ovs_recorded_source.specs.Steps.{EndsWith, IsAsked, IsGiven, IsStep, begun, first_link};
+ghost use Rattle.ovs_recorded_source.specs.Waiting.{next_standing, replies_at};
+ghost use Rattle.ovs_recorded_source.specs.declared.step.SourceStep.TheVariants as steps;
+
+use crate::entries::{AskedEntry, BeganEntry, CollectedEntry, EndedEntry, GivenEntry, TookEntry};
+use crate::holding_desk::{HoldingDesk, Replied};
+use crate::name::{SourceFront, SourceHistory, SourceName};
+use crate::recorder::record_step;
+use crate::step::SourceStep;
+use ovs_authority::Ask;
+use ovs_history::{Book, Opened};
+use ovs_json::NoMemory;
+use ovs_links::Link;
+use ovs_source::SourceDesk;
+use ovs_types::TxnId;
+use ovs_wire::Message;
+use std::alloc::Global;
+use std::marker::Model;
+use std::snapshot::Snapshot;
+use std::sync::Wait;
+
+/// A source's desk and its replies that wait, with the list of all steps that were made on it. A contract sees it as these; that
+/// these steps, one after another, make this state of what the desk began with is an invariant of its type.
+#[derive(Drop)]
+pub struct RecordedSource<N: SourceName> {
+    desk: HoldingDesk,
+    book: Book<SourceStep, SourceHistory<N>>,
+    front: SourceFront<N>,
+}
+
+impl<N: SourceName> Model for RecordedSource<N> {
+    ghost use Rattle.std.specs.Prelude.{List, refl};
+    ghost use Rattle.std.specs.Coded.{code_by, coded×, coded_list};
+    ghost use Rattle.ovs_recorded_source.specs.Steps.{DoesAll, RecordedValue, SourceState, begun};
+    ghost use Rattle.ovs_recorded_source.specs.contracts.holding_desk.HoldingDesk as desk_row;
+    ghost use Rattle.ovs_recorded_source.specs.contracts.step.SourceStep as step_row;
+    ghost use Rattle.ovs_recorded_source.specs.declared.step.SourceStep.{SourceStep};
+
+    ghost Value = { RecordedValue };
+
+    ghost coded = { code_by (List SourceStep × SourceState)
+        (coded× (coded_list step_row.the_row.coded) desk_row.the_row.coded)
+        (λ r. (r.steps, r.state)) (λ p. record { steps = p.0; state = p.1 }) (λ _. refl) };
+
+    ghost view = { λ r. record { steps = r.front; state = r.desk } };
+
+    ghost invariant = { λ r. DoesAll (begun N.start) r.front r.desk };
+}
+
+impl<N: SourceName> RecordedSource<N> {
+    /// This desk, of which no reply waits, and on which no step was made; and what is known of its steps.
+    pub fn new(
+        alloc: Global,
+        desk: SourceDesk,
+        opened: Opened<SourceStep>,
+    ) -> (RecordedSource<N>, SourceFront<N>)
+        requires start { desk ≡ N.start }
+        requires book { opened.seen.book ≡ N.book }
+        ensures new { result.0 ≡ record { steps = []; state = begun N.start } }
+        ensures none { result.1 ≡ [] }
+    {
+        let (book, front) = opened.named::<SourceHistory<N>>();
+        let known = front.again();
+        let desk = HoldingDesk::new(alloc, desk);
+        (RecordedSource { desk, book, front }, known)
+    }
+
+    /// All steps that were made, for one caller more to know.
+    pub fn known(&self) -> SourceFront<N>
+        ensures all { result ≡ self.now.steps }
+    {
+        self.front.again()
+    }
+
+    /// Asks for a session. The reply to a transaction waits until it is collected, and any other is given at once.
+    ///
+    /// # Errors
+    /// `NoMemory` alone; then nothing was asked.
+    pub fn ask<R: Wait>(
+        &mut self,
+        rt: &R,
+        alloc: Global,
+        who: u64,
+        ask: Ask,
+        known: &mut SourceFront<N>,
+    ) -> Result<Option<Message>, NoMemory>
+        ensures asked { IfOk result (λ r. IsAsked (λ s. IsStep N.start s self.old self.new) who ask r) }
+        ensures told { OnOk result (known.new ≡ self.new.steps) }
+        ensures ends { IfOk result (λ r. IsAsked (λ s. EndsWith s known.old known.new) who ask r) }
+        ensures nothing { OnErr result ((self.new ≡ self.old) × (known.new ≡ known.old)) }
+    {
+        let (before, asked) = (Snapshot::of(&self.desk), Snapshot::of(&ask));
+        let Replied { at_once, answer } = self.desk.ask(alloc, who, ask)?;
+        let entry = AskedEntry {
+            who,
+            ask: asked,
+            answer,
+            before,
+            after: Snapshot::of(&self.desk),
+        };
+        record_step::<N, AskedEntry, AskedEntry, R>(
+            rt,
+            &self.book,
+            &mut self.front,
+            known,
+            &entry,
+            &entry.before,
+            &self.desk,
+        );
+        Ok(at_once)
+    }
+
+    // Gives the reply that waits first for a session, if one waits.
+    fn give<R: Wait>(&mut self, rt: &R, who: u64, known: &mut SourceFront<N>) -> Option<Message>
+        ensures given { IfSome result (λ m. IsStep N.start (steps.Given who m) self.old self.new) }
+        ensures told { IfSome result (λ _. known.new ≡ self.new.steps) }
+        ensures ends { IfSome result (λ m. EndsWith (steps.Given who m) known.old known.new) }
+        ensures nothing { IfNone result ((replies_at who self.old.state.waiting ≡ []) × (self.new ≡ self.old) × (known.new ≡ known.old)) }
+    {
+        let before = Snapshot::of(&self.desk);
+        let reply = self.desk.give(who)?;
+        let entry = GivenEntry { who, reply };
+        record_step::<N, GivenEntry, GivenEntry, R>(
+            rt,
+            &self.book,
+            &mut self.front,
+            known,
+            &entry,
+            &before,
+            &self.desk,
+        );
+        Some(entry.reply)
+    }
+
+    // Gives a session for which no reply waits the next notice, if one is owed.
+    fn collect_notice<R: Wait>(
+        &mut self,
+        rt: &R,
+        alloc: Global,
+        who: u64,
+        known: &mut SourceFront<N>,
+    ) -> Result<Option<Message>, NoMemory>
+        requires none { replies_at who self.old.state.waiting ≡ [] }
+        ensures given { IfOk result (λ m. IsStep N.start (steps.Collected who m) self.old self.new) }
+        ensures told { OnOk result (known.new ≡ self.new.steps) }
+        ensures ends { IfOk result (λ m. EndsWith (steps.Collected who m) known.old known.new) }
+        ensures nothing { OnErr result ((self.new ≡ self.old) × (known.new ≡ known.old)) }
+    {
+        let before = Snapshot::of(&self.desk);
+        let notice = self.desk.collect(alloc, who)?;
+        let entry = CollectedEntry { who, notice };
+        record_step::<N, CollectedEntry, CollectedEntry, R>(
+            rt,
+            &self.book,
+            &mut self.front,
+            known,
+            &entry,
+            &before,
+            &self.desk,
+        );
+        Ok(entry.notice)
+    }
+
+    /// The next message for a session: the reply that waits first for it, and where none waits the next notice.
+    ///
+    /// # Errors
+    /// `NoMemory` alone; then nothing was given.
+    pub fn collect<R: Wait>(
+        &mut self,
+        rt: &R,
+        alloc: Global,
+        who: u64,
+        known: &mut SourceFront<N>,
+    ) -> Result<Option<Message>, NoMemory>
+        ensures given { IfOk result (IsGiven (λ s. IsStep N.start s self.old self.new) who) }
+        ensures told { OnOk result (known.new ≡ self.new.steps) }
+        ensures ends { IfOk result (IsGiven (λ s. EndsWith s known.old known.new) who) }
+        ensures nothing { OnErr result ((self.new ≡ self.old) × (known.new ≡ known.old)) }
+    {
+        match self.give(rt, who, known) {
+            Some(reply) => Ok(Some(reply)),
+            None => self.collect_notice(rt, alloc, who, known),
+        }
+    }
+
+    /// Where the reply stands that waits first for a session, if one waits: the head of the source's chain behind it.
+    pub fn standing(&self, who: u64) -> Option<TxnId>
+        ensures value { result ≡ next_standing who self.now.state.waiting }
+    {
+        self.desk.standing(who)
+    }
+
+    /// Ends a session.
+    pub fn end_session<R: Wait>(&mut self, rt: &R, who: u64, known: &mut SourceFront<N>)
+        ensures ended { IsStep N.start (steps.Ended who) self.old self.new }
+        ensures told { known.new ≡ self.new.steps }
+        ensures ends { EndsWith (steps.Ended who) known.old known.new }
+    {
+        let before = Snapshot::of(&self.desk);
+        self.desk.end_session(who);
+        let entry = EndedEntry { who };
+        record_step::<N, EndedEntry, EndedEntry, R>(
+            rt,
+            &self.book,
+            &mut self.front,
+            known,
+            &entry,
+            &before,
+            &self.desk,
+        );
+    }
+
+    /// Takes out the first link of those that were made and weren't taken out, if there is one.
+    pub fn next_link<R: Wait>(&mut self, rt: &R, known: &mut SourceFront<N>) -> Option<Link>
+        ensures taken { IsStep N.start (steps.TookLink result) self.old self.new }
+        ensures told { known.new ≡ self.new.steps }
+        ensures ends { EndsWith (steps.TookLink result) known.old known.new }
+        ensures tables { IfSome result (IsOfTables (tables_of N.start.source)) }
+    {
+        let before = Snapshot::of(&self.desk);
+        let link = self.desk.next_link();
+        let entry = TookEntry { link };
+        record_step::<N, TookEntry, TookEntry, R>(
+            rt,
+            &self.book,
+            &mut self.front,
+            known,
+            &entry,
+            &before,
+            &self.desk,
+        );
+        entry.link
+    }
+
+    /// Begins a new epoch, if one is due. Whether it began; where it is refused the next call tries again. It is to be called
+    /// before each transaction.
+    pub fn trim_if_due<R: Wait>(
+        &mut self,
+        rt: &R,
+        alloc: Global,
+        known: &mut SourceFront<N>,
+    ) -> bool
+        ensures begun { result ≡ true → IsStep N.start (steps.BeganEpoch (first_link self.old.state.desk)) self.old self.new }
+        ensures told { result ≡ true → known.new ≡ self.new.steps }
+        ensures ends { result ≡ true → EndsWith (steps.BeganEpoch (first_link self.old.state.desk)) known.old known.new }
+        ensures nothing { result ≡ false → (self.new ≡ self.old) × (known.new ≡ known.old) }
+    {
+        let entry = BeganEntry {
+            before: Snapshot::of(&self.desk),
+        };
+        if !self.desk.begin_epoch(alloc) {
+            return false;
+        }
+        record_step::<N, BeganEntry, BeganEntry, R>(
+            rt,
+            &self.book,
+            &mut self.front,
+            known,
+            &entry,
+            &entry.before,
+            &self.desk,
+        );
+        true
+    }
+
+    /// The same, but while a reply waits none begins. It is to be called behind what was collected, and behind an end.
+    ///
+    /// Whoever was shown the epoch before is told nothing more once the new one is shown: so what stands on the older chain is given
+    /// first.
+    pub fn trim_once_answered<R: Wait>(
+        &mut self,
+        rt: &R,
+        alloc: Global,
+        known: &mut SourceFront<N>,
+    ) -> bool
+        ensures answered { result ≡ true → self.old.state.waiting ≡ [] }
+        ensures begun { result ≡ true → IsStep N.start (steps.BeganEpoch (first_link self.old.state.desk)) self.old self.new }
+        ensures told { result ≡ true → known.new ≡ self.new.steps }
+        ensures ends { result ≡ true → EndsWith (steps.BeganEpoch (first_link self.old.state.desk)) known.old known.new }
+        ensures nothing { result ≡ false → (self.new ≡ self.old) × (known.new ≡ known.old) }
+    {
+        self.desk.is_answered() && self.trim_if_due(rt, alloc, known)
+    }
+}
