@@ -1,5 +1,5 @@
 //! The framer: pieces of a stream in, whole messages out.
-ghost use Rattle.std.specs.Prelude.{◌≡◌, ◌≤◌, ◌++◌, length, take, drop, OnOk, OnErr};
+ghost use Rattle.std.specs.Prelude.{◌≡◌, ◌≤◌, ◌<◌, ◌-◌, ◌++◌, if◌then◌else◌, false, length, take, drop, OnOk, OnErr};
 ghost use Rattle.ovs_wire.specs.Frames.{Fault};
 ghost use Rattle.ovs_wire.specs.Framing.{IsNew, Feeds, Answers};
 
@@ -41,16 +41,21 @@ fn cut_back(buffer: &mut Vec<u8>, held: usize)
     buffer.shrink_to(SPARE_ROOM.max(2 * held));
 }
 
-// Moves what stands behind the first `taken` bytes to the front. A buffer less than a quarter full keeps room for twice
-// what it holds alone.
-fn move_to_front(buffer: &mut Vec<u8>, taken: usize)
+// Moves what stands behind the first `taken` bytes to the front, where it isn't longer than these: so each byte that is moved is
+// paid for by one that was taken. Whether it was moved. A buffer less than a quarter full then keeps room for twice what it holds alone.
+fn drop_taken(buffer: &mut Vec<u8>, taken: usize) -> bool
     requires { taken ≤ length buffer.old.items }
-    ensures value { buffer.new.items ≡ drop taken buffer.old.items }
+    ensures value { buffer.new.items ≡ (if result then drop taken buffer.old.items else buffer.old.items) }
+    ensures kept { result ≡ false → taken < length buffer.old.items - taken }
 {
+    if taken < buffer.len() - taken {
+        return false;
+    }
     buffer.drain(..taken);
     if buffer.len() < buffer.capacity() / 4 {
         buffer.shrink_to(SPARE_ROOM.max(2 * buffer.len()));
     }
+    true
 }
 
 /// Splits a stream of bytes into JSON objects with white space between them, as they come over a connection
@@ -112,18 +117,23 @@ impl Framer {
         }
     }
 
-    // Moves what is left to the front, where at least as many bytes were taken since the last time: so each byte that is
-    // moved is paid for by one that was taken. Where no message waits, white space before the rest counts as taken.
-    fn make_room(&mut self)
+    // Where no message waits, white space before the rest counts as taken.
+    fn take_space(&mut self)
         ensures value { self.new ≡ self.old }
     {
         if self.waiting.is_empty() {
             self.taken = self.tail.start;
             self.tail.end = self.tail.start;
         }
+    }
+
+    // Drops what was taken since the last time, where no more than that is left.
+    fn make_room(&mut self)
+        ensures value { self.new ≡ self.old }
+    {
+        self.take_space();
         let taken = self.taken;
-        if taken >= self.buffer.len() - taken {
-            move_to_front(&mut self.buffer, taken);
+        if drop_taken(&mut self.buffer, taken) {
             self.taken = 0;
             self.tail.end -= taken;
             self.tail.start -= taken;
