@@ -22,6 +22,8 @@ MOST_OF_A_SECOND = 0.3
 MOST_TRIES = 300
 WAITING = 3
 ANSWERS = 15
+REFUSED_AT_ONCE = 3
+MOST_CALLS_AT_AN_END = 1_000
 BY_NAME = select([["name", "!=", ""]], columns=["name"])
 
 
@@ -144,6 +146,46 @@ def an_answer_without_memory(lab):
 def an_answer_of_a_relay_without_memory(lab):
     """A relay that has no memory for an answer takes no processor meanwhile, and answers once there is memory."""
     one_that_is_too_long(lab, True)
+
+
+def at_its_end(lab, node_of):
+    """A node is refused a few calls for memory from where its end begins, later ones in each run, until it makes none that is refused."""
+    for first in range(1, MOST_CALLS_AT_AN_END, REFUSED_AT_ONCE):
+        memory = Memory(lab)
+        node, others = node_of(memory.environment)
+        with node.session() as session:
+            session.transact("net", insert(name="p"))
+            wait_until(lambda: len(session.transact("net", select())[0]["rows"]) == 1, 20, f"the {node.name} shows the row")
+            memory.forget()
+            memory.refuse_calls(first, first + REFUSED_AT_ONCE - 1)
+            for other in others:
+                other.stop()
+        what = f"the {node.name}'s status and output, where its calls for memory from number {first} on are refused"
+        equal(node.end(), (0, f"head {FIRST_ID}\nlinks 1 chain 1 parked 0\n"), what)
+        if memory.rules.refused == 0:
+            return
+    raise AssertionError(f"after {first} calls the {node.name} still asks for memory: {memory.told()}")
+
+
+@check(240)
+def want_of_memory_at_the_end_of_a_source(lab):
+    """Calls for memory that are refused at the end of a source lose no closing line."""
+
+    def source_of(environment):
+        return lab.source("--accepts", "1", environment=environment), []
+
+    at_its_end(lab, source_of)
+
+
+@check(240)
+def want_of_memory_at_the_end_of_a_relay(lab):
+    """Calls for memory that are refused at the end of a relay lose no closing line."""
+
+    def relay_of(environment):
+        source = lab.source()
+        return lab.relay([source], "--accepts", "1", "--tries", "1", environment=environment).with_source(), [source]
+
+    at_its_end(lab, relay_of)
 
 
 def each_refused(lab, *words, text):

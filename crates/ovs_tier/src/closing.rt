@@ -1,9 +1,10 @@
 //! What a node says at its end.
 
-ghost use Rattle.std.specs.Prelude.{◌≡◌, IfOk, OnOk, if◌then◌else◌, string_bytes};
+ghost use Rattle.std.specs.Prelude.{◌≡◌, ◌↔◌, IsTrue, OnOk, if◌then◌else◌, string_bytes};
 ghost use Rattle.left_right.specs.Handles.{published, pending};
 ghost use Rattle.ovs_fold.specs.Closing.{chain_lines};
-ghost use Rattle.ovs_folder.specs.InStep.{IsInStep};
+ghost use Rattle.ovs_feed.specs.Feed.{IsDrained};
+ghost use Rattle.ovs_folder.specs.InStep.{IsAtRest, IsInStep};
 ghost use Rattle.ovs_folder.specs.Ledger.{steps_in};
 ghost use Rattle.ovs_session.specs.declared.ended.Ended.{Ended};
 
@@ -11,14 +12,15 @@ use crate::error::TierError;
 use ovs_engine::{Connector, Finished, Line, Party, Returned};
 use ovs_fold::chain_lines;
 use ovs_hall::Doors;
-use ovs_links::LinkStore;
 use ovs_node::{
-    Board, FeedEnd, FeedName, FeedQueue, Handle, MAX_UPSTREAMS, MAX_VIEWS, Node, NodeLink, NodeName,
+    Board, FeedEnd, FeedName, FeedQueue, Handle, MAX_UPSTREAMS, MAX_VIEWS, Node, NodeLink,
+    NodeName, Report,
 };
 use ovs_origin::{OriginDesk, SourceSent};
 use ovs_session::Ended;
 use std::alloc::Global;
 use std::sync::{Mutex, Wait};
+use std::thread;
 
 /// What a node says once all its threads have come to their ends.
 #[derive(Drop)]
@@ -30,15 +32,25 @@ pub struct Closing {
 }
 
 impl Closing {
-    // What there is to say of this store.
-    fn of(alloc: Global, store: &LinkStore, is_whole: bool) -> Result<Closing, TierError>
-        ensures text { IfOk result (λ closing. string_bytes closing.text ≡ chain_lines store.now) }
-        ensures whole { IfOk result (λ closing. closing.is_whole ≡ is_whole) }
+    // What there is to say of a node that ended so. Where memory runs out it tries again.
+    fn of<K: NodeName, H, R: Wait>(rt: &R, alloc: Global, report: &Report<K, H>) -> Closing
+        ensures text { string_bytes result.text ≡ chain_lines report.now.store }
+        ensures whole { IsTrue result.is_whole ↔ ((report.now.forks ≡ 0) × (report.now.short ≡ 0)) }
     {
-        Ok(Closing {
-            text: chain_lines(alloc, store)?,
-            is_whole,
-        })
+        let mut text = String::new(alloc);
+        for _ in rt.forever() {
+            match chain_lines(alloc, &report.store) {
+                Ok(lines) => {
+                    text = lines;
+                    break;
+                }
+                Err(_) => thread::yield_now(),
+            }
+        }
+        Closing {
+            text,
+            is_whole: report.forks == 0 && report.short == 0,
+        }
     }
 
     /// The exit status of the program: 0 done, 1 where a link was refused.
@@ -64,47 +76,61 @@ fn take_back<K: NodeName, Q: FeedName, H: Wait + Drop>(
     }
 }
 
-// Takes these ends back, which are to be all that there are, and ends the node.
+// Folds what is left to be folded. Where memory runs out it tries again.
+fn fold_rest<K: NodeName, Q: FeedName, H: Wait + Drop, R: Wait>(
+    rt: &R,
+    queue: &FeedQueue<NodeLink<K>, Q>,
+    board: &Mutex<Board<K>>,
+    node: &mut Node<K, Q, Handle<K, H>>,
+)
+    requires in_step { IsInStep (published node.old.publisher.handle) (pending node.old.publisher.handle) node.old.publisher.front node.old.publisher.kept (steps_in node.old.intake.store) }
+    ensures done { IsAtRest node.new.intake node.new.settled (published node.new.publisher.handle) × IsDrained node.new.intake.feed }
+{
+    for _ in rt.forever() {
+        match node.fold_next(rt, queue, board) {
+            Ok(true) => {}
+            Ok(false) => break,
+            Err(_) => thread::yield_now(),
+        }
+    }
+}
+
+// Ends a node all of whose ends are to be back.
 fn closing_of<K: NodeName, Q: FeedName, H: Wait + Drop, R: Wait>(
     rt: &R,
     alloc: Global,
     queue: &FeedQueue<NodeLink<K>, Q>,
     board: &Mutex<Board<K>>,
     node: Node<K, Q, Handle<K, H>>,
-    ends: Vec<FeedEnd<NodeLink<K>, Q>>,
 ) -> Result<Closing, TierError>
     requires in_step { IsInStep (published node.publisher.handle) (pending node.publisher.handle) node.publisher.front node.publisher.kept (steps_in node.intake.store) }
 {
     let mut node = node;
-    for end in ends {
-        take_back(queue, &mut node, end)?;
-    }
-    if node.fold_next(rt, queue, board)? || !node.is_back() {
+    fold_rest(rt, queue, board, &mut node);
+    if !node.is_back() {
         return Err(TierError::NotBack);
     }
-    let report = node.finish();
-    let is_whole = report.forks == 0 && report.short == 0;
-    Closing::of(alloc, &report.store, is_whole)
+    Ok(Closing::of(rt, alloc, &node.finish()))
 }
 
-// What the threads of a relay's upstreams sent with.
-fn ends_of_relay<K: NodeName, Q: FeedName, C: Connector, D: Doors + Drop, N>(
-    alloc: Global,
-    ran: &mut Finished<K, Line<K, Q, C>, D, N>,
-) -> Result<Vec<FeedEnd<NodeLink<K>, Q>>, TierError>
-    ensures node { ran.new.node ≡ ran.old.node }
+// Takes back what the threads of a relay's upstreams sent with.
+fn take_ends_of_relay<K: NodeName, Q: FeedName, C: Connector, D: Doors + Drop, H: Wait + Drop>(
+    queue: &FeedQueue<NodeLink<K>, Q>,
+    ran: &mut Finished<K, Line<K, Q, C>, D, Node<K, Q, Handle<K, H>>>,
+) -> Result<(), TierError>
+    requires in_step { IsInStep (published ran.old.node.publisher.handle) (pending ran.old.node.publisher.handle) ran.old.node.publisher.front ran.old.node.publisher.kept (steps_in ran.old.node.intake.store) }
+    ensures in_step { IsInStep (published ran.new.node.publisher.handle) (pending ran.new.node.publisher.handle) ran.new.node.publisher.front ran.new.node.publisher.kept (steps_in ran.new.node.intake.store) }
 {
-    let mut ends = Vec::new(alloc);
     for _ in 0..MAX_UPSTREAMS + MAX_VIEWS {
         let Some(back) = ran.next_back() else {
             break;
         };
         let Returned { party, .. } = back;
         if let Party::Upstream(line) = party {
-            ends.push(line.into_end())?;
+            take_back(queue, &mut ran.node, line.into_end())?;
         }
     }
-    Ok(ends)
+    Ok(())
 }
 
 // What the thread of a source's desk sent with, where there was one.
@@ -119,24 +145,24 @@ fn end_of<K: NodeName, Q: FeedName, L: OriginDesk<K>>(
     }
 }
 
-// What the threads sent with that send a source's links.
-fn ends_of_source<K: NodeName, Q: FeedName, L: OriginDesk<K>, D: Doors + Drop, N>(
-    alloc: Global,
-    ran: &mut Finished<K, SourceSent<K, Q, L>, D, N>,
-) -> Result<Vec<FeedEnd<NodeLink<K>, Q>>, TierError>
-    ensures node { ran.new.node ≡ ran.old.node }
+// Takes back what the threads sent with that send a source's links.
+fn take_ends_of_source<K: NodeName, Q: FeedName, L: OriginDesk<K>, D: Doors + Drop, H: Wait + Drop>(
+    queue: &FeedQueue<NodeLink<K>, Q>,
+    ran: &mut Finished<K, SourceSent<K, Q, L>, D, Node<K, Q, Handle<K, H>>>,
+) -> Result<(), TierError>
+    requires in_step { IsInStep (published ran.old.node.publisher.handle) (pending ran.old.node.publisher.handle) ran.old.node.publisher.front ran.old.node.publisher.kept (steps_in ran.old.node.intake.store) }
+    ensures in_step { IsInStep (published ran.new.node.publisher.handle) (pending ran.new.node.publisher.handle) ran.new.node.publisher.front ran.new.node.publisher.kept (steps_in ran.new.node.intake.store) }
 {
-    let mut ends = Vec::new(alloc);
     for _ in 0..MAX_VIEWS {
         let Some(back) = ran.next_back() else {
             break;
         };
         let Returned { party, .. } = back;
         if let Party::Upstream(sent) = party {
-            ends.push(end_of(sent)?)?;
+            take_back(queue, &mut ran.node, end_of(sent)?)?;
         }
     }
-    Ok(ends)
+    Ok(())
 }
 
 /// Takes the ends of a relay back, and ends its node.
@@ -157,8 +183,8 @@ pub(crate) fn closing_of_relay<
     requires in_step { IsInStep (published ran.node.publisher.handle) (pending ran.node.publisher.handle) ran.node.publisher.front ran.node.publisher.kept (steps_in ran.node.intake.store) }
 {
     let mut ran = ran;
-    let ends = ends_of_relay(alloc, &mut ran)?;
-    closing_of(rt, alloc, queue, board, ran.node, ends)
+    take_ends_of_relay(queue, &mut ran)?;
+    closing_of(rt, alloc, queue, board, ran.node)
 }
 
 /// Takes the end of a source back, and ends its node.
@@ -179,6 +205,6 @@ pub(crate) fn closing_of_source<
     requires in_step { IsInStep (published ran.node.publisher.handle) (pending ran.node.publisher.handle) ran.node.publisher.front ran.node.publisher.kept (steps_in ran.node.intake.store) }
 {
     let mut ran = ran;
-    let ends = ends_of_source(alloc, &mut ran)?;
-    closing_of(rt, alloc, queue, board, ran.node, ends)
+    take_ends_of_source(queue, &mut ran)?;
+    closing_of(rt, alloc, queue, board, ran.node)
 }
