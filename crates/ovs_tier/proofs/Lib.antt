@@ -1,1 +1,2 @@
 pub mod DeskParts
+pub mod Sending

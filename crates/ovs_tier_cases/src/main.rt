@@ -36,6 +36,12 @@ const MOST_SELECTS: u32 = 100_000;
 
 const MOST_CONNECTIONS: u32 = 1_000;
 
+// What came of a node.
+type NodeEnd = Result<Closing, TierError>;
+
+// What the client was answered.
+type ClientAnswers = Result<(String, String), Fault>;
+
 // An address of this machine, with a port that the system chooses.
 fn any_port() -> Result<SocketAddr, Fault> {
     "127.0.0.1:0"
@@ -124,7 +130,35 @@ fn told<R: Print>(
     Ok(())
 }
 
-// Runs the tier until the client has seen its row: each node in a thread of its own, and the client in this one.
+// Runs a source and a relay, each in a thread of its own, and the client in this one: what came of each. Nodes and what runs them go apart
+// to the threads, so that it is known of each node's type alone that it may.
+fn beside<
+    R: Threads + Sync,
+    S: Send + Drop,
+    N: Send + Drop,
+    F: FnOnce(S) -> NodeEnd + Send,
+    G: FnOnce(N) -> NodeEnd + Send,
+    C: FnOnce() -> ClientAnswers,
+>(
+    rt: &R,
+    source: S,
+    run_source: F,
+    relay: N,
+    run_relay: G,
+    client: C,
+) -> (NodeEnd, (NodeEnd, ClientAnswers))
+    requires source { (f : _) (x : _) → F.pre f x }
+    requires relay { (f : _) (x : _) → G.pre f x }
+    requires client { (f : _) → C.pre f }
+{
+    join(
+        rt,
+        move || run_source(source),
+        move || join(rt, move || run_relay(relay), client),
+    )
+}
+
+// Runs the tier until the client has seen its row.
 fn tier<
     R: Print
         + Threads
@@ -148,10 +182,13 @@ fn tier<
         end_all(&stops);
         answers
     };
-    let (of_source, (of_relay, answers)) = join(
+    let (of_source, (of_relay, answers)) = beside(
         &rt,
-        move || source.run(schema),
-        move || join(&rt, move || relay.run(schema), client),
+        source,
+        |source: SourceNode<Logged<R, R>>| source.run(schema),
+        relay,
+        |relay: Relay<Logged<R, R>>| relay.run(schema),
+        client,
     );
     told(&rt, &answers?, &[of_source, of_relay])
 }
