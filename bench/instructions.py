@@ -1,13 +1,13 @@
 #!/usr/bin/env python3
 """Counts the instructions that a relay carries out for a request, a commit, a notification and a first copy, by valgrind.
 
-    python3 bench/instructions.py PROGRAM [PROGRAM] [--only WORD ..] [--rounds N]
+    python3 bench/instructions.py PROGRAM [PROGRAM] [--source] [--only WORD ..] [--rounds N]
 
 A count of instructions is nearly the same however busy the machine is, so that two programs can be compared where seconds can't; it is of
-the program and its libraries alone, without the kernel's. Each measurement runs a source, as it is, and a relay behind it by callgrind, which
-does something a few times, and then more often: the difference of the two counts, by how much more often, is what one time costs. Of as
-many rounds as asked for the median counts. Printed are thousands of instructions, and with two programs the ratio of the second to the
-first. It needs valgrind.
+the program and its libraries alone, without the kernel's. Each measurement runs a source, as it is, and a relay behind it by callgrind, or
+with --source a source by callgrind, which does something a few times, and then more often: the difference of the two counts, by how much
+more often, is what one time costs. Of as many rounds as asked for the median counts. Printed are thousands of instructions, and with two
+programs the ratio of the second to the first. It needs valgrind.
 """
 import argparse
 import os
@@ -32,23 +32,32 @@ WRITE = {"op": "mutate", "table": "Counter", "where": [], "mutations": [["number
 TOTAL = re.compile(r"^(?:summary|totals): (\d+)", re.MULTILINE)
 
 
-class Counting:
-    """A source with rows, and a relay behind it whose instructions are counted."""
+def fill(source):
+    """Inserts the rows at a source."""
+    with source.session(PATIENCE) as writer:
+        for table, rows in ROWS.items():
+            writer.transact("bench", *({"op": "insert", "table": table, "row": row(number)} for number in range(rows)))
 
-    def __init__(self, lab, program):
+
+class Counting:
+    """A node with rows whose instructions are counted: a relay behind a source, or a source."""
+
+    def __init__(self, lab, program, is_source):
         lab.program = program
-        self.lab, self.source = lab, lab.source(schema=SCHEMA)
+        self.lab, self.source = lab, None if is_source else lab.source(schema=SCHEMA)
         port, self.counts = free_port(), lab.path(f"counts-{len(lab.children)}")
-        words = ["valgrind", "--tool=callgrind", "--trace-children=yes", f"--callgrind-out-file={self.counts}.%p"]
-        with self.source.session(PATIENCE) as writer:
-            for table, rows in ROWS.items():
-                writer.transact("bench", *({"op": "insert", "table": table, "row": row(number)} for number in range(rows)))
-        self.relay = Node(lab, words + lab.relay_words(port, [self.source.port], schema=SCHEMA), "relay", port)
-        self.relay.child.wait_to_serve(port, PATIENCE)
-        wait_until(lambda: self.rows("Port") == ROWS["Port"], PATIENCE, "the relay has the rows")
+        words = lab.source_words(port, schema=SCHEMA) if is_source else lab.relay_words(port, [self.source.port], schema=SCHEMA)
+        if self.source:
+            fill(self.source)
+        by = ["valgrind", "--tool=callgrind", "--trace-children=yes", f"--callgrind-out-file={self.counts}.%p"]
+        self.node = Node(lab, by + words, "counted", port)
+        self.node.child.wait_to_serve(port, PATIENCE)
+        if is_source:
+            fill(self.node)
+        wait_until(lambda: self.rows("Port") == ROWS["Port"], PATIENCE, "the node has the rows")
 
     def session(self):
-        return self.relay.session(PATIENCE)
+        return self.node.session(PATIENCE)
 
     def rows(self, table):
         with self.session() as session:
@@ -56,10 +65,11 @@ class Counting:
             return len(answer[0].get("rows", ()))
 
     def end(self):
-        """Ends both, and gives how many instructions the relay has carried out."""
-        os.kill(self.relay.child.served_by, signal.SIGTERM)
-        self.relay.child.process.wait(PATIENCE)
-        self.source.stop()
+        """Ends all, and gives how many instructions the node has carried out."""
+        os.kill(self.node.child.served_by, signal.SIGTERM)
+        self.node.child.process.wait(PATIENCE)
+        if self.source:
+            self.source.stop()
         found = [name for name in os.listdir(self.lab.folder) if name.startswith(os.path.basename(self.counts) + ".")]
         total = 0
         for name in found:
@@ -136,13 +146,13 @@ MEASUREMENTS = {
 }
 
 
-def measured(program, word):
+def measured(program, word, is_source):
     """Instructions for one time of what is measured."""
     _, do, times = MEASUREMENTS[word]
     few, totals = max(8, times // 10), []
     for more in (few, few + times):
         with Lab(program) as lab:
-            counting = Counting(lab, program)
+            counting = Counting(lab, program, is_source)
             do(counting, more)
             totals.append(counting.end())
     return (totals[1] - totals[0]) / times
@@ -151,13 +161,14 @@ def measured(program, word):
 def main():
     parser = argparse.ArgumentParser(description=__doc__, formatter_class=argparse.RawDescriptionHelpFormatter)
     parser.add_argument("programs", nargs="+")
+    parser.add_argument("--source", action="store_true")
     parser.add_argument("--rounds", type=int, default=1)
     parser.add_argument("--only", nargs="+", choices=MEASUREMENTS, default=list(MEASUREMENTS))
     options = parser.parse_args()
     raise_limits()
     print(f"{'thousands of instructions':36}" + "".join(f"{os.path.basename(one):>16}" for one in options.programs) + f"{'ratio':>9}")
     for word in options.only:
-        found = [statistics.median(measured(os.path.abspath(one), word) for _ in range(options.rounds)) for one in options.programs]
+        found = [statistics.median(measured(os.path.abspath(one), word, options.source) for _ in range(options.rounds)) for one in options.programs]
         print(f"{MEASUREMENTS[word][0]:36}" + "".join(f"{one / 1e3:16,.1f}" for one in found) + f"{found[-1] / found[0]:9.3f}", flush=True)
     return 0
 
