@@ -113,6 +113,21 @@ fn closing_of<K: NodeName, Q: FeedName, H: Wait + Drop, R: Wait>(
     Ok(Closing::of(rt, alloc, &node.finish()))
 }
 
+// Takes back what a thread sent with, if it was an upstream's.
+fn take_line<K: NodeName, Q: FeedName, C: Connector, V: Drop, H: Wait + Drop>(
+    queue: &FeedQueue<NodeLink<K>, Q>,
+    node: &mut Node<K, Q, Handle<K, H>>,
+    party: Party<Line<K, Q, C>, V>,
+) -> Result<(), TierError>
+    requires in_step { IsInStep (published node.old.publisher.handle) (pending node.old.publisher.handle) node.old.publisher.front node.old.publisher.kept (steps_in node.old.intake.store) }
+    ensures in_step { IsInStep (published node.new.publisher.handle) (pending node.new.publisher.handle) node.new.publisher.front node.new.publisher.kept (steps_in node.new.intake.store) }
+{
+    match party {
+        Party::Upstream(line) => take_back(queue, node, line.into_end()),
+        Party::Worker(_) => Ok(()),
+    }
+}
+
 // Takes back what the threads of a relay's upstreams sent with.
 fn take_ends_of_relay<K: NodeName, Q: FeedName, C: Connector, D: Doors + Drop, H: Wait + Drop>(
     queue: &FeedQueue<NodeLink<K>, Q>,
@@ -126,9 +141,7 @@ fn take_ends_of_relay<K: NodeName, Q: FeedName, C: Connector, D: Doors + Drop, H
             break;
         };
         let Returned { party, .. } = back;
-        if let Party::Upstream(line) = party {
-            take_back(queue, &mut ran.node, line.into_end())?;
-        }
+        take_line(queue, &mut ran.node, party)?;
     }
     Ok(())
 }
@@ -145,6 +158,21 @@ fn end_of<K: NodeName, Q: FeedName, L: OriginDesk<K>>(
     }
 }
 
+// Takes back what a thread sent with, if it sends a source's links.
+fn take_sent<K: NodeName, Q: FeedName, L: OriginDesk<K>, V: Drop, H: Wait + Drop>(
+    queue: &FeedQueue<NodeLink<K>, Q>,
+    node: &mut Node<K, Q, Handle<K, H>>,
+    party: Party<SourceSent<K, Q, L>, V>,
+) -> Result<(), TierError>
+    requires in_step { IsInStep (published node.old.publisher.handle) (pending node.old.publisher.handle) node.old.publisher.front node.old.publisher.kept (steps_in node.old.intake.store) }
+    ensures in_step { IsInStep (published node.new.publisher.handle) (pending node.new.publisher.handle) node.new.publisher.front node.new.publisher.kept (steps_in node.new.intake.store) }
+{
+    match party {
+        Party::Upstream(sent) => take_back(queue, node, end_of(sent)?),
+        Party::Worker(_) => Ok(()),
+    }
+}
+
 // Takes back what the threads sent with that send a source's links.
 fn take_ends_of_source<K: NodeName, Q: FeedName, L: OriginDesk<K>, D: Doors + Drop, H: Wait + Drop>(
     queue: &FeedQueue<NodeLink<K>, Q>,
@@ -158,9 +186,7 @@ fn take_ends_of_source<K: NodeName, Q: FeedName, L: OriginDesk<K>, D: Doors + Dr
             break;
         };
         let Returned { party, .. } = back;
-        if let Party::Upstream(sent) = party {
-            take_back(queue, &mut ran.node, end_of(sent)?)?;
-        }
+        take_sent(queue, &mut ran.node, party)?;
     }
     Ok(())
 }
