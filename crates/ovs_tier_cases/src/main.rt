@@ -130,27 +130,32 @@ fn told<R: Print>(
     Ok(())
 }
 
-// Runs a source and a relay, each in a thread of its own, and the client in this one: what came of each. Nodes and what runs them go apart
-// to the threads, so that it is known of each node's type alone that it may.
+// Runs a source and a relay, each in a thread of its own, and their client in this one: what came of each. The nodes and what runs them
+// go apart to the threads, so that it is known of each node's type alone that it may.
 fn beside<
-    R: Threads + Sync,
+    R: Threads + Net<Stream = TcpStream> + Sync,
     S: Send + Drop,
     N: Send + Drop,
     F: FnOnce(S) -> NodeEnd + Send,
     G: FnOnce(N) -> NodeEnd + Send,
-    C: FnOnce() -> ClientAnswers,
 >(
     rt: &R,
+    alloc: Global,
     source: S,
     run_source: F,
     relay: N,
     run_relay: G,
-    client: C,
+    address: SocketAddr,
+    stops: &[Stop],
 ) -> (NodeEnd, (NodeEnd, ClientAnswers))
     requires source { (f : _) (x : _) → F.pre f x }
     requires relay { (f : _) (x : _) → G.pre f x }
-    requires client { (f : _) → C.pre f }
 {
+    let client = || {
+        let answers = talk(rt, alloc, address);
+        end_all(stops);
+        answers
+    };
     join(
         rt,
         move || run_source(source),
@@ -177,18 +182,15 @@ fn tier<
     let relay = relay(quiet, alloc, source.address())?;
     let address = relay.address();
     let stops = [relay.stop()?, source.stop()?];
-    let client = || {
-        let answers = talk(&rt, alloc, address);
-        end_all(&stops);
-        answers
-    };
     let (of_source, (of_relay, answers)) = beside(
         &rt,
+        alloc,
         source,
         |source: SourceNode<Logged<R, R>>| source.run(schema),
         relay,
         |relay: Relay<Logged<R, R>>| relay.run(schema),
-        client,
+        address,
+        &stops,
     );
     told(&rt, &answers?, &[of_source, of_relay])
 }
