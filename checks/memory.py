@@ -1,4 +1,4 @@
-"""Memory that is refused: what a check preloads into a program (refusing.c), and governs while it runs."""
+"""Memory that is refused and devices that fail: what a check preloads into a program (refusing.c), and governs while it runs."""
 import ctypes
 import mmap
 import os
@@ -9,12 +9,16 @@ from harness import Skip
 
 HERE = os.path.dirname(os.path.abspath(__file__))
 ALL = 2**64 - 1
+# The kinds of reads and writes.
+READ, WRITE, RECEIVE, SEND = 1, 2, 4, 8
 
 
 class Rules(ctypes.Structure):
     """The control file, as `struct rules` of refusing.c has it."""
 
-    _fields_ = [(name, ctypes.c_uint64) for name in ("first", "last", "most", "calls", "refused", "largest", "mallocs", "callocs", "reallocs", "aligned")]
+    _memory = ("first", "last", "most", "calls", "refused", "largest", "mallocs", "callocs", "reallocs", "aligned")
+    _devices = ("kinds", "failing_first", "failing_last", "error", "passed", "failed")
+    _fields_ = [(name, ctypes.c_uint64) for name in _memory + _devices]
 
 
 class Memory:
@@ -46,9 +50,18 @@ class Memory:
         """Refuses the call of this number, or those from this one to the last, counted from 1."""
         self.rules.first, self.rules.last = first, first if last is None else last
 
+    def fail_calls(self, kinds, error, first, last=None):
+        """Has the read or write of this number among those of these kinds fail so, or those from this one to the last; with 0 it passes one
+        byte alone."""
+        self.rules.failing_first, self.rules.failing_last, self.rules.error = first, first if last is None else last, error
+        self.rules.kinds = kinds
+
+    def fail_none(self):
+        self.rules.kinds = 0
+
     def forget(self):
         """Counts from here on: the next call is the first."""
-        for name in ("calls", "refused", "largest", "mallocs", "callocs", "reallocs", "aligned"):
+        for name in ("calls", "refused", "largest", "mallocs", "callocs", "reallocs", "aligned", "passed", "failed"):
             setattr(self.rules, name, 0)
 
     def told(self):

@@ -1,11 +1,12 @@
-/* Stands between a program and its allocator: counts the calls that ask for memory, and refuses some of them.
+/* Stands between a program and its allocator and devices: counts the calls that ask for memory, and refuses some of them; and counts the
+   reads and writes of the kinds that are named, and has some of them fail, or pass one byte alone.
 
    It is preloaded (LD_PRELOAD); memory.py builds it and says what is refused. OVS_REFUSALS names a file of at least the size of a struct
    rules, which this program maps and the check maps too: so what the check writes there holds from the next call on, and what it reads
    there is how far the program is. Without that file nothing is counted or refused.
 
    Calls are numbered from 1, over all threads, in the order in which they come. A refused call gives what malloc(3) says of want of memory:
-   null and ENOMEM, and what was to grow is left as it was. Giving memory back isn't a call for it. */
+   null and ENOMEM, and what was to grow is left as it was. Giving memory back isn't a call for it. A read or write that fails does nothing. */
 #define _GNU_SOURCE
 #include <errno.h>
 #include <fcntl.h>
@@ -15,7 +16,9 @@
 #include <stdlib.h>
 #include <string.h>
 #include <sys/mman.h>
+#include <sys/socket.h>
 #include <sys/stat.h>
+#include <sys/syscall.h>
 #include <unistd.h>
 
 enum kind { MALLOC, CALLOC, REALLOC, ALIGNED, KINDS };
@@ -25,7 +28,14 @@ struct rules {
     _Atomic uint64_t first, last, most;
     /* What was seen: calls, those that were refused, the most bytes that one call asked for, and the calls of each kind. */
     _Atomic uint64_t calls, refused, largest, of_kind[KINDS];
+    /* Of the reads and writes of these kinds, those from the first to the last of these numbers: each fails so, or passes one byte where it
+       is 0. */
+    _Atomic uint64_t kinds, failing_first, failing_last, error;
+    /* What was seen: calls of those kinds, and those that failed or passed one byte. */
+    _Atomic uint64_t passed, failed;
 };
+
+enum device { READ = 1, WRITE = 2, RECEIVE = 4, SEND = 8 };
 
 /* The C library's own functions, by the names that it keeps for those who stand before them. */
 void *__libc_malloc(size_t);
@@ -140,4 +150,41 @@ void *pvalloc(size_t size)
 {
     size_t page = (size_t)sysconf(_SC_PAGESIZE);
     return memalign(page, (size + page - 1) & ~(page - 1));
+}
+
+/* Counts a read or write of so many bytes, and says whether it goes on, with as many as it may pass. */
+static bool goes_on(enum device kind, size_t *count)
+{
+    if (rules == NULL || (atomic_load(&rules->kinds) & kind) == 0)
+        return true;
+    uint64_t number = atomic_fetch_add(&rules->passed, 1) + 1;
+    if (number < atomic_load(&rules->failing_first) || number > atomic_load(&rules->failing_last))
+        return true;
+    atomic_fetch_add(&rules->failed, 1);
+    errno = (int)atomic_load(&rules->error);
+    if (errno != 0)
+        return false;
+    if (*count > 1)
+        *count = 1;
+    return true;
+}
+
+ssize_t read(int file, void *to, size_t count)
+{
+    return goes_on(READ, &count) ? syscall(SYS_read, file, to, count) : -1;
+}
+
+ssize_t write(int file, const void *from, size_t count)
+{
+    return goes_on(WRITE, &count) ? syscall(SYS_write, file, from, count) : -1;
+}
+
+ssize_t recv(int socket, void *to, size_t count, int flags)
+{
+    return goes_on(RECEIVE, &count) ? syscall(SYS_recvfrom, socket, to, count, flags, NULL, NULL) : -1;
+}
+
+ssize_t send(int socket, const void *from, size_t count, int flags)
+{
+    return goes_on(SEND, &count) ? syscall(SYS_sendto, socket, from, count, flags, NULL, 0) : -1;
 }

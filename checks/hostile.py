@@ -1,0 +1,288 @@
+"""Each call for memory of a node that serves refused in turn, each read and write of it that fails or passes little, and input with each byte
+cut or replaced: who asks rightly is answered as ever."""
+import errno
+import json
+import os
+import re
+import socket
+
+from client import Closed, Refused, refusal
+from commands import is_one_line
+from data import FIRST_ID, NET, ZEROS, insert, nth, select
+from harness import check, equal, holds
+from memory import ALL as EACH
+from memory import READ, RECEIVE, SEND, WRITE, Memory
+from processes import wait_until
+from scripts import INSERT, MODIFY, link, script
+
+ID = re.compile(r"[0-9a-f]{8}-[0-9a-f]{4}-[0-9a-f]{4}-[0-9a-f]{4}-[0-9a-f]{12}")
+MOST_CALLS = 5_000
+# Of calls that are tried in turn each is, where OVS_WHOLE is set, and else one of so many.
+STEP = 1 if os.environ.get("OVS_WHOLE") else 5
+# The commits of a story.
+COMMITS = 4
+REPLACED_BY = (b'"', b"}", b"\0")
+ANSWERS = 10
+ALL = [["name", "!=", ""]]
+
+
+def in_order(told):
+    """What was told, with each id as the number of its first standing in it: stories that differ in their ids alone are equal."""
+    names = {}
+    return ID.sub(lambda found: names.setdefault(found.group(), f"id {len(names)}"), json.dumps(told, sort_keys=True))
+
+
+class Lost(Exception):
+    """The relay lost its source: locks are lost then, and what the client asked may have been done or not."""
+
+
+def methods(session):
+    """The notifications that have come, once what is at hand is taken in."""
+    session.is_quiet(0.002)
+    return [method for method, _ in session.notices]
+
+
+def locked(session, name):
+    """Asks for a lock, and waits until it is given: at once, or by a notification."""
+    if not session.ask("lock", name)["locked"]:
+        wait_until(lambda: "locked" in methods(session), ANSWERS, "the client is given its lock")
+
+
+def begun(node):
+    """A session that was answered once. A node without memory for it may let a connection go before it answers anything: then another."""
+    for _ in range(3):
+        session = node.session()
+        try:
+            session.ask("list_dbs")
+            return session
+        except Closed:
+            session.close()
+    raise AssertionError(f"the {node.name} lets each connection go")
+
+
+def story(node):
+    """What a client is answered and told that asks for everything once, and leaves the node's rows and locks as they were."""
+    with begun(node) as session:
+        told = [session.ask("get_schema", "net"), session.ask("echo", "a", 1)]
+        told.append(session.ask("monitor_cond", "net", "m", {"Port": {"columns": ["name", "tags", "opts", "up"]}}))
+        locked(session, "l")
+        told.append(session.transact("net", insert(name="p", tags=["set", [1, 2]], opts=["map", [["k", "v"]]])))
+        told.append(session.transact("net", select(ALL)))
+        mutations = {"op": "mutate", "table": "Port", "where": ALL, "mutations": [["tags", "insert", 3]]}
+        told.append(session.transact("net", {"op": "assert", "lock": "l"}, mutations))
+        told.append(session.transact("net", {"op": "update", "table": "Port", "where": ALL, "row": {"up": True}}, select(ALL, columns=["name", "tags", "up"])))
+        told.append(session.transact("net", {"op": "delete", "table": "Port", "where": ALL}))
+        told.append(session.ask("unlock", "l"))
+        wait_until(lambda: "stolen" in methods(session) or methods(session).count("update2") == COMMITS, ANSWERS, "the client is told of each commit")
+        if "stolen" in methods(session):
+            raise Lost
+        # A notice of a lock may come before or behind any update.
+        told += [session.ask("monitor_cancel", "m"), sorted(session.notices, key=lambda notice: notice[0])]
+        for method, *params in (("transact", "no", select()), ("monitor_cancel", "m"), ("no",)):
+            told.append(refusal(session, method, *params))
+    return in_order(told)
+
+
+def unless_lost(node):
+    """The story, or None where the relay lost its source meanwhile."""
+    try:
+        return story(node)
+    except Lost:
+        return None
+    except Refused as refused:
+        equal(refused.args[0], {"error": "source lost"}, f"{node.name}: how a request is refused")
+        return None
+
+
+def begin_again(node):
+    """The node's rows as they were before a story that broke off, once it has its source."""
+    with node.with_source().session() as session:
+        session.transact("net", {"op": "delete", "table": "Port", "where": ALL})
+
+
+def each_call(lab, node_of):
+    """A client's story, in which one call for memory is refused, another in each round: it is answered and told as it is with memory.
+
+    A relay may lose its source for want of memory, and finds it again: then the next client is.
+    """
+    memory = Memory(lab)
+    node = node_of(memory.environment)
+    ample, lost = story(node), 0
+    for first in range(1, MOST_CALLS, STEP):
+        memory.give_all()
+        memory.forget()
+        memory.refuse_calls(first)
+        told = unless_lost(node)
+        refused = memory.rules.refused
+        if told is None:
+            lost += 1
+            begin_again(node)
+            told = story(node)
+        equal(told, ample, f"{node.name}: what the client is told where call {first} for memory is refused")
+        if refused == 0:
+            break
+    holds(100 < first < MOST_CALLS - STEP, f"the story of a {node.name} has {first} calls for memory")
+    holds(lost < first / STEP / 3, f"of {first // STEP} calls that were refused {lost} lost the source")
+    holds(node.child.is_running(), f"the {node.name} has ended")
+    return first, lost
+
+
+@check(300)
+def each_call_of_a_source(lab):
+    """A source that is refused one call for memory, another in each round, answers and tells a client the same."""
+    return each_call(lab, lambda environment: lab.source(environment=environment))
+
+
+@check(300)
+def each_call_of_a_relay(lab):
+    """A relay that is refused one call for memory, another in each round, answers and tells a client the same."""
+    return each_call(lab, lambda environment: lab.relay([lab.source()], environment=environment).with_source())
+
+
+def breaking(lab, node_of):
+    """A client's story, in which one read or write of a socket fails, another in each round: its session breaks, or the relay loses its source;
+    the next client is answered and told as ever, and has the lock."""
+    devices = Memory(lab)
+    node = node_of(devices.environment)
+    ample, broken = story(node), 0
+    for first in range(1, MOST_CALLS, STEP):
+        devices.forget()
+        devices.fail_calls(RECEIVE | SEND, errno.ECONNRESET, first)
+        try:
+            told = unless_lost(node)
+        except Closed:
+            told = None
+        failed = devices.rules.failed
+        devices.fail_none()
+        if told is None:
+            broken += 1
+            begin_again(node)
+            told = story(node)
+        equal(told, ample, f"{node.name}: what a client is told after read or write {first} failed")
+        if failed == 0:
+            break
+    holds(20 < first < MOST_CALLS - STEP, f"the story of a {node.name} has {first} reads and writes")
+    holds(broken > first / STEP / 4, f"of {first // STEP} reads and writes that failed {broken} broke something")
+    return first, broken
+
+
+@check(300)
+def breaking_at_a_source(lab):
+    """A source one of whose reads and writes of sockets fails ends that session alone, and its lock is free."""
+    return breaking(lab, lambda environment: lab.source(environment=environment))
+
+
+@check(300)
+def breaking_at_a_relay(lab):
+    """A relay one of whose reads and writes of sockets fails ends that session alone, or finds its source again."""
+    return breaking(lab, lambda environment: lab.relay([lab.source()], environment=environment).with_source())
+
+
+TALE = ("world", script(NET, 1, ["commit", nth(FIRST_ID, 1), [insert(name="p")]], ["connect", 1, 0], ["deliver", 1, 10_000], ["read", 1, [select()]]))
+LINKS = ("fold", script(NET, link(2, MODIFY), link(1, INSERT), *(link(number, {}) for number in range(3, 2_000))))
+
+
+def each_device_call(lab, command, text):
+    """Each read and write of a run that passes one byte alone, that is interrupted, or that fails, another in each run."""
+    devices = Memory(lab)
+
+    def ran(error, first, last):
+        devices.forget()
+        devices.fail_calls(READ | WRITE, error, first, last)
+        return lab.run(command, text=text, environment=devices.environment), devices.rules.failed
+
+    ample, _ = ran(0, EACH, EACH)
+    calls = devices.rules.passed
+    equal((ample[0], ample[2]), (0, ""), f"{command} with devices that do as they are asked")
+    for number in range(1, calls + 1):
+        what = f"{command} where call {number} of {calls} of a device"
+        for error, does in ((0, "passes a byte"), (errno.EINTR, "is interrupted")):
+            equal(ran(error, number, number), (ample, 1), f"{what} {does}")
+        (status, out, told), failed = ran(errno.EIO, number, number)
+        holds(status == 3 and ample[1].startswith(out) and is_one_line(told) and failed == 1, f"{what} fails: {status}, {out!r}, {told!r}")
+    equal(ran(0, 1, EACH)[0], ample, f"{command} where each call of a device passes a byte")
+
+
+@check(300)
+def devices_of_fold(lab):
+    """`fold`, of whose reads and writes each passes a byte, is interrupted or fails: it goes on, or ends with status 3 and a beginning."""
+    each_device_call(lab, *LINKS)
+
+
+@check(300)
+def devices_of_world(lab):
+    """`world`, of whose reads and writes each passes a byte, is interrupted or fails: it goes on, or ends with status 3 and a beginning."""
+    each_device_call(lab, *TALE)
+
+
+def variants(text):
+    """The text cut before each of its bytes, and with each replaced; one of so many places where not all are tried."""
+    for place in range(0, len(text), STEP):
+        yield place, text[:place]
+        for byte in REPLACED_BY:
+            yield place, text[:place] + byte + text[place + 1 :]
+
+
+def each_byte(lab, command, text):
+    """Each variant of a script: what comes of the lines before is the same, and the run ends with status 0 or 1."""
+    ample = lab.run(command, text=text)[1]
+    tried = 0
+    for place, variant in variants(text):
+        status, out, told = lab.run(command, text=variant)
+        # The first line, with the schema, and in a world the next, have no line of output.
+        whole = text[:place].count(b"\n") - (1 if command == "fold" else 2)
+        before = "".join(ample.splitlines(True)[: max(0, whole)])
+        holds(status in (0, 1) and out.startswith(before) and told == "", f"{command} of a text that differs from byte {place} on: {status}, {out!r}, {told!r}; {variant!r}")
+        tried += 1
+    return tried
+
+
+@check(300)
+def bytes_of_links(lab):
+    """A schema and links with each byte cut or replaced: `fold` tells of it with status 0 or 1, and of what comes before as ever."""
+    return each_byte(lab, "fold", script(NET, link(1, INSERT), link(2, MODIFY)))
+
+
+@check(300)
+def bytes_of_events(lab):
+    """A schema and events with each byte cut or replaced: `world` tells of it with status 0 or 1, and of what comes before as ever."""
+    return each_byte(lab, *TALE)
+
+
+def bytes_of_requests(lab, node):
+    """Requests with each byte cut or replaced, each by a session of its own: the node answers or closes it, and others go on."""
+    asked = (
+        ("transact", ["net", select(ALL, columns=["name"])]),
+        ("monitor_cond_since", ["net", "m", {"Port": [{"columns": ["name"], "where": ALL}]}, ZEROS]),
+        ("lock", ["l"]),
+        ("echo", ["a"]),
+    )
+    requests = b"".join(json.dumps({"id": number, "method": method, "params": params}).encode() for number, (method, params) in enumerate(asked))
+    tried = 0
+    with node.session() as other:
+        for _, variant in variants(requests):
+            with node.session() as session:
+                try:
+                    session.send_bytes(variant)
+                    session.socket.shutdown(socket.SHUT_WR)
+                except (Closed, OSError):
+                    pass
+                holds(session.is_closed(ANSWERS), f"{node.name}: a session isn't closed behind {variant!r}")
+                equal(other.ask("echo", tried), [tried], f"{node.name}: another client beside {variant!r}")
+            tried += 1
+    ample = story(node)
+    equal(story(node), ample, f"{node.name}: a story after all")
+    holds(node.child.is_running(), f"the {node.name} has ended")
+    return tried
+
+
+@check(300)
+def bytes_of_requests_at_a_source(lab):
+    """Requests with each byte cut or replaced: a source answers others, and its locks are free."""
+    return bytes_of_requests(lab, lab.source())
+
+
+@check(300)
+def bytes_of_requests_at_a_relay(lab):
+    """Requests with each byte cut or replaced: a relay answers others, and its locks are free."""
+    return bytes_of_requests(lab, lab.relay([lab.source()]).with_source())
