@@ -5,7 +5,8 @@
 
 Commits rows through the last relay, watches them arrive at each node, cuts the middle relay off, and shows that the last one goes on from
 the source. What each node answers and tells is printed as it comes. It ends by itself within a minute or two. The program is PATH, or the
-one that `rt run` or `rt ci` proved and built; where there is none it is compiled by `rt try`, which proves nothing.
+one that `rt run` or `rt ci` proved and built; where there is none it is compiled by `rt try`, which proves nothing, and takes as long as it
+takes.
 """
 import argparse
 import json
@@ -13,6 +14,7 @@ import os
 import shutil
 import sys
 import tempfile
+import time
 
 HERE = os.path.dirname(os.path.abspath(__file__))
 sys.path.insert(0, os.path.join(HERE, "..", "checks"))
@@ -23,7 +25,7 @@ from processes import Child, free_port, wait_until
 
 CRATE = os.path.join(HERE, "..", "crates", "ovs_relay")
 PROGRAM = os.path.join(CRATE, "out", "ovs_relay")
-START_SECONDS = 180
+START_SECONDS = 60
 TRY_SECONDS = 120
 ARRIVES = 20
 SCHEMA = "net.schema"
@@ -63,7 +65,7 @@ class Tier:
         return ["rt", "try", "--seconds", str(TRY_SECONDS), "--data", f"{SCHEMA}={self.schema}", "--", *words]
 
     def start(self, name, command, *more):
-        node = Node(name, free_port())
+        node = Node(name, free_port(), self.program is None)
         schema = SCHEMA if self.program is None else self.schema
         words = self.words([command, "--schema", schema, "--listen", node.address, *more])
         node.child = Child(words, self.folder if self.program else CRATE, name.replace(" ", "-"), self.folder)
@@ -74,12 +76,24 @@ class Tier:
 class Node:
     """A node, and a client that watches the table Port there."""
 
-    def __init__(self, name, port):
-        self.name, self.port, self.address = name, port, f"127.0.0.1:{port}"
+    def __init__(self, name, port, is_compiled):
+        self.name, self.port, self.address, self.is_compiled = name, port, f"127.0.0.1:{port}", is_compiled
         self.child = self.watcher = None
 
+    def wait_to_serve(self):
+        """Waits until it listens. What is compiled first is waited for as long as it runs, and that is said each minute."""
+        begun = time.monotonic()
+        while True:
+            try:
+                self.child.wait_to_serve(self.port, START_SECONDS)
+                return
+            except AssertionError:
+                if not (self.is_compiled and self.child.is_running()):
+                    raise
+                say(f"  {self.name} doesn't listen yet after {time.monotonic() - begun:.0f} seconds: its program is being compiled")
+
     def watch(self):
-        self.child.wait_to_serve(self.port, START_SECONDS)
+        self.wait_to_serve()
         self.watcher = Session(self.port, ARRIVES)
         self.watcher.ask("monitor_cond_since", "net", "watch", {"Port": {"columns": ["name", "tags"]}}, ZEROS)
 
