@@ -1,7 +1,7 @@
 """A source and three relays in a chain under writers, watchers, and clients that come, go, stall and send rubbish, with connections between the
 nodes that break after any byte, and a relay that is killed and begun anew: in the end all are equal, and who asks rightly was answered in time.
 
-    OVS_SOAK=120 [OVS_SEED=N] python3 checks/run.py --jobs 1 soak     # for so many seconds, with the seed that a failure names
+    OVS_SOAK=120 [OVS_SEED=N] python3 checks/run.py soak    # for so many seconds; a failure says of which N its choices came
 """
 import multiprocessing
 import os
