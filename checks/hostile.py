@@ -8,12 +8,13 @@ import socket
 
 from client import Closed, Refused, refusal
 from commands import is_one_line
-from data import FIRST_ID, NET, ZEROS, insert, nth, select
+from data import FIRST_ID, FIRST_ROW, NET, ZEROS, insert, nth, select
 from harness import check, equal, holds
 from memory import ALL as EACH
 from memory import READ, RECEIVE, SEND, WRITE, Memory
 from processes import wait_until
 from scripts import INSERT, MODIFY, link, script
+from upstream import Upstream, known, unknown
 
 ID = re.compile(r"[0-9a-f]{8}-[0-9a-f]{4}-[0-9a-f]{4}-[0-9a-f]{4}-[0-9a-f]{12}")
 MOST_CALLS = 5_000
@@ -286,3 +287,47 @@ def bytes_of_requests_at_a_source(lab):
 def bytes_of_requests_at_a_relay(lab):
     """Requests with each byte cut or replaced: a relay answers others, and its locks are free."""
     return bytes_of_requests(lab, lab.relay([lab.source()]).with_source())
+
+
+@check(300)
+def bytes_of_an_upstream(lab):
+    """Commits of an upstream with each byte cut or replaced, each over a connection of its own: the relay takes what is a commit, asks for what
+    comes after it, serves its readers, and follows what is said rightly in the end."""
+
+    def commit(number):
+        """What an upstream says of a commit with an id, and a row, of its own."""
+        change = {"Port": {nth(FIRST_ROW, number): {"insert": {"name": "p", "tags": ["set", [1, 2]]}}}}
+        return json.dumps({"id": None, "method": "update3", "params": ["relay", nth(FIRST_ID, number), change]}).encode()
+
+    def saying(number, place, byte):
+        """One connection, over which a variant of the commit of this number is said."""
+
+        def script(connection):
+            connection.begin(unknown if connection.upstream.asked == [] else known)
+            text = commit(number)
+            connection.send_bytes(text[:place] + (byte + text[place + 1 :] if byte else b""))
+            if byte:
+                # What follows may end a text that was opened, or be a message of its own.
+                connection.send_bytes(b'"}]}')
+
+        return script
+
+    def rightly(connection):
+        connection.begin(known)
+        connection.send_bytes(commit(number_after))
+        connection.wait_closed()
+
+    places = [(place, byte) for place in range(0, len(commit(1)), STEP) for byte in (None, *REPLACED_BY)]
+    number_after = len(places) + 1
+    scripts = [saying(number, place, byte) for number, (place, byte) in enumerate(places, 1)]
+    upstream = lab.keep(Upstream(NET, *scripts, rightly))
+    relay = lab.relay([upstream])
+    last = nth(FIRST_ID, number_after)
+    with relay.session() as session:
+        wait_until(lambda: [row for row in session.transact("net", select())[0]["rows"] if row["_version"][1] == last], 200, "the relay shows the last commit")
+    equal(upstream.faults, [], "the stand-in's faults")
+    # It stands at ids that it was told, and never goes back.
+    asked = upstream.asked
+    holds(len(asked) == number_after and asked == sorted(asked), f"of {number_after} connections the relay asked for what comes after {asked[-10:]}")
+    holds(set(asked) <= {ZEROS, *(nth(FIRST_ID, number) for number in range(1, number_after))}, "the relay asked for what comes after an id that nobody said")
+    return len(asked), len(set(asked))
