@@ -195,12 +195,19 @@ def each_device_call(lab, command, text):
     ample, _ = ran(0, EACH, EACH)
     calls = devices.rules.passed
     equal((ample[0], ample[2]), (0, ""), f"{command} with devices that do as they are asked")
+    # A pipe passes what is there, so that a run may have a call less than another.
+    all_failed = 0
     for number in range(1, calls + 1):
         what = f"{command} where call {number} of {calls} of a device"
         for error, does in ((0, "passes a byte"), (errno.EINTR, "is interrupted")):
-            equal(ran(error, number, number), (ample, 1), f"{what} {does}")
+            told, failed = ran(error, number, number)
+            equal(told, ample, f"{what} {does}")
+            all_failed += failed
         (status, out, told), failed = ran(errno.EIO, number, number)
-        holds(status == 3 and ample[1].startswith(out) and is_one_line(told) and failed == 1, f"{what} fails: {status}, {out!r}, {told!r}")
+        is_told = status == 3 and ample[1].startswith(out) and is_one_line(told)
+        holds(is_told if failed else (status, out, told) == ample, f"{what} fails: {status}, {out!r}, {told!r}")
+        all_failed += failed
+    holds(all_failed > 2 * calls, f"of {3 * calls} calls only {all_failed} were reached")
     equal(ran(0, 1, EACH)[0], ample, f"{command} where each call of a device passes a byte")
 
 
