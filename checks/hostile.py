@@ -101,6 +101,32 @@ def begin_again(node):
         session.transact("net", {"op": "delete", "table": "Port", "where": ALL})
 
 
+def in_turn(node, rules, disturb, disturbed, breaks):
+    """A client's story in rounds, in each of which another call is disturbed, until none is: how many calls there are, and how many rounds broke
+    off because the session did, which has to be one of `breaks`, or since the relay lost its source. Behind each the next client is answered and
+    told as it is undisturbed."""
+    ample, broken = story(node), 0
+    for first in range(1, MOST_CALLS, STEP):
+        rules.forget()
+        disturb(first)
+        try:
+            told = unless_lost(node)
+        except breaks:
+            told = None
+        is_last = disturbed() == 0
+        rules.give_all()
+        rules.fail_none()
+        if told is None:
+            broken += 1
+            begin_again(node)
+            told = story(node)
+        equal(told, ample, f"{node.name}: what a client is told where call {first} is disturbed")
+        if is_last:
+            holds(node.child.is_running(), f"the {node.name} has ended")
+            return first, broken
+    raise AssertionError(f"after {MOST_CALLS} calls the {node.name} still makes such that are disturbed")
+
+
 def each_call(lab, node_of):
     """A client's story, in which one call for memory is refused, another in each round: it is answered and told as it is with memory.
 
@@ -108,24 +134,10 @@ def each_call(lab, node_of):
     """
     memory = Memory(lab)
     node = node_of(memory.environment)
-    ample, lost = story(node), 0
-    for first in range(1, MOST_CALLS, STEP):
-        memory.give_all()
-        memory.forget()
-        memory.refuse_calls(first)
-        told = unless_lost(node)
-        refused = memory.rules.refused
-        if told is None:
-            lost += 1
-            begin_again(node)
-            told = story(node)
-        equal(told, ample, f"{node.name}: what the client is told where call {first} for memory is refused")
-        if refused == 0:
-            break
-    holds(100 < first < MOST_CALLS - STEP, f"the story of a {node.name} has {first} calls for memory")
-    holds(lost < first / STEP / 3, f"of {first // STEP} calls that were refused {lost} lost the source")
-    holds(node.child.is_running(), f"the {node.name} has ended")
-    return first, lost
+    calls, lost = in_turn(node, memory, memory.refuse_calls, lambda: memory.rules.refused, ())
+    holds(calls > 100, f"the story of a {node.name} has {calls} calls for memory")
+    holds(lost < calls / STEP / 3, f"of {calls // STEP} calls that were refused {lost} lost the source")
+    return calls, lost
 
 
 @check(300)
@@ -145,26 +157,10 @@ def breaking(lab, node_of):
     the next client is answered and told as ever, and has the lock."""
     devices = Memory(lab)
     node = node_of(devices.environment)
-    ample, broken = story(node), 0
-    for first in range(1, MOST_CALLS, STEP):
-        devices.forget()
-        devices.fail_calls(RECEIVE | SEND, errno.ECONNRESET, first)
-        try:
-            told = unless_lost(node)
-        except Closed:
-            told = None
-        failed = devices.rules.failed
-        devices.fail_none()
-        if told is None:
-            broken += 1
-            begin_again(node)
-            told = story(node)
-        equal(told, ample, f"{node.name}: what a client is told after read or write {first} failed")
-        if failed == 0:
-            break
-    holds(20 < first < MOST_CALLS - STEP, f"the story of a {node.name} has {first} reads and writes")
-    holds(broken > first / STEP / 4, f"of {first // STEP} reads and writes that failed {broken} broke something")
-    return first, broken
+    calls, broken = in_turn(node, devices, lambda first: devices.fail_calls(RECEIVE | SEND, errno.ECONNRESET, first), lambda: devices.rules.failed, Closed)
+    holds(calls > 20, f"the story of a {node.name} has {calls} reads and writes")
+    holds(broken > calls / STEP / 4, f"of {calls // STEP} reads and writes that failed {broken} broke something")
+    return calls, broken
 
 
 @check(300)
