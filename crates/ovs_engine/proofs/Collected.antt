@@ -1,13 +1,12 @@
 -- What a desk gives to a session that was shown where the first answer stands.
-use Rattle.std.proofs.Common.{◌≡◌, ◌∙◌, ℕ, Bool, true, List, Option, Some, None, Ok, Err, ap}
-use Rattle.std.specs.Prelude.{Result, IfOk, IfSome, option_map}
+use Rattle.std.proofs.Common.{◌≡◌, ◌∙◌, ℕ, Bool, true, List, Option, Some, None, ap}
+use Rattle.std.specs.Prelude.{IfSome, option_map}
 use Rattle.std.specs.Option.{ForSome}
 use Rattle.ovs_authority.specs.Owing.{Owing, CollectsTo}
 use Rattle.ovs_desk.specs.Ledger.{standing_of}
 use Rattle.ovs_desk.specs.RelayDesk.{RelayValue, owing_of}
 use Rattle.ovs_desk.specs.ShownRuns.{IsShownFirst}
 use Rattle.ovs_desk.specs.declared.pending.Pending.{Pending}
-use Rattle.ovs_json.specs.declared.no_memory.NoMemory.{NoMemory}
 use Rattle.ovs_links.specs.declared.step.Step.{Step}
 use Rattle.ovs_service.specs.Replies.{IsAnswer}
 use Rattle.ovs_views.specs.Published.{is_shown}
@@ -28,11 +27,10 @@ pub first_shown : (steps : List Step) (first : Option Pending) (standing : Optio
     → ForSome standing (λ id. is_shown steps id ≡ true) → ForSome first (λ e. is_shown steps (standing_of e) ≡ true)
 first_shown steps first standing same shown = λ e is. shown (standing_of e) (same ∙ ap (λ (o : Option Pending). option_map standing_of o) is)
 
-pub collected : (database : List ℕ) (made : List DeskStep) (held : Bool) (who : ℕ) (shown_steps : List Step) (d : RelayValue) (after : RecordedValue) (r : Result (Option Message) NoMemory)
+pub collected : (database : List ℕ) (made : List DeskStep) (held : Bool) (who : ℕ) (shown_steps : List Step) (d : RelayValue) (after : RecordedValue) (o : Option Message)
     → (held ≡ true → IsShownFirst who (is_shown shown_steps) d.forwards.ledger)
-    → IfOk r (λ m. CollectsTo (owing_of d who) m (owing_of after.desk who)) → IfOk r (λ m. IsStep database (steps.Collected who m) (record { steps = made; desk = d }) after)
-    → IfOk r (λ o. IfSome o (λ m. IsCollected database held who shown_steps m × IsAnswer m))
-collected database made held who shown_steps d after (Ok None) shown given does = tt
-collected database made held who shown_steps d after (Ok (Some m)) shown given does =
+    → CollectsTo (owing_of d who) o (owing_of after.desk who) → IsStep database (steps.Collected who o) (record { steps = made; desk = d }) after
+    → IfSome o (λ m. IsCollected database held who shown_steps m × IsAnswer m)
+collected database made held who shown_steps d after None shown given does = tt
+collected database made held who shown_steps d after (Some m) shown given does =
     (record { made = made; desk = d; run = does.made; left = after.desk; shown = shown; collects = does.does }, answer (owing_of d who) (owing_of after.desk who) m given)
-collected database made held who shown_steps d after (Err x) shown given does = tt

@@ -1,6 +1,7 @@
 -- What the last step of a relay's desk says of the call that made it.
-use Rattle.std.proofs.Common.{◌≡◌, ℕ, List, Option, Some, None, Result, Ok, Err}
+use Rattle.std.proofs.Common.{◌∙◌, ◌++◌, ◌∷◌, [], ℕ, List, Option, Some, None, Result, Ok, Err, ap, sym, append_assoc}
 use Rattle.std.specs.Prelude.{IfOk, IfSome}
+use mathlib.Core.List.{IsPrefix}
 use Rattle.serde_json.specs.Data.{Data}
 use Rattle.ovs_authority.specs.Owing.{Owing, AsksTo}
 use Rattle.ovs_authority.specs.declared.ask.Ask.{Ask}
@@ -29,8 +30,14 @@ asked database who ask before after (Ok m) replied is =
 asked database who ask before after (Err x) replied is = tt
 
 -- a message that is given is
-pub given : (who : ℕ) (known now : List DeskStep) (r : Result (Option Message) NoMemory)
-    → IfOk r (λ m. EndsWith (steps.Collected who m) known now) → IfOk r (λ o. IfSome o (λ m. EndsWith (steps.Collected who (Some m)) known now))
-given who known now (Ok None) ends = tt
-given who known now (Ok (Some m)) ends = ends
-given who known now (Err x) ends = tt
+pub given : (who : ℕ) (known now : List DeskStep) (o : Option Message) → EndsWith (steps.Collected who o) known now
+    → IfSome o (λ m. EndsWith (steps.Collected who (Some m)) known now)
+given who known now None ends = tt
+given who known now (Some m) ends = ends
+
+-- a step that stands last behind what was known later does so behind what was known before
+pub ends_behind : (s : DeskStep) (known then now : List DeskStep) → IsPrefix known then → EndsWith s then now → EndsWith s known now
+ends_behind s known then now first last = record {
+  others = first.0 ++ last.others;
+  all = last.all ∙ ap (λ (ss : List DeskStep). ss ++ s ∷ []) (ap (λ (ss : List DeskStep). ss ++ last.others) (sym first.1) ∙ append_assoc known first.0 last.others);
+}

@@ -3,3 +3,4 @@ pub mod Collected
 pub mod DeskParts
 pub mod LastSteps
 pub mod Nobody
+pub mod Served

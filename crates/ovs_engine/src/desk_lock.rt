@@ -1,7 +1,9 @@
 //! A node's desk, which its threads share.
 
-ghost use Rattle.std.specs.Prelude.{◌≡◌, ℕ, Bool, true, List, Option, Some, Ok, IfOk, IfSome, OnOk, OnErr};
+ghost use Rattle.std.specs.Prelude.{◌≡◌, ℕ, Bool, true, false, List, Option, Some, None, Ok, IfOk, IfSome, OnOk, OnErr};
 ghost use Rattle.ovs_authority.specs.declared.ask.Ask.{Ask};
+ghost use mathlib.Core.List.{IsPrefix};
+ghost use Rattle.ovs_desk.specs.Ledger.{next_standing};
 ghost use Rattle.ovs_desk.specs.declared.source_message.SourceMessage.{SourceMessage};
 ghost use Rattle.ovs_recorded_desk.specs.Steps.{EndsRun, EndsWith};
 ghost use Rattle.ovs_recorded_desk.specs.declared.step.DeskStep.TheVariants as steps;
@@ -10,15 +12,14 @@ ghost use Rattle.ovs_service.specs.Replies.{RepliesTo, IsAnswer};
 ghost use Rattle.ovs_wire.specs.declared.message.Message.{Message};
 ghost use Rattle.std.specs.Option.{ForSome};
 ghost use Rattle.ovs_views.specs.Published.{is_shown};
-ghost use Rattle.ovs_engine.specs.Collecting.{IsCollected};
+ghost use Rattle.ovs_engine.specs.Collecting.{HasNone, IsCollected, IsHeldBack};
 ghost use Rattle.ovs_engine.specs.Refusing.{IsBadReply};
 
 use ovs_authority::Ask;
 use ovs_desk::{BadReply, SourceMessage};
 use ovs_json::NoMemory;
 use ovs_recorded_desk::{DeskFront, DeskName, RecordedDesk};
-use ovs_types::TxnId;
-use ovs_views::{NodeName, View, ViewSession};
+use ovs_views::{Gone, NodeName, View, ViewError, ViewSession};
 use ovs_wire::Message;
 use std::alloc::Global;
 use std::sync::{Mutex, Wait};
@@ -59,7 +60,7 @@ pub trait DeskLock<K: NodeName>: KnownDesk {
     /// where the session wasn't shown the chain yet.
     ///
     /// # Errors
-    /// `NoMemory` alone; then nothing was given.
+    /// `Gone` where the view is gone that knows what the session was shown, or `NoMemory`; then nothing was given.
     fn collect(
         &self,
         alloc: Global,
@@ -68,7 +69,7 @@ pub trait DeskLock<K: NodeName>: KnownDesk {
         view: &mut View<K>,
         session: &ViewSession<K>,
         known: &mut Self::Known,
-    ) -> Result<Option<Message>, NoMemory>
+    ) -> Result<Option<Message>, ViewError>
         ensures given { IfOk result (λ r. IfSome r (λ m. owes is_held_back who session.now.last m × IsAnswer m)) }
         ensures view { view.new ≡ view.old };
 
@@ -106,22 +107,33 @@ pub trait UpwardDesk: KnownDesk {
     fn lost_source(&self, known: &mut Self::Known);
 }
 
-// Whether a session was shown where an answer stands, if one is due to it.
-fn is_shown<K: NodeName>(
-    standing: Option<TxnId>,
+// Whether a session may be given what it is given next: where answers are held back, the answer that is due to it first only once it
+// was shown where that stands. `Gone` where the view is gone that knows it.
+fn may_be_given<K: NodeName, N: DeskName, R: Wait>(
+    rt: &R,
+    desk: &RecordedDesk<N>,
+    who: u64,
+    is_held_back: bool,
     view: &mut View<K>,
     session: &ViewSession<K>,
-) -> bool
-    ensures shown { result ≡ true → ForSome standing (λ id. is_shown session.now.last id ≡ true) }
+    known: &mut DeskFront<N>,
+) -> Result<bool, Gone>
+    ensures shown { result ≡ Ok true → is_held_back ≡ true
+        → ForSome (next_standing who desk.now.desk.forwards.ledger) (λ id. is_shown session.now.last id ≡ true) }
+    ensures unshown { result ≡ Ok false → (is_held_back ≡ true) × IsHeldBack N.database who session.now.last known.old known.new }
+    ensures learnt { IsPrefix known.old known.new }
     ensures view { view.new ≡ view.old }
 {
-    match standing {
-        Some(id) => view.has_shown(session, id) == Ok(true),
-        None => true,
+    if !is_held_back {
+        return Ok(true);
+    }
+    match desk.standing(rt, who, known) {
+        Some(id) => view.has_shown(session, id),
+        None => Ok(true),
     }
 }
 
-// The next message that a desk owes a session, where answers are held back only if the session was shown where the first stands.
+// The next message that a desk owes a session, where that may be given.
 fn collect_shown<K: NodeName, N: DeskName, R: Wait>(
     rt: &R,
     alloc: Global,
@@ -131,15 +143,16 @@ fn collect_shown<K: NodeName, N: DeskName, R: Wait>(
     view: &mut View<K>,
     session: &ViewSession<K>,
     known: &mut DeskFront<N>,
-) -> Result<Option<Message>, NoMemory>
+) -> Result<Option<Message>, ViewError>
     ensures given { IfOk result (λ r. IfSome r (λ m. IsCollected N.database is_held_back who session.now.last m × IsAnswer m)) }
     ensures ends { IfOk result (λ r. IfSome r (λ m. EndsWith (steps.Collected who (Some m)) known.old known.new)) }
+    ensures none { result ≡ Ok None → HasNone N.database is_held_back who session.now.last known.old known.new }
     ensures view { view.new ≡ view.old }
 {
-    if is_held_back && !is_shown(desk.standing(who), view, session) {
+    if !may_be_given(rt, &*desk, who, is_held_back, view, session, known)? {
         return Ok(None);
     }
-    desk.collect(rt, alloc, who, known)
+    Ok(desk.collect(rt, alloc, who, known)?)
 }
 
 // Whose transaction it answers, if it does.
@@ -202,10 +215,11 @@ impl<'a, K: NodeName, N: DeskName, R: Wait> DeskLock<K> for LockedDesk<'a, N, R>
         view: &mut View<K>,
         session: &ViewSession<K>,
         known: &mut DeskFront<N>,
-    ) -> Result<Option<Message>, NoMemory>
+    ) -> Result<Option<Message>, ViewError>
         ensures given { IfOk result (λ r. IfSome r (λ m. IsCollected N.database is_held_back who session.now.last m × IsAnswer m)) }
         ensures view { view.new ≡ view.old }
         ensures ends { IfOk result (λ r. IfSome r (λ m. EndsWith (steps.Collected who (Some m)) known.old known.new)) }
+        ensures none { result ≡ Ok None → HasNone N.database is_held_back who session.now.last known.old known.new }
     {
         let mut desk = self.desk.lock(self.rt);
         collect_shown(

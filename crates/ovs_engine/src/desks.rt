@@ -17,7 +17,7 @@ use ovs_history::GhostList;
 use ovs_json::NoMemory;
 use ovs_service::{Asker, Desk, copy_ask};
 use ovs_types::TxnId;
-use ovs_views::{NodeName, View, ViewSession};
+use ovs_views::{NodeName, View, ViewError, ViewSession};
 use ovs_wire::Message;
 use std::alloc::Global;
 use std::snapshot::Snapshot;
@@ -93,7 +93,7 @@ impl<'a, K: NodeName, L: DeskLock<K>, U: Bell, B: Bell> Desk<K> for SharedDesk<'
         is_held_back: bool,
         view: &mut View<K>,
         session: &ViewSession<K>,
-    ) -> Result<Option<Message>, NoMemory> {
+    ) -> Result<Option<Message>, ViewError> {
         let who = asker.who();
         let message = self
             .desk

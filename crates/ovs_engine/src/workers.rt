@@ -2,14 +2,19 @@
 
 ghost use Rattle.std.specs.Prelude.{◌≡◌, ◌+◌, ◌*◌, ℕ, List, Contains, IfSome, true};
 ghost use Rattle.ovs_links.specs.declared.step.Step.{Step};
-ghost use Rattle.ovs_service.specs.Client.{SaysNothing, AnswersTo, TellsNew, MayAsk, IsAnswered, HasAll, new_client};
+ghost use Rattle.ovs_service.specs.Client.{SaysNothing, AnswersTo, TellsNew, MayAsk, IsAnswered, HasAll, HasBegunAnew, new_client, new_view};
+ghost use Rattle.std.specs.List.{AllByRecursion};
+ghost use Rattle.ovs_hall.specs.Seats.{EndsSo};
+ghost use Rattle.ovs_service.specs.Kept.{Kept};
 
 use crate::vacant::{Unused, Vacant};
-use ovs_hall::{Doors, Host, Receives, Tally, serve_many};
+use ovs_hall::{Doors, Host, Receives, Served, Tally, serve_many};
+use ovs_history::GhostList;
 use ovs_service::{Client, Desk, NodeService};
 use ovs_session::{Limits, Outbox, Pace, Refusal, Service};
 use ovs_views::{NodeName, View};
 use std::alloc::Global;
+use std::io::{Read, Write};
 use std::sync::Wait;
 
 /// A node's service, which gives each new session a number of its own.
@@ -47,6 +52,8 @@ impl<K: NodeName, D: Desk<K>> Service for NodeHost<K, D> {
     ghost may_tell = { λ _ _. Unit {0} };
 
     ghost is_gone = { λ host. host.service.is_gone ≡ true };
+
+    ghost is_over = { λ host client. HasBegunAnew K.schema host.service.view client };
 
     fn takes(&self, client: &Client<K>) -> bool {
         self.service.takes(client)
@@ -105,6 +112,18 @@ pub(crate) struct Worked<K: NodeName, D: Doors + Drop> {
     pub(crate) tally: Tally,
 }
 
+// What became of the sessions that a worker served: each ended so, and did what users are promised of it (`Kept` of `ovs_service`).
+fn served_sessions_keep<K: NodeName, D: Desk<K>, I: Read + Drop, O: Write + Drop>(
+    served: &GhostList<Served<NodeHost<K, D>, I, O>>,
+)
+    requires told { ∥ AllByRecursion (λ s. EndsSo s.ended s.seat.session.ended) served.now ∥₁ }
+    ensures kept { ∥ AllByRecursion (λ s. (who : ℕ) × (last : List Step) × Kept K.schema (D.replies who) (λ held. D.owes held who) (new_view last)
+        (I.remaining s.seat.read_from.value) (I.remaining s.seat.reader.device) (O.contents s.seat.write_to.value) (O.contents s.seat.writer.device)
+        s.seat.session.counts s.ended s.seat.session.core) served.now ∥₁ }
+{
+    let _ = served;
+}
+
 /// Serves the readers that come in at these doors, until no more come and all have ended.
 pub(crate) fn serve_readers<K: NodeName, D: Desk<K> + Drop, O: Doors + Drop, R: Wait>(
     rt: &R,
@@ -122,7 +141,8 @@ pub(crate) fn serve_readers<K: NodeName, D: Desk<K> + Drop, O: Doors + Drop, R: 
         next: 0,
         worker: doors.worker() as u64 % WORKERS,
     };
-    let (tally, doors, _served) = serve_many(rt, alloc, &mut host, doors, limits);
+    let (tally, doors, served) = serve_many(rt, alloc, &mut host, doors, limits);
+    served_sessions_keep(&served);
     let NodeHost {
         service,
         next: _,

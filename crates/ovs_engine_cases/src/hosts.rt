@@ -2,7 +2,7 @@
 
 ghost use Rattle.std.specs.Prelude.{◌≡◌, ℕ, List, Contains, true};
 ghost use Rattle.ovs_links.specs.declared.step.Step.{Step};
-ghost use Rattle.ovs_service.specs.Client.{SaysNothing, AnswersTo, TellsNew, MayAsk, IsAnswered, HasAll, new_client};
+ghost use Rattle.ovs_service.specs.Client.{SaysNothing, AnswersTo, TellsNew, MayAsk, IsAnswered, HasAll, HasBegunAnew, new_client};
 
 use ovs_hall::{Host, Receives};
 use ovs_node::NodeName;
@@ -34,6 +34,8 @@ impl<K: NodeName, D: Desk<K>> Service for HallHost<K, D> {
     ghost may_tell = { λ _ _. Unit {0} };
 
     ghost is_gone = { λ host. host.service.is_gone ≡ true };
+
+    ghost is_over = { λ host client. HasBegunAnew K.schema host.service.view client };
 
     fn takes(&self, client: &Client<K>) -> bool {
         self.service.takes(client)

@@ -49,6 +49,7 @@ fn refusal_of(told: Result<(), BadReply>) -> Result<(), Refusal>
     ensures ok { OnOk result (OnErr told ⊥) }
     ensures err { OnErr result (OnOk told ⊥) }
     ensures never_gone { result ≡ Err Refusal.Gone → ⊥ }
+    ensures never_epoch { result ≡ Err Refusal.Epoch → ⊥ }
 {
     match told {
         Ok(()) => Ok(()),
@@ -98,6 +99,7 @@ impl<S: LinkSink, D: SourceSide + Drop> Follower<S, D> {
         ensures err { OnErr result ((session.new ≡ session.old) × (out.new ≡ out.old)) }
         ensures bad { result ≡ Err Refusal.BadInput → IsRefused D.refuses (handed session.old.up.stage event) }
         ensures never_gone { result ≡ Err Refusal.Gone → ⊥ }
+        ensures never_epoch { result ≡ Err Refusal.Epoch → ⊥ }
     {
         match event {
             UpEvent::Links(links) => {
@@ -181,6 +183,8 @@ impl<S: LinkSink, D: SourceSide + Drop> Service for Follower<S, D> {
     ghost may_tell = { λ _ following. following.has_begun ≡ true };
 
     ghost is_gone = { λ _. ⊥ };
+
+    ghost is_over = { λ _ _. ⊥ };
 
     // An upstream's messages are heard one after another, each at once.
     fn takes(&self, _session: &Following<S>) -> bool {

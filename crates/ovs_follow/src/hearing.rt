@@ -17,6 +17,7 @@ fn read(alloc: Global, text: &[u8]) -> Result<Message, Refusal>
     ensures says { IfOk result (λ m. Says text.now m) }
     ensures none { result ≡ Err Refusal.BadInput → SaysNone text.now }
     ensures never_gone { result ≡ Err Refusal.Gone → ⊥ }
+    ensures never_epoch { result ≡ Err Refusal.Epoch → ⊥ }
 {
     match Message::read(alloc, text) {
         Ok(message) => Ok(message),
@@ -31,6 +32,7 @@ fn hear_message(alloc: Global, up: &UpSession, message: Message) -> Result<Heard
     ensures tables { IfOk result (λ h. AllOf (IsOfTables up.now.schema.description.tables) (links_in h.event) × (length (links_in h.event) ≤ 1)) }
     ensures bad { result ≡ Err Refusal.BadInput → (e : UpError) × (hears up.now message ≡ Err e) }
     ensures never_gone { result ≡ Err Refusal.Gone → ⊥ }
+    ensures never_epoch { result ≡ Err Refusal.Epoch → ⊥ }
 {
     match up.hear(alloc, message) {
         Ok(heard) => Ok(heard),
@@ -48,6 +50,7 @@ pub(crate) fn hear(alloc: Global, up: &UpSession, text: &[u8]) -> Result<Heard, 
     ensures tables { IfOk result (λ h. AllOf (IsOfTables up.now.schema.description.tables) (links_in h.event) × (length (links_in h.event) ≤ 1)) }
     ensures bad { result ≡ Err Refusal.BadInput → IsUnheard up.now text.now }
     ensures never_gone { result ≡ Err Refusal.Gone → ⊥ }
+    ensures never_epoch { result ≡ Err Refusal.Epoch → ⊥ }
 {
     match read(alloc, text) {
         Ok(message) => hear_message(alloc, up, message),

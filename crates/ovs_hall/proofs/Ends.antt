@@ -5,7 +5,7 @@ use Rattle.ovs_session.specs.declared.limits.Limits.{Limits}
 use Rattle.ovs_session.specs.declared.limits.Pace.{Pace}
 use Rattle.ovs_session.specs.declared.ended.Ended.{Ended}
 use Rattle.ovs_session.specs.declared.ended.Ended.TheVariants.{Closed, ReadFault, WriteFault, BadInput, TurnsSpent, Gone, Epoch, NoMemory}
-use Rattle.ovs_session.specs.Moving.{IsAnswer, ended_by, kept}
+use Rattle.ovs_session.specs.Moving.{ended_by, kept}
 use Rattle.ovs_session.specs.Turning.{WithDevices, CountsFault}
 use Rattle.ovs_hall.specs.Seats.{HasFailed, IsEnd, Turned}
 
@@ -38,9 +38,9 @@ failed fault result was is old new final none ends had counts =
     }
 
 module _ {C R W : Type 0} (answers : C → List ℕ → List ℕ → C → Type 0) (tells : C → List ℕ → C → Type 0)
-    (refuses : C → List ℕ → Type 0) (may_answer is_answered is_told may_tell : C → Type 0) (is_gone : Type 0) (limits : Limits) where
+    (refuses : C → List ℕ → Type 0) (may_answer is_answered is_told may_tell is_over : C → Type 0) (is_gone : Type 0) (limits : Limits) where
   end_from : (had : Option Ended) (result : Result Pace Ended) (old new : WithDevices C R W) → old.session.ended ≡ had
-      → Turned answers tells refuses may_answer is_answered is_told may_tell is_gone limits result old new
+      → Turned answers tells refuses may_answer is_answered is_told may_tell is_over is_gone limits result old new
       → IsEnd refuses is_answered old → IsEnd refuses is_answered new
   end_from None result old new had t before =
       let answer = t.answer had in
@@ -55,6 +55,6 @@ module _ {C R W : Type 0} (answers : C → List ℕ → List ℕ → C → Type 
 
   -- where a session has ended after a turn it did so by right, if it was so before
   pub end_after : (result : Result Pace Ended) (old new : WithDevices C R W)
-      → Turned answers tells refuses may_answer is_answered is_told may_tell is_gone limits result old new
+      → Turned answers tells refuses may_answer is_answered is_told may_tell is_over is_gone limits result old new
       → IsEnd refuses is_answered old → IsEnd refuses is_answered new
   end_after result old new = end_from old.session.ended result old new refl

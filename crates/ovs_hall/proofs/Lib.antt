@@ -1,3 +1,4 @@
+pub mod Calling
 pub mod Empty
 pub mod Ends
 pub mod Tallies

@@ -5,6 +5,7 @@ ghost use Rattle.slab.specs.Slab.{get};
 ghost use Rattle.ovs_session.specs.declared.ended.Ended.{Ended};
 ghost use Rattle.ovs_session.specs.declared.ended.Ended.TheVariants.{Gone};
 ghost use Rattle.std.specs.List.{AllByRecursion};
+ghost use Rattle.ovs_hall.specs.Calling.{IsLater};
 ghost use Rattle.ovs_hall.specs.Seats.{EndsSo};
 ghost use Rattle.ovs_hall.specs.Tallying.{tally_of};
 
@@ -75,6 +76,7 @@ impl<V: Receives, D: Doors> Floor<V, D> {
         requires ended { IfSome (get self.old.hall.seats key) (λ seat. EndsSo ended seat.session.ended) }
         ensures closed { D.is_closed self.old.doors → D.is_closed self.new.doors }
         ensures over { D.is_over self.old.doors → D.is_over self.new.doors }
+        ensures again { (self.new.again.came ≡ self.old.again.came) × (self.new.again.went ≡ self.old.again.went) }
     {
         if let Some(seat) = self.hall.leave(key, host) {
             self.tally.add(seat.session().counts());
@@ -92,6 +94,7 @@ impl<V: Receives, D: Doors> Floor<V, D> {
     // A turn of the session of this number. What it waits for where it is to have no other now.
     fn turn(&mut self, key: usize, host: &mut V) -> Option<Waits>
         ensures closed { D.is_closed self.old.doors → D.is_closed self.new.doors }
+        ensures again { (self.new.again.came ≡ self.old.again.came) × (self.new.again.went ≡ self.old.again.went) }
     {
         match self.hall.turn(key, host) {
             Some(Ok(Pace::Busy)) => None,
@@ -107,6 +110,7 @@ impl<V: Receives, D: Doors> Floor<V, D> {
     // Some turns of the session of this number. What it waits for then.
     fn serve(&mut self, key: usize, host: &mut V) -> Waits
         ensures closed { D.is_closed self.old.doors → D.is_closed self.new.doors }
+        ensures again { (self.new.again.came ≡ self.old.again.came) × (self.new.again.went ≡ self.old.again.went) }
     {
         for _turn in 0..TURNS_AT_ONCE {
             if let Some(waits) = self.turn(key, host) {
@@ -119,6 +123,7 @@ impl<V: Receives, D: Doors> Floor<V, D> {
     // The session of this number is to have turns. Where there is no memory to keep this it has them now.
     fn call<R: Wait>(&mut self, rt: &R, key: usize, host: &mut V)
         ensures closed { D.is_closed self.old.doors → D.is_closed self.new.doors }
+        ensures later { IsLater self.old.again.came self.old.again.went self.new.again.came self.new.again.went }
     {
         if self.again.push(key, Waits::ForTurn) {
             return;
@@ -166,6 +171,7 @@ impl<V: Receives, D: Doors> Floor<V, D> {
     // Some turns of the session of this number, which waited for them.
     fn serve_waiting<R: Wait>(&mut self, rt: &R, key: usize, host: &mut V)
         ensures closed { D.is_closed self.old.doors → D.is_closed self.new.doors }
+        ensures later { IsLater self.old.again.came self.old.again.went self.new.again.came self.new.again.went }
     {
         match self.serve(key, host) {
             Waits::No => {}
@@ -177,9 +183,10 @@ impl<V: Receives, D: Doors> Floor<V, D> {
         }
     }
 
-    // Some turns of each session that has work left to do.
+    // Some turns of each session that had work left to do, in the order in which they were called.
     fn serve_all<R: Wait>(&mut self, rt: &R, host: &mut V)
         ensures closed { D.is_closed self.old.doors → D.is_closed self.new.doors }
+        ensures in_turn { self.new.again.went ≡ self.old.again.came }
     {
         for _waiting in 0..self.again.len() {
             let Some(key) = self.again.pop() else {

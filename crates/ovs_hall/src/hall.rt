@@ -86,7 +86,7 @@ impl<V: Host, R: Read + Drop, W: Write + Drop> Hall<V, R, W> {
             (W.contents a.writer.device) (W.contents b.writer.device) a.session b.session) (get self.old.seats key) (get self.new.seats key) }
         ensures none { (result ≡ None) ↔ (get self.old.seats key ≡ None) }
         ensures turned { IfSome result (λ r. Became (λ a b. Turned V.answers V.tells V.refuses V.may_answer V.is_answered
-            (V.is_told host.new) (V.may_tell host.new) (V.is_gone host.new) a.limits r
+            (V.is_told host.new) (V.may_tell host.new) (V.is_over host.new) (V.is_gone host.new) a.limits r
             (with_devices a.session a.reader a.writer) (with_devices b.session b.reader b.writer)) (get self.old.seats key) (get self.new.seats key)) }
     {
         match self.seats.get_mut(key) {

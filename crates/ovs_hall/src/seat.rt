@@ -79,8 +79,8 @@ impl<V: Host, R: Read, W: Write> Seat<V, R, W> {
             × (self.new.write_to ≡ self.old.write_to) × (self.new.limits ≡ self.old.limits) }
         ensures moved { Moved V.answers V.tells self.old.limits.most_unsent (R.remaining self.old.reader.device) (R.remaining self.new.reader.device)
             (W.contents self.old.writer.device) (W.contents self.new.writer.device) self.old.session self.new.session }
-        ensures turned { Turned V.answers V.tells V.refuses V.may_answer V.is_answered (V.is_told service.new) (V.may_tell service.new) (V.is_gone service.new)
-            self.old.limits result (with_devices self.old.session self.old.reader self.old.writer) (with_devices self.new.session self.new.reader self.new.writer) }
+        ensures turned { Turned V.answers V.tells V.refuses V.may_answer V.is_answered (V.is_told service.new) (V.may_tell service.new)
+            (V.is_over service.new) (V.is_gone service.new) self.old.limits result (with_devices self.old.session self.old.reader self.old.writer) (with_devices self.new.session self.new.reader self.new.writer) }
     {
         turn(
             &mut self.session,

@@ -1,6 +1,6 @@
 -- What the last steps of a source's desk say of the calls that made them.
-use Rattle.std.proofs.Common.{◌≡◌, ◌∙◌, ◌++◌, ℕ, List, [], ◌∷◌, Bool, true, Option, Some, None, Result, Ok, Err, refl, sym, ap, subst, append_assoc, append-nil, inl, inr}
-use Rattle.std.specs.Prelude.{◌⊎◌, IfOk, IfSome}
+use Rattle.std.proofs.Common.{◌≡◌, ◌∙◌, ◌++◌, ℕ, List, [], ◌∷◌, Bool, true, Option, Some, None, Result, Ok, Err, refl, sym, ap, subst, append_assoc, inl, inr}
+use Rattle.std.specs.Prelude.{IfOk, IfSome}
 use Rattle.std.specs.Option.{ForSome}
 use mathlib.Core.List.{IsPrefix}
 use Rattle.serde_json.specs.Data.{Data}
@@ -27,7 +27,6 @@ use Rattle.ovs_recorded_source.specs.declared.step.SourceStep.{SourceStep}
 use Rattle.ovs_recorded_source.specs.declared.step.SourceStep.TheVariants as steps
 use Rattle.ovs_recorded_source.proofs.Recording.{ends_run}
 use Rattle.ovs_origin.specs.Giving.{IsCollected}
-use Rattle.ovs_origin.specs.Learning.{Learns}
 
 -- ---- what is known
 
@@ -76,11 +75,11 @@ does_so : (start : Desk) (who : ℕ) (before after : RecordedValue) (m : Message
 does_so start who before after m (inl is) = inl is.does
 does_so start who before after m (inr is) = inr is.does
 
-pub collected : (start : Desk) (held : Bool) (who : ℕ) (shown_steps : List Step) (before after : RecordedValue) (r : Result (Option Message) NoMemory)
+pub collected : (start : Desk) (held : Bool) (who : ℕ) (shown_steps : List Step) (before after : RecordedValue) (o : Option Message)
     → (held ≡ true → ForSome (next_standing who before.state.waiting) (λ id. is_shown shown_steps id ≡ true))
-    → IfOk r (IsGiven (λ s. IsStep start s before after) who) → IfOk r (λ o. IfSome o (λ m. IsCollected start held who shown_steps m × IsAnswer m))
-collected start held who shown_steps before after (Ok None) shown given = tt
-collected start held who shown_steps before after (Ok (Some m)) shown given =
+    → IsGiven (λ s. IsStep start s before after) who o → IfSome o (λ m. IsCollected start held who shown_steps m × IsAnswer m)
+collected start held who shown_steps before after None shown given = tt
+collected start held who shown_steps before after (Some m) shown given =
     let does = does_so start who before after m given in (
       record { made = before.steps; state = before.state; run = made_of given; left = after.state; shown = shown; given = does },
       answer who before.state after.state m does,
@@ -89,13 +88,17 @@ collected start held who shown_steps before after (Ok (Some m)) shown given =
     made_of : IsGiven (λ s. IsStep start s before after) who (Some m) → DoesAll (begun start) before.steps before.state
     made_of (inl is) = is.made
     made_of (inr is) = is.made
-collected start held who shown_steps before after (Err e) shown given = tt
 
-pub given_some : (who : ℕ) (known now : List SourceStep) (r : Result (Option Message) NoMemory) → IfOk r (IsGiven (λ s. EndsWith s known now) who)
-    → IfOk r (λ o. IfSome o (λ m. IsGiven (λ s. EndsWith s known now) who (Some m)))
-given_some who known now (Ok None) ends = tt
-given_some who known now (Ok (Some m)) ends = ends
-given_some who known now (Err e) ends = tt
+pub given_behind : (who : ℕ) (known then now : List SourceStep) (o : Option Message) → IsPrefix known then → IsGiven (λ s. EndsWith s then now) who o
+    → IsGiven (λ s. EndsWith s known now) who o
+given_behind who known then now None first ends = ends_behind (steps.Collected who None) known then now first ends
+given_behind who known then now (Some m) first (inl ends) = inl (ends_behind (steps.Given who m) known then now first ends)
+given_behind who known then now (Some m) first (inr ends) = inr (ends_behind (steps.Collected who (Some m)) known then now first ends)
+
+pub given_some : (who : ℕ) (known now : List SourceStep) (o : Option Message) → IsGiven (λ s. EndsWith s known now) who o
+    → IfSome o (λ m. IsGiven (λ s. EndsWith s known now) who (Some m))
+given_some who known now None ends = tt
+given_some who known now (Some m) ends = ends
 
 -- ---- links
 

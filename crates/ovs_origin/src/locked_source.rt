@@ -1,6 +1,6 @@
 //! A source's desk behind a lock.
 
-ghost use Rattle.std.specs.Prelude.{◌≡◌, Some, true, IfOk, IfSome};
+ghost use Rattle.std.specs.Prelude.{◌≡◌, Some, None, Ok, true, false, IfOk, IfSome};
 ghost use mathlib.Core.List.{IsPrefix};
 ghost use Rattle.std.specs.Coded.{Coded-set};
 ghost use Rattle.std.specs.Option.{ForSome};
@@ -11,7 +11,7 @@ ghost use Rattle.ovs_recorded_source.specs.declared.step.SourceStep.TheVariants 
 ghost use Rattle.ovs_types.specs.contracts.schema.Schema as schema;
 ghost use Rattle.ovs_service.specs.Replies.{RepliesTo, IsAnswer};
 ghost use Rattle.ovs_views.specs.Published.{is_shown};
-ghost use Rattle.ovs_origin.specs.Giving.{IsCollected};
+ghost use Rattle.ovs_origin.specs.Giving.{HadNone, HasNone, IsCollected, IsHeldBack};
 ghost use Rattle.ovs_origin.specs.Learning.{Learns};
 
 use crate::origin_desk::OriginDesk;
@@ -21,7 +21,7 @@ use ovs_hall::Bell;
 use ovs_json::NoMemory;
 use ovs_links::Link;
 use ovs_recorded_source::{RecordedSource, SourceFront, SourceName};
-use ovs_views::{NodeName, View, ViewSession};
+use ovs_views::{Gone, NodeName, View, ViewError, ViewSession};
 use ovs_wire::Message;
 use std::alloc::Global;
 use std::marker::PhantomData;
@@ -29,20 +29,28 @@ use std::sync::{Mutex, Wait};
 use std::thread::Parker;
 
 // Whether a session may be given what it is given next: where answers are held back, the reply that waits first for it only once it was
-// shown where that stands.
-fn may_be_given<K: NodeName, N: SourceName>(
+// shown where that stands. `Gone` where the view is gone that knows it.
+fn may_be_given<K: NodeName, N: SourceName, R: Wait>(
+    rt: &R,
     desk: &RecordedSource<N>,
     who: u64,
     is_held_back: bool,
     view: &mut View<K>,
     session: &ViewSession<K>,
-) -> bool
-    ensures shown { result ≡ true → is_held_back ≡ true → ForSome (next_standing who desk.now.state.waiting) (λ id. is_shown session.now.last id ≡ true) }
+    known: &mut SourceFront<N>,
+) -> Result<bool, Gone>
+    ensures shown { result ≡ Ok true → is_held_back ≡ true
+        → ForSome (next_standing who desk.now.state.waiting) (λ id. is_shown session.now.last id ≡ true) }
+    ensures unshown { result ≡ Ok false → (is_held_back ≡ true) × IsHeldBack N.start who session.now.last known.old known.new }
+    ensures learnt { IsPrefix known.old known.new }
     ensures view { view.new ≡ view.old }
 {
-    match desk.standing(who) {
-        Some(id) if is_held_back => view.has_shown(session, id) == Ok(true),
-        _ => true,
+    if !is_held_back {
+        return Ok(true);
+    }
+    match desk.standing(rt, who, known) {
+        Some(id) => view.has_shown(session, id),
+        None => Ok(true),
     }
 }
 
@@ -56,15 +64,16 @@ fn collect_shown<K: NodeName, N: SourceName, R: Wait>(
     view: &mut View<K>,
     session: &ViewSession<K>,
     known: &mut SourceFront<N>,
-) -> Result<Option<Message>, NoMemory>
+) -> Result<Option<Message>, ViewError>
     ensures given { IfOk result (λ r. IfSome r (λ m. IsCollected N.start is_held_back who session.now.last m × IsAnswer m)) }
     ensures ends { IfOk result (λ r. IfSome r (λ m. IsGiven (λ s. EndsWith s known.old known.new) who (Some m))) }
+    ensures none { result ≡ Ok None → HasNone N.start is_held_back who session.now.last known.old known.new }
     ensures view { view.new ≡ view.old }
 {
-    if !may_be_given(&*desk, who, is_held_back, view, session) {
+    if !may_be_given(rt, &*desk, who, is_held_back, view, session, known)? {
         return Ok(None);
     }
-    desk.collect(rt, alloc, who, known)
+    Ok(desk.collect(rt, alloc, who, known)?)
 }
 
 // An epoch that is due begins before a transaction, though replies wait: it is after so many commits, and no more.
@@ -169,10 +178,11 @@ impl<'a, K: NodeName, N: SourceName, R: Wait> DeskLock<K> for LockedSource<'a, K
         view: &mut View<K>,
         session: &ViewSession<K>,
         known: &mut SourceFront<N>,
-    ) -> Result<Option<Message>, NoMemory>
+    ) -> Result<Option<Message>, ViewError>
         ensures given { IfOk result (λ r. IfSome r (λ m. IsCollected N.start is_held_back who session.now.last m × IsAnswer m)) }
         ensures view { view.new ≡ view.old }
         ensures learnt { IfOk result (λ r. IfSome r (λ m. IsGiven (λ s. Learns s known.old known.new) who (Some m))) }
+        ensures none { result ≡ Ok None → HadNone N.start is_held_back who session.now.last known.old known.new }
     {
         let mut desk = self.desk.lock(self.rt);
         let collected = collect_shown(

@@ -116,6 +116,32 @@ fn record_step<N: DeskName, X, M: EntryFrom<X, DeskStep>, R: Wait>(
     record_entry::<N, X, M, R>(rt, book, front, known, about);
 }
 
+// Knows all steps that were made, if what is known isn't more. Since the book is with the desk that is always so.
+fn try_know<N: DeskName>(front: &DeskFront<N>, known: &mut DeskFront<N>) -> bool
+    ensures all { result ≡ true → known.new ≡ front.now }
+    ensures before { IsPrefix known.old known.new }
+    ensures unchanged { result ≡ false → known.new ≡ known.old }
+{
+    let both = known.longer(front);
+    if both.len() != front.len() {
+        return false;
+    }
+    *known = front.again();
+    true
+}
+
+// Knows all steps that were made. The book is with the desk: it returns at once.
+fn know<N: DeskName, R: Wait>(rt: &R, front: &DeskFront<N>, known: &mut DeskFront<N>)
+    ensures all { known.new ≡ front.now }
+    ensures before { IsPrefix known.old known.new }
+{
+    for _ in rt.forever() {
+        if try_know(front, known) {
+            break;
+        }
+    }
+}
+
 impl<N: DeskName> RecordedDesk<N> {
     /// A desk for the database of this name, without a source, on which no step was made; and what is known of its steps.
     pub fn new(
@@ -210,10 +236,14 @@ impl<N: DeskName> RecordedDesk<N> {
         Ok(entry.message)
     }
 
-    /// Where the answer stands that is due to a session first, if one is.
-    pub fn standing(&self, who: u64) -> Option<TxnId>
+    /// Where the answer stands that is due to a session first, if one is, after all steps that were made, which are known then.
+    pub fn standing<R: Wait>(&self, rt: &R, who: u64, known: &mut DeskFront<N>) -> Option<TxnId>
         ensures value { result ≡ next_standing who self.now.desk.forwards.ledger }
+        ensures made { DoesAll (new_desk N.database) self.now.steps self.now.desk }
+        ensures told { known.new ≡ self.now.steps }
+        ensures before { IsPrefix known.old known.new }
     {
+        know(rt, &self.front, known);
         self.desk.standing(who)
     }
 

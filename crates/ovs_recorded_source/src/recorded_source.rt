@@ -1,16 +1,17 @@
 //! A source's desk with its history.
 
 ghost use Rattle.std.specs.Prelude.{◌≡◌, [], true, false, IfOk, IfNone, IfSome, OnOk, OnErr};
+ghost use mathlib.Core.List.{IsPrefix};
 ghost use Rattle.ovs_links.specs.Sets.{IsOfTables};
 ghost use Rattle.ovs_links.specs.Store.{tables_of};
-ghost use Rattle.ovs_recorded_source.specs.Steps.{EndsWith, IsAsked, IsGiven, IsStep, begun, first_link};
+ghost use Rattle.ovs_recorded_source.specs.Steps.{DoesAll, EndsWith, IsAsked, IsGiven, IsStep, begun, first_link};
 ghost use Rattle.ovs_recorded_source.specs.Waiting.{next_standing, replies_at};
 ghost use Rattle.ovs_recorded_source.specs.declared.step.SourceStep.TheVariants as steps;
 
 use crate::entries::{AskedEntry, BeganEntry, CollectedEntry, EndedEntry, GivenEntry, TookEntry};
 use crate::holding_desk::{HoldingDesk, Replied};
 use crate::name::{SourceFront, SourceHistory, SourceName};
-use crate::recorder::record_step;
+use crate::recorder::{know, record_step};
 use crate::step::SourceStep;
 use ovs_authority::Ask;
 use ovs_history::{Book, Opened};
@@ -188,10 +189,15 @@ impl<N: SourceName> RecordedSource<N> {
         }
     }
 
-    /// Where the reply stands that waits first for a session, if one waits: the head of the source's chain behind it.
-    pub fn standing(&self, who: u64) -> Option<TxnId>
+    /// Where the reply stands that waits first for a session, if one waits, after all steps that were made, which are known then: the
+    /// head of the source's chain behind it.
+    pub fn standing<R: Wait>(&self, rt: &R, who: u64, known: &mut SourceFront<N>) -> Option<TxnId>
         ensures value { result ≡ next_standing who self.now.state.waiting }
+        ensures made { DoesAll (begun N.start) self.now.steps self.now.state }
+        ensures told { known.new ≡ self.now.steps }
+        ensures before { IsPrefix known.old known.new }
     {
+        know(rt, &self.front, known);
         self.desk.standing(who)
     }
 

@@ -75,3 +75,33 @@ pub(crate) fn record_step<N: SourceName, X, M: EntryFrom<X, SourceStep>, R: Wait
 {
     record_entry::<N, X, M, R>(rt, book, front, known, about);
 }
+
+// Knows all steps that were made, if what is known isn't more. Since the book is with the desk that is always so.
+fn try_know<N: SourceName>(front: &SourceFront<N>, known: &mut SourceFront<N>) -> bool
+    ensures all { result ≡ true → known.new ≡ front.now }
+    ensures before { IsPrefix known.old known.new }
+    ensures unchanged { result ≡ false → known.new ≡ known.old }
+{
+    let both = known.longer(front);
+    if both.len() != front.len() {
+        return false;
+    }
+    *known = front.again();
+    true
+}
+
+/// Knows all steps that were made. The book is with the desk: it returns at once.
+pub(crate) fn know<N: SourceName, R: Wait>(
+    rt: &R,
+    front: &SourceFront<N>,
+    known: &mut SourceFront<N>,
+)
+    ensures all { known.new ≡ front.now }
+    ensures before { IsPrefix known.old known.new }
+{
+    for _ in rt.forever() {
+        if try_know(front, known) {
+            break;
+        }
+    }
+}

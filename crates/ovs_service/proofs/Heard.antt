@@ -1,11 +1,11 @@
 -- A client as its fields make it.
-use Rattle.std.proofs.Common.{◌≡◌, ◌≤◌, ◌<◌, ℕ, List, ◌++◌, length, map, ap, sym, ◌∙◌, subst}
+use Rattle.std.proofs.Common.{false, ◌≡◌, ◌≤◌, ◌<◌, ℕ, List, ◌++◌, length, map, ap, sym, ◌∙◌, subst}
 use Rattle.std.specs.List.{AllByRecursion}
 use Rattle.ovs_types.specs.Schema.{SchemaValue}
 use Rattle.ovs_links.specs.Absorbing.{folded_by}
 use Rattle.ovs_links.specs.declared.step.Step.{Step}
 use Rattle.ovs_wire.specs.declared.message.Message.{Message}
-use Rattle.ovs_reader.specs.Session.{SessionValue}
+use Rattle.ovs_reader.specs.Session.{SessionValue, is_over}
 use Rattle.ovs_reader.specs.Turns.{TurnValue, turn, after_turn}
 use Rattle.ovs_reader.specs.Telling.{told_some, reached, moved_past, after_some}
 use Rattle.ovs_reader.specs.declared.subscription.Subscription.{Subscription}
@@ -23,12 +23,14 @@ client session who calls due = record { session = session; who = who; calls = ca
 pub hears_at : (schema : SchemaValue) (message : Message) (old : ClientValue) (session now : ViewSessionValue) (shown : List Step) (who : ℕ) (calls : List DeskCall)
     (due room new : List Due) (t : TurnValue)
     → record { session = session; who = who; calls = calls; due = due } ≡ old → GoesOn schema session.last shown
+    → is_over session.session.start (folded_by schema shown) ≡ false
     → t ≡ turn session.session (folded_by schema shown) message → now ≡ shown_to shown (after_turn session.session (folded_by schema shown) message)
     → room ≡ due → (added : List Due) × AreTasksOf t (tasks added) × (new ≡ room ++ added)
     → Hears schema shown message old (record { session = now; who = who; calls = calls; due = new })
-hears_at schema message old session now shown who calls due room new t is goes_on turned after same (added, gives, e) =
+hears_at schema message old session now shown who calls due room new t is goes_on lasts turned after same (added, gives, e) =
     subst (λ (o : ClientValue). Hears schema shown message o (record { session = now; who = who; calls = calls; due = new })) is (record {
       goes_on = goes_on;
+      lasts = lasts;
       added = added;
       gives = subst (λ (made : TurnValue). AreTasksOf made (tasks added)) turned gives;
       after = ap (λ (s : ViewSessionValue). client s who calls new) after

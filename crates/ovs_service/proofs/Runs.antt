@@ -95,6 +95,7 @@ module _ (schema : SchemaValue) (replies : ℕ → Ask → Option Message → Ty
       message = message;
       says = says;
       goes_on = p.goes_on;
+      lasts = p.lasts;
       gives = p.gives;
       after = ap (λ (c : ClientValue). c.session) p.after;
     });
@@ -109,6 +110,7 @@ module _ (schema : SchemaValue) (replies : ℕ → Ask → Option Message → Ty
     todo = tasks p.added;
     gives = give_one schema (λ held. owes held a.who) (Pump shown) a.session b.session (tasks p.added) (record {
       goes_on = p.goes_on;
+      lasts = p.lasts;
       gives = p.gives;
       after = ap (λ (c : ClientValue). c.session) p.after;
     });

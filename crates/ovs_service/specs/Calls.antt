@@ -1,5 +1,5 @@
 -- What is to be done for a session, a call after another.
-use Rattle.std.specs.Prelude.{◌≡◌, ◌≤◌, ℕ, List, [], ◌∷◌, ◌++◌, Bool, Option, map, option_map, option_to_list, length, IfSome}
+use Rattle.std.specs.Prelude.{◌≡◌, ◌≤◌, ℕ, List, [], ◌∷◌, ◌++◌, Bool, false, Option, map, option_map, option_to_list, length, IfSome}
 use Rattle.std.specs.List.{AllByRecursion}
 use Rattle.ovs_types.specs.Schema.{SchemaValue}
 use Rattle.ovs_links.specs.Absorbing.{folded_by, last_chain}
@@ -7,7 +7,7 @@ use Rattle.ovs_links.specs.declared.step.Step.{Step}
 use Rattle.ovs_authority.specs.declared.ask.Ask.{Ask}
 use Rattle.ovs_wire.specs.Message.{Says}
 use Rattle.ovs_wire.specs.declared.message.Message.{Message}
-use Rattle.ovs_reader.specs.Session.{SessionValue}
+use Rattle.ovs_reader.specs.Session.{SessionValue, is_over}
 use Rattle.ovs_reader.specs.Turns.{TurnValue, turn, after_turn}
 use Rattle.ovs_reader.specs.Telling.{told_some, after_some}
 use Rattle.ovs_views.specs.Published.{GoesOn, ViewSessionValue}
@@ -62,17 +62,19 @@ AreTasksOf t todo = (ask : Option Ask) × (option_map seen_ask ask ≡ t.ask)
     × (todo ≡ option_to_list (option_map ToSay t.out) ++ option_to_list (option_map ToAsk ask))
 
 module _ (schema : SchemaValue) where
-  -- The text says a message, which is answered from steps that go on from those that were shown before.
+  -- The text says a message, which is answered from steps that go on from those that were shown before, and don't begin anew.
   pub record Answers (text : List ℕ) (shown : List Step) (old : ViewSessionValue) (todo : List Task) (new : ViewSessionValue) : Type 0 where
     pub message : Message
     pub says : Says text message
     pub goes_on : GoesOn schema old.last shown
+    pub lasts : is_over old.session.start (folded_by schema shown) ≡ false
     pub gives : AreTasksOf (turn old.session (folded_by schema shown) message) todo
     pub after : new ≡ shown_to shown (after_turn old.session (folded_by schema shown) message)
 
-  -- What monitors tell in one call of steps that go on from those that were shown before is to be said.
+  -- What monitors tell in one call of steps that go on from those that were shown before, and don't begin anew, is to be said.
   pub record Pumps (shown : List Step) (old : ViewSessionValue) (todo : List Task) (new : ViewSessionValue) : Type 0 where
     pub goes_on : GoesOn schema old.last shown
+    pub lasts : is_over old.session.start (folded_by schema shown) ≡ false
     pub gives : todo ≡ map ToSay (told_some most_told old.session.monitors (folded_by schema shown).steps)
     pub after : new ≡ shown_to shown (after_some most_told old.session (folded_by schema shown))
 

@@ -1,12 +1,12 @@
 -- What a node knows of one reader, and what it says to it.
-use Rattle.std.specs.Prelude.{◌≡◌, ◌<◌, ℕ, Bool, List, [], ◌∷◌, ◌++◌, Option, map}
+use Rattle.std.specs.Prelude.{◌≡◌, ◌<◌, ℕ, Bool, true, false, List, [], ◌∷◌, ◌++◌, Option, map}
 use Rattle.ovs_types.specs.Schema.{SchemaValue}
 use Rattle.ovs_links.specs.Absorbing.{folded_by}
 use Rattle.ovs_links.specs.declared.step.Step.{Step}
 use Rattle.ovs_authority.specs.declared.ask.Ask.{Ask}
 use Rattle.ovs_wire.specs.Message.{Says}
 use Rattle.ovs_wire.specs.declared.message.Message.{Message}
-use Rattle.ovs_reader.specs.Session.{new_session}
+use Rattle.ovs_reader.specs.Session.{is_over, new_session}
 use Rattle.ovs_reader.specs.Turns.{turn, after_turn}
 use Rattle.ovs_reader.specs.Telling.{told_some, after_some}
 use Rattle.ovs_views.specs.Published.{GoesOn, ViewSessionValue}
@@ -43,10 +43,15 @@ new_view last = record { session = new_session; last = last }
 abbrev pub new_client : ℕ → List Step → ClientValue
 new_client who last = record { session = new_view last; who = who; calls = []; due = [] }
 
--- a client heard a message, which was answered from these steps, which go on from those that were shown before: what comes of the
--- turn is due behind what was
+-- these steps begin anew behind those that the client was shown: what it was told doesn't go on in them
+abbrev pub HasBegunAnew : SchemaValue → List Step → ClientValue → Type 0
+HasBegunAnew schema shown c = is_over c.session.session.start (folded_by schema shown) ≡ true
+
+-- a client heard a message, which was answered from these steps, which go on from those that were shown before and don't begin anew:
+-- what comes of the turn is due behind what was
 pub record Hears (schema : SchemaValue) (shown : List Step) (message : Message) (old new : ClientValue) : Type 0 where
   pub goes_on : GoesOn schema old.session.last shown
+  pub lasts : is_over old.session.session.start (folded_by schema shown) ≡ false
   pub added : List Due
   pub gives : AreTasksOf (turn old.session.session (folded_by schema shown) message) (tasks added)
   pub after : new ≡ record {
@@ -56,9 +61,11 @@ pub record Hears (schema : SchemaValue) (shown : List Step) (message : Message) 
     due = old.due ++ added;
   }
 
--- what its monitors tell in one call of these steps, which go on from those that were shown before, is due behind what was
+-- what its monitors tell in one call of these steps, which go on from those that were shown before and don't begin anew, is due behind
+-- what was
 pub record IsTold (schema : SchemaValue) (shown : List Step) (old new : ClientValue) : Type 0 where
   pub goes_on : GoesOn schema old.session.last shown
+  pub lasts : is_over old.session.session.start (folded_by schema shown) ≡ false
   pub added : List Due
   pub gives : tasks added ≡ map ToSay (told_some most_told old.session.session.monitors (folded_by schema shown).steps)
   pub after : new ≡ record {

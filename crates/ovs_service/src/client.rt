@@ -1,12 +1,13 @@
 //! What a node knows of one reader.
-ghost use Rattle.std.specs.Prelude.{◌≡◌, ◌↔◌, Bool, [], true, false, IsTrue, Err, IfOk, OnOk, OnErr};
+ghost use Rattle.std.specs.Prelude.{◌≡◌, ◌↔◌, ◌⊎◌, Bool, [], true, false, IsTrue, Err, IfOk, IfErr, OnOk, OnErr};
 ghost use Rattle.ovs_links.specs.Absorbing.{folded_by};
+ghost use Rattle.ovs_reader.specs.Session.{is_over};
 ghost use Rattle.ovs_reader.specs.Turns.{seen_turn, turn, after_turn};
 ghost use Rattle.ovs_reader.specs.Telling.{told_some, after_some};
 ghost use Rattle.ovs_views.specs.Published.{GoesOn};
 ghost use Rattle.ovs_service.specs.Asking.{HasNothingMore};
 ghost use Rattle.ovs_service.specs.Calls.{most_told, shown_to, IsAllTold};
-ghost use Rattle.ovs_service.specs.Client.{new_client, asker_of, Hears, IsTold, MayAsk, IsAnswered};
+ghost use Rattle.ovs_service.specs.Client.{new_client, asker_of, HasBegunAnew, Hears, IsTold, MayAsk, IsAnswered};
 ghost use Rattle.ovs_service.specs.Deeds.{tasks, Does, Collects};
 
 use crate::adding::{add, add_turn, make_room, several};
@@ -63,6 +64,8 @@ impl<K: NodeName> Model for Client<K> {
 
 // A view refuses so.
 fn refusal_of(error: ViewError) -> Refusal
+    ensures gone { error ≡ ViewError.Gone → result ≡ Refusal.Gone }
+    ensures epoch { (result ≡ Refusal.Epoch) ↔ (error ≡ ViewError.Epoch) }
     ensures never_bad { result ≡ Refusal.BadInput → ⊥ }
 {
     match error {
@@ -82,6 +85,8 @@ fn answer_at<K: NodeName>(
     ensures later { OnOk result (GoesOn K.schema session.old.last view.new) }
     ensures turn { IfOk result (λ t. seen_turn t ≡ turn session.old.session (folded_by K.schema view.new) message) }
     ensures after { OnOk result (session.new ≡ shown_to view.new (after_turn session.old.session (folded_by K.schema view.new) message)) }
+    ensures lasts { OnOk result (is_over session.old.session.start (folded_by K.schema view.new) ≡ false) }
+    ensures refused { IfErr result (λ e. (e ≡ Refusal.Gone) ⊎ ((e ≡ Refusal.Epoch) ↔ (is_over session.old.session.start (folded_by K.schema view.new) ≡ true))) }
     ensures unchanged { OnErr result (session.new ≡ session.old) }
     ensures never_bad { result ≡ Err Refusal.BadInput → ⊥ }
 {
@@ -100,6 +105,8 @@ fn pump_at<K: NodeName>(
     ensures later { OnOk result (GoesOn K.schema session.old.last view.new) }
     ensures told { IfOk result (λ ms. ms.items ≡ told_some most_told session.old.session.monitors (folded_by K.schema view.new).steps) }
     ensures after { OnOk result (session.new ≡ shown_to view.new (after_some most_told session.old.session (folded_by K.schema view.new))) }
+    ensures lasts { OnOk result (is_over session.old.session.start (folded_by K.schema view.new) ≡ false) }
+    ensures refused { IfErr result (λ e. (e ≡ Refusal.Gone) ⊎ ((e ≡ Refusal.Epoch) ↔ (is_over session.old.session.start (folded_by K.schema view.new) ≡ true))) }
     ensures unchanged { OnErr result (session.new ≡ session.old) }
     ensures never_bad { result ≡ Err Refusal.BadInput → ⊥ }
 {
@@ -155,7 +162,7 @@ impl<K: NodeName> Client<K> {
     /// Hears a message; what comes of it is due then.
     ///
     /// # Errors
-    /// `Gone` and `NoMemory`; nothing is changed then.
+    /// `Gone`; `Epoch` only where what is shown begins anew; `NoMemory`. Nothing is changed then.
     pub(crate) fn hear(
         &mut self,
         alloc: Global,
@@ -165,6 +172,7 @@ impl<K: NodeName> Client<K> {
         ensures heard { OnOk result (Hears K.schema view.new message self.old self.new) }
         ensures unchanged { OnErr result (self.new ≡ self.old) }
         ensures never_bad { result ≡ Err Refusal.BadInput → ⊥ }
+        ensures epoch { result ≡ Err Refusal.Epoch → HasBegunAnew K.schema view.new self.new }
     {
         make_room(&mut self.dues, 2)?;
         let turn = answer_at(alloc, view, &mut self.session, message)?;
@@ -175,12 +183,13 @@ impl<K: NodeName> Client<K> {
     /// What its monitors tell in one call is due then. `true` only where nothing is left to be told.
     ///
     /// # Errors
-    /// `Gone` and `NoMemory`; nothing is changed then.
+    /// `Gone`; `Epoch` only where what is shown begins anew; `NoMemory`. Nothing is changed then.
     pub(crate) fn pump(&mut self, alloc: Global, view: &mut View<K>) -> Result<bool, Refusal>
         ensures told { OnOk result (IsTold K.schema view.new self.old self.new) }
         ensures all { IfOk result (λ is_all. is_all ≡ true → IsAllTold self.new.session) }
         ensures unchanged { OnErr result (self.new ≡ self.old) }
         ensures never_bad { result ≡ Err Refusal.BadInput → ⊥ }
+        ensures epoch { result ≡ Err Refusal.Epoch → HasBegunAnew K.schema view.new self.new }
     {
         make_room(&mut self.dues, 1)?;
         let messages = pump_at(alloc, view, &mut self.session)?;

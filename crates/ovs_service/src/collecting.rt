@@ -7,15 +7,14 @@ use crate::adding::{add, make_room};
 use crate::asker::Asker;
 use crate::desk::Desk;
 use crate::due::Due;
-use ovs_json::NoMemory;
-use ovs_views::{NodeName, View, ViewSession};
+use ovs_views::{NodeName, View, ViewError, ViewSession};
 use std::alloc::Global;
 use std::collections::VecDeque;
 
 /// So many messages at most are collected in a call.
 const MOST_COLLECTED: u32 = 64;
 
-// Collects a message, behind what is due. `false` where nothing may be owed, or nothing is. After `NoMemory` nothing was given.
+// Collects a message, behind what is due. `false` where nothing may be owed, or nothing is. After an error nothing was given.
 fn collect_one<K: NodeName, D: Desk<K>>(
     alloc: Global,
     is_held_back: bool,
@@ -24,7 +23,7 @@ fn collect_one<K: NodeName, D: Desk<K>>(
     dues: &mut VecDeque<Due>,
     asker: &mut Asker,
     desk: &mut D,
-) -> Result<bool, NoMemory>
+) -> Result<bool, ViewError>
     ensures collected { Collects (λ who. D.owes is_held_back who session.now.last) is_held_back dues.old.items asker.old dues.new.items asker.new }
     ensures nothing { result ≡ Ok false → HasNothingMore asker.new.calls }
     ensures view { view.new ≡ view.old }
@@ -43,8 +42,8 @@ fn collect_one<K: NodeName, D: Desk<K>>(
     }
 }
 
-/// Collects what the authority owes a session, behind what is due: at most 64 messages, as far as memory allows, and where answers
-/// are held back as far as what they stand for was shown to the session. `true` only where nothing more is owed now.
+/// Collects what the authority owes a session, behind what is due: at most 64 messages, as far as memory and the view allow, and where
+/// answers are held back as far as what they stand for was shown to the session. `true` only where nothing more is owed now.
 pub(crate) fn collect<K: NodeName, D: Desk<K>>(
     alloc: Global,
     is_held_back: bool,
@@ -63,7 +62,7 @@ pub(crate) fn collect<K: NodeName, D: Desk<K>>(
         match collect_one(alloc, is_held_back, view, session, dues, asker, desk) {
             Ok(true) => {}
             Ok(false) => return true,
-            Err(NoMemory) => return false,
+            Err(_) => return false,
         }
     }
     false

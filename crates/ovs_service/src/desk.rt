@@ -10,7 +10,7 @@ ghost use Rattle.ovs_service.specs.Replies.{RepliesTo, IsAnswer};
 use crate::asker::Asker;
 use ovs_authority::Ask;
 use ovs_json::NoMemory;
-use ovs_views::{NodeName, View, ViewSession};
+use ovs_views::{NodeName, View, ViewError, ViewSession};
 use ovs_wire::Message;
 use std::alloc::Global;
 
@@ -54,7 +54,7 @@ pub trait Desk<K: NodeName> {
     /// (`Asker::note_collected`).
     ///
     /// # Errors
-    /// `NoMemory` alone; then nothing was given, and nothing is noted.
+    /// `Gone` where the view is gone that knows what the session was shown, or `NoMemory`; then nothing was given, and nothing is noted.
     fn collect(
         &mut self,
         alloc: Global,
@@ -62,7 +62,7 @@ pub trait Desk<K: NodeName> {
         is_held_back: bool,
         view: &mut View<K>,
         session: &ViewSession<K>,
-    ) -> Result<Option<Message>, NoMemory>
+    ) -> Result<Option<Message>, ViewError>
         ensures given { IfOk result (λ r. IfSome r (λ m. owes is_held_back asker.old.who session.now.last m × IsAnswer m)) }
         ensures collected { IfOk result (λ r. asker.new ≡ with_calls asker.old (calls.Collected is_held_back r ∷ [])) }
         ensures unchanged { OnErr result (asker.new ≡ asker.old) }

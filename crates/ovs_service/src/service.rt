@@ -4,7 +4,7 @@ ghost use mathlib.Core.List.{IsPrefix};
 ghost use Rattle.ovs_wire.specs.Message.{Says};
 ghost use Rattle.ovs_links.specs.declared.step.Step.{Step};
 ghost use Rattle.ovs_service.specs.Calls.{IsAllTold};
-ghost use Rattle.ovs_service.specs.Client.{new_client, SaysNothing, AnswersFrom, AnswersTo, TellsOf, TellsNew, MayAsk, IsAnswered, HasAll, Hears, IsTold, ClientValue};
+ghost use Rattle.ovs_service.specs.Client.{new_client, SaysNothing, AnswersFrom, AnswersTo, TellsOf, TellsNew, MayAsk, IsAnswered, HasAll, HasBegunAnew, Hears, IsTold, ClientValue};
 
 use crate::asker::Asker;
 use crate::client::Client;
@@ -20,6 +20,7 @@ fn read(alloc: Global, text: &[u8]) -> Result<Message, Refusal>
     ensures says { IfOk result (Says text.now) }
     ensures bad { result ≡ Err Refusal.BadInput → SaysNothing text.now }
     ensures never_gone { result ≡ Err Refusal.Gone → ⊥ }
+    ensures never_epoch { result ≡ Err Refusal.Epoch → ⊥ }
 {
     match Message::read(alloc, text) {
         Ok(message) => Ok(message),
@@ -102,6 +103,7 @@ impl<K: NodeName, D: Desk<K>> NodeService<K, D> {
         ensures unchanged { OnErr result (client.new ≡ client.old) }
         ensures never_bad { result ≡ Err Refusal.BadInput → ⊥ }
         ensures gone { result ≡ Err Refusal.Gone → self.new.is_gone ≡ true }
+        ensures epoch { result ≡ Err Refusal.Epoch → HasBegunAnew K.schema self.new.view client.new }
         ensures desk { self.new.desk ≡ self.old.desk }
     {
         let heard = client.hear(self.alloc, &mut self.view, message);
@@ -117,6 +119,7 @@ impl<K: NodeName, D: Desk<K>> NodeService<K, D> {
         ensures unchanged { OnErr result (client.new ≡ client.old) }
         ensures never_bad { result ≡ Err Refusal.BadInput → ⊥ }
         ensures gone { result ≡ Err Refusal.Gone → self.new.is_gone ≡ true }
+        ensures epoch { result ≡ Err Refusal.Epoch → HasBegunAnew K.schema self.new.view client.new }
         ensures desk { self.new.desk ≡ self.old.desk }
     {
         let is_all_told = client.pump(self.alloc, &mut self.view);
@@ -133,6 +136,7 @@ impl<K: NodeName, D: Desk<K>> NodeService<K, D> {
         ensures unchanged { OnErr result ((client.new ≡ client.old) × (out.new ≡ out.old)) }
         ensures never_bad { result ≡ Err Refusal.BadInput → ⊥ }
         ensures gone { result ≡ Err Refusal.Gone → self.new.is_gone ≡ true }
+        ensures epoch { result ≡ Err Refusal.Epoch → HasBegunAnew K.schema self.new.view client.new }
         ensures none_ended { D.ended self.new.desk ≡ D.ended self.old.desk }
     {
         let is_all_told = self.pump(client)?;
@@ -161,6 +165,8 @@ impl<K: NodeName, D: Desk<K>> Service for NodeService<K, D> {
 
     ghost is_gone = { λ service. service.is_gone ≡ true };
 
+    ghost is_over = { λ service client. HasBegunAnew K.schema service.view client };
+
     // A message is taken where nothing is due and fewer than 128 asks wait for their replies.
     fn takes(&self, client: &Client<K>) -> bool {
         client.takes()
@@ -173,7 +179,8 @@ impl<K: NodeName, D: Desk<K>> Service for NodeService<K, D> {
     /// Answers a message from what the view shows. What can't be said for want of memory stays due, and is said before all that
     /// comes after it.
     ///
-    /// `BadInput` where the text says no message; `Gone` where the view is gone, and from then on.
+    /// `BadInput` where the text says no message; `Gone` where the view is gone, and from then on; `Epoch` where what the view shows
+    /// begins anew behind what the client was shown.
     fn answer(
         &mut self,
         client: &mut Client<K>,
@@ -184,6 +191,7 @@ impl<K: NodeName, D: Desk<K>> Service for NodeService<K, D> {
         ensures err { OnErr result ((client.new ≡ client.old) × (out.new ≡ out.old)) }
         ensures bad { result ≡ Err Refusal.BadInput → SaysNothing text.now }
         ensures gone { result ≡ Err Refusal.Gone → self.new.is_gone ≡ true }
+        ensures epoch { result ≡ Err Refusal.Epoch → HasBegunAnew K.schema self.new.view client.new }
         ensures shown { OnOk result ((said : List ℕ) × AnswersFrom K.schema D.replies D.owes self.new.view client.old text.now said client.new × (out.new ≡ out.old ++ said)) }
         ensures still_gone { self.old.is_gone ≡ true → result ≡ Err Refusal.Gone }
         ensures none_ended { D.ended self.new.desk ≡ D.ended self.old.desk }
@@ -200,7 +208,7 @@ impl<K: NodeName, D: Desk<K>> Service for NodeService<K, D> {
     /// Says what is due, and then what the client's monitors tell of what the view shows, and what the authority owes it. It is busy
     /// where that is cut short: by the bounds of a call, or since memory ran out after something was done.
     ///
-    /// `NoMemory` where memory ran out before something was done; `Gone` where the view is gone, and from then on.
+    /// `NoMemory` where memory ran out before something was done; `Gone` and `Epoch` as `answer`.
     fn tell(&mut self, client: &mut Client<K>, out: &mut Outbox) -> Result<Pace, Refusal>
         ensures ok { OnOk result ((said : List ℕ) × TellsNew K.schema D.replies D.owes client.old said client.new × (out.new ≡ out.old ++ said)) }
         ensures err { OnErr result ((client.new ≡ client.old) × (out.new ≡ out.old)) }
@@ -208,6 +216,7 @@ impl<K: NodeName, D: Desk<K>> Service for NodeService<K, D> {
         ensures told { result ≡ Ok Pace.Idle → HasAll self.new.view client.new }
         ensures more { result ≡ Ok Pace.Busy → Unit {0} }
         ensures gone { result ≡ Err Refusal.Gone → self.new.is_gone ≡ true }
+        ensures epoch { result ≡ Err Refusal.Epoch → HasBegunAnew K.schema self.new.view client.new }
         ensures shown { OnOk result ((said : List ℕ) × TellsOf K.schema D.replies D.owes self.new.view client.old said client.new × (out.new ≡ out.old ++ said)) }
         ensures still_gone { self.old.is_gone ≡ true → result ≡ Err Refusal.Gone }
         ensures none_ended { D.ended self.new.desk ≡ D.ended self.old.desk }

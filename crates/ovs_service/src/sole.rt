@@ -11,7 +11,7 @@ use crate::desk::Desk;
 use ovs_authority::{Ask, Authority, Verb};
 use ovs_history::GhostList;
 use ovs_json::NoMemory;
-use ovs_views::{NodeName, View, ViewSession};
+use ovs_views::{NodeName, View, ViewError, ViewSession};
 use ovs_wire::Message;
 use std::alloc::Global;
 
@@ -110,7 +110,7 @@ impl<K: NodeName, A: Authority> Desk<K> for Sole<A> {
         is_held_back: bool,
         _view: &mut View<K>,
         _session: &ViewSession<K>,
-    ) -> Result<Option<Message>, NoMemory>
+    ) -> Result<Option<Message>, ViewError>
         ensures given { IfOk result (λ r. IfSome r (λ m. IsAnswer m × IsAnswer m)) }
         ensures collected { IfOk result (λ r. asker.new ≡ with_calls asker.old (calls.Collected is_held_back r ∷ [])) }
         ensures unchanged { OnErr result (asker.new ≡ asker.old) }

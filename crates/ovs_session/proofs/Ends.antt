@@ -2,7 +2,7 @@
 use Rattle.std.proofs.Common.{◌≡◌, ◌⊎◌, ◌<◌, length, ⊎_elim, ℕ, List, [], Option, Ok, Err, sym, subst}
 use Rattle.std.specs.Prelude.{Result}
 use Rattle.ovs_session.specs.declared.ended.Ended.{Ended}
-use Rattle.ovs_session.specs.declared.ended.Ended.TheVariants.{Closed, BadInput, WriteFault, Gone, TurnsSpent}
+use Rattle.ovs_session.specs.declared.ended.Ended.TheVariants.{Closed, BadInput, WriteFault, Gone, Epoch, TurnsSpent}
 use Rattle.ovs_session.specs.declared.limits.Pace.{Pace}
 use Rattle.ovs_session.specs.declared.limits.Pace.TheVariants.{Idle}
 use Rattle.ovs_session.specs.Moving.{IsAnswer, IsBad}
@@ -16,14 +16,14 @@ pub no_error : {X E : Type 0} (x : X) (e : E) → ◌≡◌ {A = Result X E} (Ok
 no_error {X} {E} x e is = subst (λ (r : Result X E). OnlyOk r) is tt
 
 -- why a session has ended may be noted
-pub answer_noted : {C : Type 0} (refuses : C → List ℕ → Type 0) (may_answer is_answered is_told : C → Type 0) (is_gone : Type 0)
+pub answer_noted : {C : Type 0} (refuses : C → List ℕ → Type 0) (may_answer is_answered is_told is_over : C → Type 0) (is_gone : Type 0)
     (r : Result Pace Ended) (a b : SessionValue C) (e : Option Ended)
     → b ≡ record a { ended = e } → (r ≡ Err Closed → IsDone a × is_answered a.core) → (r ≡ Err BadInput → IsBad refuses a × is_answered a.core)
     → ((x : Ended) → r ≡ Err x → (x ≡ WriteFault → ⊥) → a.unsent ≡ []) → (r ≡ Ok Idle → IsIdle may_answer is_answered a)
-    → (r ≡ Ok Idle → is_told a.core ⊎ (0 < length a.unsent)) → (r ≡ Err Gone → is_gone) → (r ≡ Err TurnsSpent → ⊥)
-    → IsAnswer refuses may_answer is_answered is_told is_gone r b
-answer_noted refuses may_answer is_answered is_told is_gone r a b e is closed bad written idle told gone unspent =
-    subst (λ (z : SessionValue _). IsAnswer refuses may_answer is_answered is_told is_gone r z) (sym is) (record {
+    → (r ≡ Ok Idle → is_told a.core ⊎ (0 < length a.unsent)) → (r ≡ Err Gone → is_gone) → (r ≡ Err Epoch → is_over a.core)
+    → (r ≡ Err TurnsSpent → ⊥) → IsAnswer refuses may_answer is_answered is_told is_over is_gone r b
+answer_noted refuses may_answer is_answered is_told is_over is_gone r a b e is closed bad written idle told gone epoch unspent =
+    subst (λ (z : SessionValue _). IsAnswer refuses may_answer is_answered is_told is_over is_gone r z) (sym is) (record {
       closed = λ h. let done = (closed h).0 in
           record { unfed = done.unfed; waiting = done.waiting; held = done.held; unsent = done.unsent; is_at_end = done.is_at_end };
       answered = λ x h which. ⊎_elim (λ (c : x ≡ Closed). (closed (subst (λ (y : Ended). r ≡ Err y) c h)).1)
@@ -33,5 +33,6 @@ answer_noted refuses may_answer is_answered is_told is_gone r a b e is closed ba
       idle = idle;
       told = told;
       gone = gone;
+      epoch = epoch;
       unspent = unspent;
     })

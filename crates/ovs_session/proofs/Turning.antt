@@ -1,5 +1,5 @@
 -- What a turn does, put together of its steps.
-use Rattle.std.proofs.Common.{◌⊎◌, inl, inr, ◌≡◌, ℕ, suc, ◌+◌, ◌<◌, ◌≤◌, arith, List, [], ◌∷◌, ◌++◌, length, add-one, Option, Some, None, Bool, true, Ok, Err, ap, sym, ◌∙◌, subst, refl}
+use Rattle.std.proofs.Common.{◌⊎◌, inl, inr, ◌≡◌, ℕ, suc, ◌+◌, ◌<◌, ◌≤◌, arith, List, [], ◌∷◌, ◌++◌, length, add-one, Option, Some, None, true, Ok, Err, ap, sym, ◌∙◌, subst, refl}
 use Rattle.std.specs.Prelude.{Result, IfOk, IsOkAnd}
 use Rattle.std.specs.Option.{is_some}
 use Rattle.std.proofs.lemmas.Bool.{false≢true}
@@ -11,7 +11,7 @@ use Rattle.ovs_session.specs.declared.steps.Left.{Left}
 use Rattle.ovs_session.specs.declared.steps.Left.TheVariants.{Nothing, More, Untaken, Refused, Untold}
 use Rattle.ovs_session.specs.Counting.{IsAfter, count_on}
 use Rattle.ovs_session.specs.Serving.{SessionValue, Holds, Worked, holding}
-use Rattle.ovs_session.specs.Turning.{WithDevices, CallsWriter, CallsReader, CallsNone, IsExchange, HasPassed, HasAnswered, IsToldWithout, IsNewly, IsBusy, IsTurn, AreTurns, HasCountedAtMost, at_hand}
+use Rattle.ovs_session.specs.Turning.{WithDevices, CallsReader, IsExchange, HasPassed, HasAnswered, IsNewly, IsBusy, IsTurn, AreTurns, HasCountedAtMost, at_hand}
 use Rattle.ovs_session.specs.Working.{MayGoOn, GoesOn}
 use Rattle.ovs_session.proofs.Counted.{after_more, after_counting}
 

@@ -65,9 +65,9 @@ abbrev pub IsBad : {C : Type 0} → (C → List ℕ → Type 0) → SessionValue
 IsBad refuses s = IsFaulty s ⊎ ((m : List ℕ) × (s.held ≡ Some m) × refuses s.core m × (s.unsent ≡ []))
 
 -- The session has ended only where all is done and all that it asked for has come, or its input is bad; it stops only where
--- all that was said is written, or a write failed; what it is answered from is gone where it says so; and it is idle only where
--- it can do nothing by itself, and nothing more is to be told, or something is still to be written.
-pub record IsAnswer {C : Type 0} (refuses : C → List ℕ → Type 0) (may_answer is_answered is_told : C → Type 0) (is_gone : Type 0)
+-- all that was said is written, or a write failed; what it is answered from is gone, or began anew, where it says so; and it is
+-- idle only where it can do nothing by itself, and nothing more is to be told, or something is still to be written.
+pub record IsAnswer {C : Type 0} (refuses : C → List ℕ → Type 0) (may_answer is_answered is_told is_over : C → Type 0) (is_gone : Type 0)
     (result : Result Pace Ended) (s : SessionValue C) : Type 0 where
   pub closed : result ≡ Err Closed → IsDone s
   pub answered : (e : Ended) → result ≡ Err e → (e ≡ Closed) ⊎ (e ≡ BadInput) → is_answered s.core
@@ -76,6 +76,7 @@ pub record IsAnswer {C : Type 0} (refuses : C → List ℕ → Type 0) (may_answ
   pub idle : result ≡ Ok Idle → IsIdle may_answer is_answered s
   pub told : result ≡ Ok Idle → is_told s.core ⊎ (0 < length s.unsent)
   pub gone : result ≡ Err Gone → is_gone
+  pub epoch : result ≡ Err Epoch → is_over s.core
   pub unspent : result ≡ Err TurnsSpent → ⊥
 
 -- The session moved bytes from its reader, of which the first is left and then the second, to its writer, which has the

@@ -1,5 +1,5 @@
 -- What is left of the messages at hand, and how a turn goes on from there.
-use Rattle.std.specs.Prelude.{◌≡◌, ◌<◌, ◌⊎◌, List, ℕ, length}
+use Rattle.std.specs.Prelude.{◌<◌, ◌⊎◌, List, ℕ, length}
 use Rattle.ovs_session.specs.declared.steps.Left.{Left}
 use Rattle.ovs_session.specs.declared.steps.Left.TheVariants.{Nothing, More, Untaken, Refused, Untold}
 use Rattle.ovs_session.specs.Serving.{SessionValue}

@@ -35,6 +35,9 @@ pub trait Service {
     // What it answers from is gone.
     ghost is_gone: { Self → Type 0 };
 
+    // What it answers from began anew, so that what the session was told doesn't go on.
+    ghost is_over: { Self → Self.Session → Type 0 };
+
     /// Whether the session's next message may be answered now. Else it waits, and nothing more is read. It is no only while
     /// something is still to come that the session asked for.
     fn takes(&self, session: &Self::Session) -> bool
@@ -57,7 +60,8 @@ pub trait Service {
         ensures ok { OnOk result ((said : List ℕ) × answers session.old message.now said session.new × (out.new ≡ out.old ++ said)) }
         ensures err { OnErr result ((session.new ≡ session.old) × (out.new ≡ out.old)) }
         ensures bad { result ≡ Err Refusal.BadInput → refuses session.old message.now }
-        ensures gone { result ≡ Err Refusal.Gone → is_gone self.new };
+        ensures gone { result ≡ Err Refusal.Gone → is_gone self.new }
+        ensures epoch { result ≡ Err Refusal.Epoch → is_over self.new session.new };
 
     /// Tells what is new, which may be nothing. It is idle only where nothing more is to be told now; where it is busy, it is to
     /// be called again. After a refusal nothing has changed.
@@ -67,5 +71,6 @@ pub trait Service {
         ensures bad { result ≡ Err Refusal.BadInput → ⊥ }
         ensures told { result ≡ Ok Pace.Idle → is_told self.new session.new }
         ensures more { result ≡ Ok Pace.Busy → may_tell self.new session.new }
-        ensures gone { result ≡ Err Refusal.Gone → is_gone self.new };
+        ensures gone { result ≡ Err Refusal.Gone → is_gone self.new }
+        ensures epoch { result ≡ Err Refusal.Epoch → is_over self.new session.new };
 }

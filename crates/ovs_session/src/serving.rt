@@ -39,6 +39,7 @@ pub fn serve<S: Service, R: Read, W: Write>(
     ensures bad { session.old.ended ≡ None → result ≡ Ended.BadInput → IsBad S.refuses session.new }
     ensures written { session.old.ended ≡ None → (result ≡ Ended.WriteFault → ⊥) → (result ≡ Ended.TurnsSpent → ⊥) → session.new.unsent ≡ [] }
     ensures gone { session.old.ended ≡ None → result ≡ Ended.Gone → S.is_gone service.new }
+    ensures epoch { session.old.ended ≡ None → result ≡ Ended.Epoch → S.is_over service.new session.new.core }
     ensures read_fault { session.old.ended ≡ None → result ≡ Ended.ReadFault → reader.new.failures ≡ one_more reader.old.failures }
     ensures write_fault { session.old.ended ≡ None → result ≡ Ended.WriteFault → writer.new.failures ≡ one_more writer.old.failures }
     ensures turns { session.old.ended ≡ None → result ≡ Ended.TurnsSpent

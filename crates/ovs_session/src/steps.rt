@@ -44,6 +44,7 @@ pub(crate) fn answer_all<S: Service>(
     ensures more { result ≡ Ok Left.More → (0 < length session.new.unsent) ⊎ HasAnswered session.old session.new }
     ensures untaken { result ≡ Ok Left.Untaken → S.may_answer session.new.core → ⊥ }
     ensures gone { result ≡ Err Ended.Gone → S.is_gone service.new }
+    ensures epoch { result ≡ Err Ended.Epoch → S.is_over service.new session.new.core }
 {
     for _answered in 0..limits.messages {
         if session.unsent() >= limits.most_unsent {
@@ -74,6 +75,7 @@ fn tell_below<S: Service>(
     ensures grows { length session.old.unsent ≤ length session.new.unsent }
     ensures some { OnOk result ((0 < length session.new.unsent) ⊎ ((said : List ℕ) × S.tells session.old.core said session.new.core)) }
     ensures gone { result ≡ Err Ended.Gone → S.is_gone service.new }
+    ensures epoch { result ≡ Err Ended.Epoch → S.is_over service.new session.new.core }
 {
     let is_full = limits.most_unsent <= session.unsent();
     if is_full {
@@ -99,6 +101,7 @@ pub(crate) fn answer_and_tell<S: Service>(
     ensures busy { IfOk result (λ left. MayGoOn S.tells S.may_answer S.is_answered (S.may_tell service.new) left session.old session.new) }
     ensures told { IfOk result (λ left. (left ≡ Left.Untold) ⊎ S.is_told service.new session.new.core ⊎ (0 < length session.new.unsent)) }
     ensures gone { result ≡ Err Ended.Gone → S.is_gone service.new }
+    ensures epoch { result ≡ Err Ended.Epoch → S.is_over service.new session.new.core }
 {
     match answer_all(session, service, limits) {
         Ok(left) => match tell_below(session, service, limits)? {
@@ -200,7 +203,7 @@ fn take_in<S: Service, R: Read>(
     ensures busy { result ≡ Ok Pace.Busy → (IsCalled reader.old reader.new session.old.counts session.new.counts × (session.old.unfed ≡ []))
         ⊎ ((session.old.unfed ≡ [] → ⊥) × (session.new.unfed ≡ [])) }
     ensures faults { CountsFault Ended.ReadFault result reader.old.failures reader.new.failures }
-    ensures ends { IfErr result (λ e. (e ≡ Ended.WriteFault → ⊥) × (e ≡ Ended.Gone → ⊥) × (e ≡ Ended.TurnsSpent → ⊥)) }
+    ensures ends { IfErr result (λ e. (e ≡ Ended.WriteFault → ⊥) × (e ≡ Ended.Gone → ⊥) × (e ≡ Ended.Epoch → ⊥) × (e ≡ Ended.TurnsSpent → ⊥)) }
     ensures core { session.new.core ≡ session.old.core }
     ensures closed { result ≡ Err Ended.Closed → (session.new ≡ session.old) × (session.old.unfed ≡ []) × (session.old.is_at_end ≡ true)
         × S.is_answered session.old.core }
@@ -263,6 +266,7 @@ pub(crate) fn exchange<S: Service, R: Read, W: Write>(
     requires held { left ≡ Ok Left.Refused → (m : List ℕ) × (session.old.held ≡ Some m) }
     requires told { IfOk left (λ l. (l ≡ Left.Untold) ⊎ S.is_told service.now session.old.core ⊎ (0 < length session.old.unsent)) }
     requires gone { left ≡ Err Ended.Gone → S.is_gone service.now }
+    requires epoch { left ≡ Err Ended.Epoch → S.is_over service.now session.old.core }
     ensures moved { (limit : ℕ) → Moved S.answers S.tells limit (R.remaining reader.old.device) (R.remaining reader.new.device)
         (W.contents writer.old.device) (W.contents writer.new.device) session.old session.new }
     ensures exchanged { IsExchange (with_devices session.old reader.old writer.old) (with_devices session.new reader.new writer.new) }
@@ -270,6 +274,7 @@ pub(crate) fn exchange<S: Service, R: Read, W: Write>(
         ⊎ ((session.old.unsent ≡ []) × (session.new ≡ session.old) × IsOkAnd left (λ l. GoesOn S.may_answer S.is_answered l session.old.core)) }
     ensures told { result ≡ Ok Pace.Idle → S.is_told service.now session.new.core ⊎ (0 < length session.new.unsent) }
     ensures gone { result ≡ Err Ended.Gone → S.is_gone service.now }
+    ensures epoch { result ≡ Err Ended.Epoch → S.is_over service.now session.new.core }
     ensures unspent { result ≡ Err Ended.TurnsSpent → ⊥ }
     ensures read_faults { CountsFault Ended.ReadFault result reader.old.failures reader.new.failures }
     ensures write_faults { CountsFault Ended.WriteFault result writer.old.failures writer.new.failures }

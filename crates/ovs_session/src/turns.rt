@@ -29,6 +29,7 @@ fn go_on<S: Service, R: Read, W: Write>(
     ensures written { (e : _) → result ≡ Err e → (e ≡ Ended.WriteFault → ⊥) → session.new.unsent ≡ [] }
     ensures told { result ≡ Ok Pace.Idle → S.is_told service.new session.new.core ⊎ (0 < length session.new.unsent) }
     ensures gone { result ≡ Err Ended.Gone → S.is_gone service.new }
+    ensures epoch { result ≡ Err Ended.Epoch → S.is_over service.new session.new.core }
     ensures unspent { result ≡ Err Ended.TurnsSpent → ⊥ }
     ensures turned { IsTurn S.answers S.tells S.may_answer S.is_answered (S.may_tell service.new) limits.most_unsent result
         (with_devices session.old reader.old writer.old) (with_devices session.new reader.new writer.new) }
@@ -57,6 +58,7 @@ fn go_on<S: Service, R: Read, W: Write>(
 ///   held; and nothing that the session asked for is still to come. While something is, the turn is idle.
 /// - `ReadFault`, `WriteFault`: the call of the device failed, which it counts. That nothing passed for now is no failure.
 /// - `Gone`: the service says that what it answers from is gone.
+/// - `Epoch`: the service says that what it answers from began anew.
 /// - `NoMemory`: nothing is lost. What was read is kept, a message that was taken stays held, and the turn may be made again.
 pub fn turn<S: Service, R: Read, W: Write>(
     session: &mut Session<S::Session>,
@@ -70,8 +72,8 @@ pub fn turn<S: Service, R: Read, W: Write>(
     ensures over { (e : _) → session.old.ended ≡ Some e
         → (result ≡ Err e) × (session.new ≡ session.old) × (reader.new ≡ reader.old) × (writer.new ≡ writer.old) }
     ensures ends { session.old.ended ≡ None → session.new.ended ≡ ended_by result }
-    ensures answer { session.old.ended ≡ None → IsAnswer S.refuses S.may_answer S.is_answered (S.is_told service.new) (S.is_gone service.new)
-        result session.new }
+    ensures answer { session.old.ended ≡ None → IsAnswer S.refuses S.may_answer S.is_answered (S.is_told service.new) (S.is_over service.new)
+        (S.is_gone service.new) result session.new }
     ensures turned { session.old.ended ≡ None → IsTurn S.answers S.tells S.may_answer S.is_answered (S.may_tell service.new) limits.most_unsent result
         (with_devices session.old reader.old writer.old) (with_devices session.new reader.new writer.new) }
     ensures read_faults { session.old.ended ≡ None → CountsFault Ended.ReadFault result reader.old.failures reader.new.failures }

@@ -1,5 +1,5 @@
 -- The steps that a node publishes, and the database after them.
-use Rattle.std.specs.Prelude.{ℕ, List, [], ◌∷◌, ◌++◌, ◌≡◌, ◌==◌, ◌||◌, Bool, nat_le, drop, fold, if◌then◌else◌, Option, Some, None}
+use Rattle.std.specs.Prelude.{ℕ, List, ◌≡◌, ◌==◌, ◌||◌, Bool, nat_le, drop, fold, if◌then◌else◌, Option, Some, None}
 use Rattle.std.specs.List.{list_any}
 use mathlib.Core.List.{IsPrefix}
 use Rattle.ovs_types.specs.Schema.{SchemaValue}

@@ -1,6 +1,6 @@
 //! A reader's view of what is published.
 
-ghost use Rattle.std.specs.Prelude.{◌≡◌, ◌<◌, ◌⊎◌, true, false, IfOk, OnOk, OnErr, drop, is_some};
+ghost use Rattle.std.specs.Prelude.{◌≡◌, ◌<◌, ◌⊎◌, ◌↔◌, true, false, IfOk, IfErr, OnOk, OnErr, drop, is_some};
 ghost use Rattle.std.specs.List.{list_all};
 ghost use mathlib.Core.List.{IsPrefix};
 ghost use Rattle.serde_json.specs.View.{view, items_view, items_of};
@@ -9,6 +9,7 @@ ghost use Rattle.ovs_query.specs.Answer.{only_reads, results};
 ghost use Rattle.ovs_query.specs.RowWriting.{select_json};
 ghost use Rattle.ovs_links.specs.StepChains.{head_after_steps, position_in, start_at};
 ghost use Rattle.ovs_links.specs.Absorbing.{folded_by};
+ghost use Rattle.ovs_reader.specs.Session.{is_over};
 ghost use Rattle.ovs_reader.specs.Turns.{seen_turn, turn, after_turn};
 ghost use Rattle.ovs_reader.specs.Telling.{told_some, after_some};
 ghost use Rattle.ovs_views.specs.Published.{GoesOn, is_shown, since_start};
@@ -232,7 +233,9 @@ impl<K: NodeName> View<K> {
     /// A session's answer to a message (RFC 7047 section 4.1; ovsdb-server(7)).
     ///
     /// # Errors
-    /// `Gone`, also where what is shown is less than what the session was shown before, or `NoMemory`; then nothing is changed.
+    /// `Gone`, also where what is shown is less than what the session was shown before; else `Epoch` exactly where the chain that is
+    /// shown begins at a greater start than the chain that the session was shown last: the session's epoch is over; or `NoMemory`.
+    /// Then nothing is changed of the session.
     pub fn message(
         &mut self,
         alloc: Global,
@@ -244,24 +247,28 @@ impl<K: NodeName> View<K> {
         ensures shown { OnOk result (GoesOn K.schema session.old.last self.new) }
         ensures turn { IfOk result (λ t. seen_turn t ≡ turn session.old.session (folded_by K.schema self.new) message) }
         ensures after { OnOk result (session.new ≡ record { session = after_turn session.old.session (folded_by K.schema self.new) message; last = self.new }) }
-        ensures unchanged { OnErr result ((self.new ≡ self.old) × (session.new ≡ session.old)) }
+        ensures lasts { OnOk result (is_over session.old.session.start (folded_by K.schema self.new) ≡ false) }
+        ensures refused { IfErr result (λ e. (e ≡ ViewError.Gone)
+            ⊎ (GoesOn K.schema self.old self.new × ((e ≡ ViewError.Epoch) ↔ (is_over session.old.session.start (folded_by K.schema self.new) ≡ true)))) }
+        ensures known { IsPrefix self.old self.new }
+        ensures unchanged { OnErr result (session.new ≡ session.old) }
     {
         let (front, turn) = match self.handle.enter() {
             None => return Err(ViewError::Gone),
             Some(shown) => {
                 let front = shown.since(&self.known).ok_or(Gone)?;
-                (front, session.take_message(alloc, message, &shown)?)
+                (front, session.take_message(alloc, message, &shown))
             }
         };
         self.known = front;
-        Ok(turn)
+        turn
     }
 
     /// The notifications that a session's monitors weren't given yet (RFC 7047 section 4.1.6); but no step is begun once so many
     /// are told. Fewer mean that nothing is left to be told; what is left, the next call tells.
     ///
     /// # Errors
-    /// `Gone`, also where what is shown is less than what the session was shown before, or `NoMemory`; then nothing is changed.
+    /// As `message`.
     pub fn pump(
         &mut self,
         alloc: Global,
@@ -274,17 +281,21 @@ impl<K: NodeName> View<K> {
         ensures shown { OnOk result (GoesOn K.schema session.old.last self.new) }
         ensures told { IfOk result (λ ms. ms.items ≡ told_some most session.old.session.monitors (folded_by K.schema self.new).steps) }
         ensures after { OnOk result (session.new ≡ record { session = after_some most session.old.session (folded_by K.schema self.new); last = self.new }) }
-        ensures unchanged { OnErr result ((self.new ≡ self.old) × (session.new ≡ session.old)) }
+        ensures lasts { OnOk result (is_over session.old.session.start (folded_by K.schema self.new) ≡ false) }
+        ensures refused { IfErr result (λ e. (e ≡ ViewError.Gone)
+            ⊎ (GoesOn K.schema self.old self.new × ((e ≡ ViewError.Epoch) ↔ (is_over session.old.session.start (folded_by K.schema self.new) ≡ true)))) }
+        ensures known { IsPrefix self.old self.new }
+        ensures unchanged { OnErr result (session.new ≡ session.old) }
     {
         let (front, messages) = match self.handle.enter() {
             None => return Err(ViewError::Gone),
             Some(shown) => {
                 let front = shown.since(&self.known).ok_or(Gone)?;
-                (front, session.pump(alloc, &shown, most)?)
+                (front, session.pump(alloc, &shown, most))
             }
         };
         self.known = front;
-        Ok(messages)
+        messages
     }
 }
 

@@ -1,6 +1,6 @@
 //! The session of a reader at a node.
 
-ghost use Rattle.std.specs.Prelude.{◌≡◌, ◌<◌, [], true, false, length, IfOk, IfErr, MatchResult, OnOk, OnErr};
+ghost use Rattle.std.specs.Prelude.{◌≡◌, ◌<◌, ◌⊎◌, ◌↔◌, [], true, false, length, IfOk, IfErr, MatchResult, OnOk, OnErr};
 ghost use Rattle.ovs_links.specs.Absorbing.{folded_by};
 ghost use Rattle.ovs_reader.specs.Session.{new_session, is_over};
 ghost use Rattle.ovs_reader.specs.Turns.{seen_turn, turn, after_turn};
@@ -58,8 +58,9 @@ impl<K: NodeName> ViewSession<K> {
     /// Answers a message (RFC 7047 section 4.1) from what is shown.
     ///
     /// # Errors
-    /// `Gone` only where that is less than what the session was shown before; `Epoch` only where its chain begins at a greater start
-    /// than the one that the session was shown last, and then for all that is shown later; `NoMemory`. Then nothing is changed.
+    /// `Gone` only where that is less than what the session was shown before; else `Epoch` exactly where its chain begins at a
+    /// greater start than the one that the session was shown last, and then for all that is shown later; `NoMemory`. Then nothing
+    /// is changed.
     pub fn take_message(
         &mut self,
         alloc: Global,
@@ -71,7 +72,7 @@ impl<K: NodeName> ViewSession<K> {
         ensures after { OnOk result (self.new ≡ record { session = after_turn self.old.session (folded_by K.schema shown.now) message; last = shown.now }) }
         ensures gone { IfErr result (λ e. e ≡ ViewError.Gone → length shown.now < length self.old.last) }
         ensures epoch { MatchResult result (λ _. is_over self.old.session.start (folded_by K.schema shown.now) ≡ false)
-            (λ e. e ≡ ViewError.Epoch → is_over self.old.session.start (folded_by K.schema shown.now) ≡ true) }
+            (λ e. (e ≡ ViewError.Gone) ⊎ ((e ≡ ViewError.Epoch) ↔ (is_over self.old.session.start (folded_by K.schema shown.now) ≡ true))) }
         ensures unchanged { OnErr result (self.new ≡ self.old) }
     {
         let last = shown.since(&self.last).ok_or(Gone)?;
@@ -98,7 +99,7 @@ impl<K: NodeName> ViewSession<K> {
         ensures after { OnOk result (self.new ≡ record { session = after_some most self.old.session (folded_by K.schema shown.now); last = shown.now }) }
         ensures gone { IfErr result (λ e. e ≡ ViewError.Gone → length shown.now < length self.old.last) }
         ensures epoch { MatchResult result (λ _. is_over self.old.session.start (folded_by K.schema shown.now) ≡ false)
-            (λ e. e ≡ ViewError.Epoch → is_over self.old.session.start (folded_by K.schema shown.now) ≡ true) }
+            (λ e. (e ≡ ViewError.Gone) ⊎ ((e ≡ ViewError.Epoch) ↔ (is_over self.old.session.start (folded_by K.schema shown.now) ≡ true))) }
         ensures unchanged { OnErr result (self.new ≡ self.old) }
     {
         let last = shown.since(&self.last).ok_or(Gone)?;

@@ -20,6 +20,7 @@ pub(crate) fn answer_held<S: Service>(
     ensures refused { IfErr result (λ e. IsRefusal e) }
     ensures bad { result ≡ Err Ended.BadInput → (m : List ℕ) × (session.new.held ≡ Some m) × S.refuses session.new.core m }
     ensures gone { result ≡ Err Ended.Gone → S.is_gone service.new }
+    ensures epoch { result ≡ Err Ended.Epoch → S.is_over service.new session.new.core }
 {
     match session.held.take() {
         None => Ok(()),
@@ -50,6 +51,7 @@ pub(crate) fn tell_new<S: Service>(
     ensures grows { length session.old.unsent ≤ length session.new.unsent }
     ensures some { OnOk result ((said : List ℕ) × S.tells session.old.core said session.new.core) }
     ensures gone { result ≡ Err Ended.Gone → S.is_gone service.new }
+    ensures epoch { result ≡ Err Ended.Epoch → S.is_over service.new session.new.core }
 {
     Ok(service.tell(&mut session.core, &mut session.outbox)?)
 }

@@ -15,7 +15,7 @@ returns-clause-moved g c =
 pub returns-clause-answer : goal.returns-clause-answer
 returns-clause-answer g c was =
     let on = c.go_on-turned.ensures in
-    answer_noted g.S.Service.refuses _ _ _ _ _ _ _ _ c.note.ensures.value on.closed on.bad on.written on.idle on.told on.gone on.unspent
+    answer_noted g.S.Service.refuses _ _ _ _ _ _ _ _ _ c.note.ensures.value on.closed on.bad on.written on.idle on.told on.gone on.epoch on.unspent
 
 pub returns-clause-turned : goal.returns-clause-turned
 returns-clause-turned g c was =

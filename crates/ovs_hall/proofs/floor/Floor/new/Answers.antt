@@ -1,4 +1,4 @@
-use Rattle.std.proofs.Common.{◌∙◌, sym, ap, subst, [], option_map, map}
+use Rattle.std.proofs.Common.{◌∙◌, sym, ap, subst, option_map, map}
 use Rattle.std.specs.List.{AllByRecursion}
 use Rattle.ovs_hall.specs.Seats.{EndsSo}
 use Rattle.ovs_hall.specs.Tallying.{tally_of}

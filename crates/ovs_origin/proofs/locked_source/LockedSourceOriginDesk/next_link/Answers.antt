@@ -1,5 +1,3 @@
-use Rattle.std.proofs.Common.{subst}
-use Rattle.ovs_types.specs.declared.schema.Schema.{Schema}
 use Rattle.ovs_origin.proofs.LastSteps.{taken}
 use Rattle.ovs_origin.proofs.locked_source.LockedSourceOriginDesk.next_link.Goals as goal
 

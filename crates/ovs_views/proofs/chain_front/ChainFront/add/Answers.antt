@@ -1,4 +1,4 @@
-use Rattle.std.proofs.Common.{◌≡◌, ◌≤◌, ◌<◌, List, length, ap, arith}
+use Rattle.std.proofs.Common.{List, length, ap, arith}
 use Rattle.ovs_links.proofs.AbsorbingLemmas.{no_more}
 use Rattle.ovs_views.proofs.chain_front.ChainFront.add.Goals as goal
 

@@ -1,6 +1,6 @@
-use Rattle.std.proofs.Common.{◌≡◌, ◌∙◌, ◌≤◌, ◌-◌, List, length, ap, sym, subst, arith}
+use Rattle.std.proofs.Common.{◌∙◌, ◌-◌, List, length, ap, subst, arith}
 use mathlib.Core.List.{IsPrefix}
-use Rattle.ovs_links.specs.Absorbing.{folded_by, last_chain}
+use Rattle.ovs_links.specs.Absorbing.{folded_by}
 use Rattle.ovs_links.specs.Steps.{FoldedValue}
 use Rattle.ovs_links.specs.declared.step.Step.{Step}
 use Rattle.ovs_links.proofs.AbsorbingLemmas.{no_more}

@@ -1,7 +1,6 @@
 use Rattle.std.proofs.Common.{rules, ◌≡◌, ap, ◌∙◌}
 use Rattle.ovs_links.specs.Absorbing.{folded_by}
 use Rattle.ovs_links.specs.Steps.{FoldedValue}
-use Rattle.ovs_reader.specs.Session.{SessionValue}
 use Rattle.ovs_reader.specs.Telling.{after_some}
 use Rattle.ovs_views.specs.Published.{GoesOn, ViewSessionValue}
 use Rattle.ovs_views.proofs.Next.{session_shown}
