@@ -1,5 +1,6 @@
 """Processes that a check starts, ports, and what the kernel tells of a process."""
 import os
+import re
 import random
 import resource
 import signal
@@ -83,6 +84,10 @@ def _holds(process, inode):
         return False
 
 
+# How a line begins that a node says while it runs.
+TIMED = re.compile(r"^(ovs_relay: )(\d{4}-\d\d-\d\dT\d\d:\d\d:\d\d\.\d{3}Z) ", re.M)
+
+
 class Child:
     """A process that runs in one folder, with its output in files of another, or of the same."""
 
@@ -102,7 +107,8 @@ class Child:
         return self.read(0)
 
     def complaints(self):
-        return self.read(1)
+        """What it said on standard error so far, where a line that a node says while it runs stands without its time."""
+        return TIMED.sub(r"\1", self.read(1))
 
     def told(self):
         return f"{self.name}: status {self.process.poll()}, output {self.output()[-400:]!r}, standard error {self.complaints()[-400:]!r}"

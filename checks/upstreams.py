@@ -1,5 +1,6 @@
 """How a relay follows its upstreams: late ones, silent ones, those that break off, and those that contradict."""
 import json
+import os
 import time
 
 from data import FIRST_ID, NET, ZEROS, insert, nth, select
@@ -13,6 +14,10 @@ ROW = "11111111-1111-4111-8111-111111111111"
 OTHER_ID = "bbbbbbbb-bbbb-4bbb-8bbb-bbbbbbbbbbbb"
 LONGEST_PAUSE = 1.0
 SLACK = 0.6
+# How often a relay comes again behind a refused link, and what each time may take of a processor, in seconds.
+RECONNECTS = 20
+PROCESSOR_A_RECONNECT = 0.010
+TICKS_A_SECOND = os.sysconf("SC_CLK_TCK")
 
 
 def commit_id(number):
@@ -256,6 +261,24 @@ def contradictions_without_the_option(lab):
         holds(relay.child.is_running(), "the relay ended")
     upstream.close()
     equal(relay.end(), (1, closing(commit_id(2), 2, 2)), "the relay's status and output")
+
+
+@check(240)
+def a_refused_link_costs_no_processor(lab):
+    """A relay whose upstream ends each connection behind a link that contradicts what it has comes again soon, and takes hardly any processor for it."""
+
+    def forks_and_breaks(connection):
+        connection.begin(unknown)
+        connection.update3(commit_id(1), change(1))
+        connection.update3(OTHER_ID, {"Port": {ROW: {"modify": {"name": "other"}}}})
+
+    upstream = lab.keep(Upstream(NET, tells_and_breaks, forks_and_breaks))
+    relay = lab.relay([upstream])
+    wait_until(lambda: len(upstream.connections) >= 2, 15, "the relay asks again")
+    before, ticks = len(upstream.connections), relay.child.ticks()
+    wait_until(lambda: len(upstream.connections) >= before + RECONNECTS, 30, f"the relay asks {RECONNECTS} times more")
+    each = (relay.child.ticks() - ticks) / TICKS_A_SECOND / (len(upstream.connections) - before)
+    holds(each < PROCESSOR_A_RECONNECT, f"each connection costs {each * 1000:.1f} ms of processor")
 
 
 @check(240)

@@ -3,4 +3,5 @@ pub mod Collected
 pub mod DeskParts
 pub mod LastSteps
 pub mod Nobody
+pub mod Reports
 pub mod Served

@@ -4,6 +4,8 @@ ghost use Rattle.std.specs.Prelude.{◌≡◌, []};
 ghost use Rattle.ovs_links.specs.Sets.{AllOf};
 
 use crate::connector::Connector;
+use crate::not_run::NotRun;
+use crate::sender::Sender;
 use ovs_feed::{FeedEnd, FeedName};
 use ovs_folder::NodeLink;
 use ovs_views::NodeName;
@@ -47,5 +49,13 @@ impl<K: NodeName, Q: FeedName, C: Connector> Line<K, Q, C> {
     {
         let Line { end, of: _ } = self;
         end
+    }
+}
+
+impl<K: NodeName, Q: FeedName, C: Connector> Sender<K, Q> for Line<K, Q, C> {
+    ghost sends = { λ l. C.admits l };
+
+    fn take_end(self) -> Result<FeedEnd<NodeLink<K>, Q>, NotRun> {
+        Ok(self.into_end())
     }
 }

@@ -7,7 +7,7 @@ use crate::engine::Scene;
 use crate::fault::Fault;
 use crate::readers::{Chat, MemoryBell, ReaderDoors};
 use crate::upstreams::{UpSession, Upstream};
-use ovs_engine::{Counters, Crew, Line, LockedDesk, Unused, UpstreamParts, WorkerParts};
+use ovs_engine::{Counters, Line, LockedDesk, NodeThreads, RelayThreads, SharedSide, Unused};
 use ovs_json::Text;
 use ovs_node::{FeedEnd, FeedName, NodeLink, NodeName, Opened, View};
 use ovs_recorded_desk::{DeskName, DeskStep, RecordedDesk};
@@ -60,7 +60,7 @@ pub(crate) fn lines_of<K: NodeName, Q: FeedName>(
 }
 
 /// Threads whose devices are over memory.
-pub(crate) type MemoryCrew<'a, 'x, K, Q, N, R> = Crew<
+pub(crate) type MemoryCrew<'a, 'x, K, Q, N, R> = RelayThreads<
     'a,
     K,
     Q,
@@ -72,6 +72,7 @@ pub(crate) type MemoryCrew<'a, 'x, K, Q, N, R> = Crew<
 
 // An upstream for each of these lines, with the sessions of its number.
 fn add_upstreams<'a, 'x, K: NodeName, Q: FeedName, N: DeskName + Send, R: Wait>(
+    alloc: Global,
     crew: MemoryCrew<'a, 'x, K, Q, N, R>,
     stage: &'a Stage<'x, N, R>,
     lines: Vec<Line<K, Q, Upstream>>,
@@ -82,14 +83,12 @@ fn add_upstreams<'a, 'x, K: NodeName, Q: FeedName, N: DeskName + Send, R: Wait>(
     for (line, sessions) in lines.into_iter().zip(upstreams) {
         let seen = stage.chat.seen.clone()?;
         let view = views.pop().ok_or(Fault::BadCount)?;
-        let upstream = UpstreamParts {
+        let upstream = ovs_engine::Upstream {
             line,
-            view,
             connector: Upstream::new(sessions, seen),
+            source: SharedSide::new(alloc, None),
         };
-        if crew.add_upstream(upstream, None).is_err() {
-            return Err(Fault::NoMemory);
-        }
+        crew.add_feed(upstream, view)?;
     }
     Ok(crew)
 }
@@ -104,19 +103,6 @@ fn doors_of<N: DeskName, R: Wait>(
     let chat = stage.chat.again()?;
     let bell = bell.again()?;
     Ok(Unused::new(ReaderDoors::new(chat, bell, request, until)))
-}
-
-// The reader, who comes in at these doors.
-fn add_reader<'a, 'x, K: NodeName, Q: FeedName, N: DeskName + Send, R: Wait>(
-    crew: MemoryCrew<'a, 'x, K, Q, N, R>,
-    view: View<K>,
-    doors: Unused<ReaderDoors>,
-) -> Result<MemoryCrew<'a, 'x, K, Q, N, R>, Fault> {
-    let mut crew = crew;
-    match crew.add_worker(WorkerParts { view, doors }) {
-        Ok(()) => Ok(crew),
-        Err(_) => Err(Fault::NoMemory),
-    }
 }
 
 /// The upstreams of a scene, and its reader.
@@ -135,10 +121,10 @@ pub(crate) fn crew_of<'a, 'x, K: NodeName, Q: FeedName, N: DeskName + Send, R: W
     } = scene;
     let doors = doors_of(stage, request, until)?;
     let mut views = views;
-    let crew = add_upstreams(Crew::new(alloc), stage, lines, upstreams, &mut views)?;
-    if !has_reader {
-        return Ok(crew);
+    let crew = NodeThreads::new(alloc);
+    let mut crew = add_upstreams(alloc, crew, stage, lines, upstreams, &mut views)?;
+    if has_reader {
+        crew.add_worker(doors, views.pop().ok_or(Fault::BadCount)?)?;
     }
-    let view = views.pop().ok_or(Fault::BadCount)?;
-    add_reader(crew, view, doors)
+    Ok(crew)
 }

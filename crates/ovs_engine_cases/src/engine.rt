@@ -8,10 +8,10 @@ ghost use Rattle.ovs_folder.specs.Ledger.{IsFresh, steps_in};
 
 use crate::crews::{Stage, crew_of, lines_of};
 use crate::fault::Fault;
-use crate::outcome::{finished, told};
+use crate::outcome::told;
 use crate::readers::request_text;
 use crate::upstreams::{UpSession, Upstream, number_in, read_sessions};
-use ovs_engine::{Line, Shared, Unwatched, run_node};
+use ovs_engine::{Line, Shared, Unwatched, run_relay};
 use ovs_json::Text;
 use ovs_links::Step;
 use ovs_node::{
@@ -149,6 +149,7 @@ fn run<
     requires desk { (desk.opened.seen.book ≡ N.book) × (desk.database ≡ N.database) }
     requires schema { schema.now ≡ K.schema }
     requires in_step { IsInStep (published parts.node.publisher.handle) (pending parts.node.publisher.handle) parts.node.publisher.front parts.node.publisher.kept (steps_in parts.node.intake.store) }
+    requires none { parts.node.intake.feed.returned ≡ [] }
     requires unsent { AllByRecursion (λ e. e.1 ≡ []) parts.ends.items }
 {
     let Parts {
@@ -199,6 +200,7 @@ fn staged<
 ) -> Result<Report<K, Handle<K, &'x R>>, Fault>
     requires schema { schema.now ≡ K.schema }
     requires in_step { IsInStep (published node.publisher.handle) (pending node.publisher.handle) node.publisher.front node.publisher.kept (steps_in node.intake.store) }
+    requires none { node.intake.feed.returned ≡ [] }
 {
     let Outfit {
         scene,
@@ -208,7 +210,6 @@ fn staged<
     let crew = crew_of(alloc, scene, &*stage, lines, views)?;
     let shared = Shared {
         rt: &*rt,
-        schema: &*schema,
         queue: &*queue,
         board: &*board,
         desk: &stage.desk,
@@ -219,8 +220,5 @@ fn staged<
         limits: LIMITS,
     };
     relay_desk_sends();
-    match run_node(alloc, &shared, node, crew) {
-        Ok(ran) => finished(&*rt, alloc, &*queue, &*board, ran),
-        Err(_unrun) => Err(Fault::NoMemory),
-    }
+    Ok(run_relay(alloc, &shared, schema, node, crew)?)
 }

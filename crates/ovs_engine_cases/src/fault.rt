@@ -1,5 +1,6 @@
 //! Why a line has no answer.
 
+use ovs_engine::NotRun;
 use ovs_node::{Gone, NodeError, ViewError};
 use ovs_types::NoMemory;
 use std::alloc::{AllocError, AllocFailed};
@@ -45,6 +46,15 @@ impl From<AllocError> for Fault {
 impl<T: Drop> From<AllocFailed<T>> for Fault {
     fn from(_error: AllocFailed<T>) -> Fault {
         Fault::NoMemory
+    }
+}
+
+impl From<NotRun> for Fault {
+    fn from(error: NotRun) -> Fault {
+        match error {
+            NotRun::NoMemory => Fault::NoMemory,
+            NotRun::NotBack => Fault::NotDrained,
+        }
     }
 }
 

@@ -1,9 +1,11 @@
 //! What the thread of a source's desk sends with.
 
-ghost use Rattle.std.specs.Prelude.{◌≡◌, []};
+ghost use Rattle.std.specs.Prelude.{◌≡◌, [], IfOk, OnOk};
 ghost use Rattle.ovs_links.specs.Sets.{AllOf};
+ghost use Rattle.ovs_session.specs.declared.ended.Ended.{Ended};
 
 use crate::origin_desk::OriginDesk;
+use ovs_engine::{NotRun, Sender};
 use ovs_feed::{FeedEnd, FeedName};
 use ovs_folder::NodeLink;
 use ovs_session::Ended;
@@ -57,5 +59,20 @@ impl<K: NodeName, Q: FeedName, L: OriginDesk<K>> SourceLine<K, Q, L> {
     {
         let SourceLine { end, of: _ } = self;
         end
+    }
+}
+
+impl<K: NodeName, Q: FeedName, L: OriginDesk<K>> Sender<K, Q> for SourceSent<K, Q, L> {
+    ghost sends = { λ l. L.gives l };
+
+    // Where there was no thread nothing was sent, though the desk may have made links.
+    fn take_end(self) -> Result<FeedEnd<NodeLink<K>, Q>, NotRun>
+        ensures sent { IfOk result (λ end. ∥ AllOf L.gives end.1 ∥₁) }
+        ensures whole { OnOk result (self.ended ≡ Ended.Closed) }
+    {
+        match self.ended {
+            Ended::Closed => Ok(self.line.into_end()),
+            _ => Err(NotRun::NoMemory),
+        }
     }
 }

@@ -1,21 +1,26 @@
 //! What is told while a node runs.
 
+use jiff::Timestamp;
 use log::kv::Source;
 use log::span::Spans;
 use log::{Log, Metadata, Record};
 use std::fmt::Display;
+use std::time::Clock;
 
-/// Tells each record in a line on standard error, as all else that the program says there.
+/// Tells each record in a line on standard error, as all else that the program says there, with the time (UTC, to the millisecond).
 #[derive(Clone, Copy, Debug, Drop)]
 pub(crate) struct LogLines<R>(pub(crate) R);
 
-impl<R: Eprint> Log for LogLines<R> {
+impl<R: Eprint + Clock> Log for LogLines<R> {
     fn enabled(&self, _metadata: &Metadata<'_>) -> bool {
         true
     }
 
     fn log<D: Display, K: Source, S: Spans>(&self, record: &Record<'_, D, K, S>) {
-        let _ = eprintln!(self.0; "ovs_relay: {}", record.args());
+        let _ = match Timestamp::now(&self.0) {
+            Ok(now) => eprintln!(self.0; "ovs_relay: {now:.3} {}", record.args()),
+            Err(_) => eprintln!(self.0; "ovs_relay: {}", record.args()),
+        };
     }
 
     fn flush(&self) {}

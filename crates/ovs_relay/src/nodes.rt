@@ -13,15 +13,17 @@ use std::process::ExitCode;
 use std::rt::Runtime;
 use std::sync::Wait;
 use std::thread::Threads;
+use std::time::Clock;
 
-// How much is told while a node runs: all with `--verbose`; what ends it where that is wanted.
+// How much is told while a node runs: all with `--verbose`; what ends it where that is wanted; and that nobody sends it links any
+// more.
 fn level_of(verbose: bool, ends_on_refusal: bool) -> LevelFilter {
     if verbose {
         LevelFilter::Info
     } else if ends_on_refusal {
         LevelFilter::Warn
     } else {
-        LevelFilter::Off
+        LevelFilter::Error
     }
 }
 
@@ -49,6 +51,7 @@ fn closes<R: Print + Eprint>(
 // A source of this schema.
 fn source<
     R: Eprint
+        + Clock
         + Threads
         + Wait
         + Net<Listener = TcpListener, Stream = TcpStream>
@@ -71,6 +74,7 @@ fn source<
 // A relay of a database of this schema.
 fn relay<
     R: Eprint
+        + Clock
         + Threads
         + Wait
         + Net<Listener = TcpListener, Stream = TcpStream>

@@ -7,7 +7,7 @@ use crate::bell::{Hearing, SocketBell};
 use crate::client::Half;
 use crate::crowd::Crowd;
 use crate::ending::IsEnding;
-use log::{Log, info};
+use log::{Log, error, info};
 use mio::net::{TcpListener, TcpStream};
 use mio::{Events, Interest, Poll, Token, Waker};
 use ovs_hall::{Connections, Doors, Ready, Timeout, Woken};
@@ -230,7 +230,15 @@ impl<R: Log + Drop> SocketDoors<R> {
         self.hearing.add_session();
         let worker = self.worker;
         info!(self.rt; "worker {worker} session {key} opened by {peer}");
+        self.tell_closed();
         Some(halves)
+    }
+
+    // Tells where this was the last connection that any worker takes.
+    fn tell_closed(&self) {
+        if self.accepts_left == 0 && self.hearing.close() {
+            error!(self.rt; "no connection is taken any more: each worker has taken as many as it may");
+        }
     }
 
     // Has the session of this number wait for what comes by a connection.

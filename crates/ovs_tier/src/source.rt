@@ -6,20 +6,20 @@ ghost use Rattle.left_right.specs.Handles.{published, pending};
 ghost use Rattle.ovs_folder.specs.InStep.{IsInStep};
 ghost use Rattle.ovs_folder.specs.Ledger.{IsFresh, steps_in};
 
-use crate::closing::{Closing, closing_of_source};
+use crate::closing::Closing;
 use crate::error::TierError;
 use crate::places::{LIMITS, Places, WORKERS};
 use crate::stop::Stop;
 use crate::watching::Watching;
 use log::Log;
-use ovs_engine::{Counters, Unused, WorkerParts};
+use ovs_engine::{Counters, NodeThreads, Shared, Unused};
 use ovs_hall::Doors;
 use ovs_links::Step;
 use ovs_node::{
     Board, FeedEnd, FeedName, FeedQueue, Handle, Node, NodeError, NodeLink, NodeName, OpenNode,
     Opened, Parts, View,
 };
-use ovs_origin::{LockedSource, SharedSource, SourceCrew, SourceLine, SourceParts, run_source};
+use ovs_origin::{LockedSource, SourceLine, run_source};
 use ovs_recorded_source::{RecordedSource, SourceName, SourceStep, holding_desk_sends};
 use ovs_sockets::{Ending, IsEnding, SocketBell, SocketDoors};
 use ovs_source::{FreshRows, Source, SourceDesk};
@@ -27,8 +27,12 @@ use ovs_types::{RowId, Schema, TxnId};
 use std::alloc::Global;
 use std::marker::Brand;
 use std::net::{Net, SocketAddr, TcpListener, TcpStream};
+use std::sync::atomic::AtomicBool;
 use std::sync::{Arc, Mutex, Wait};
 use std::thread::Threads;
+
+// What a source says where its desk has no thread, while it serves readers.
+const UNFED: &str = "there is no thread to publish commits";
 
 /// Which source to run.
 #[derive(Clone, Copy, Debug, PartialEq, Eq)]
@@ -192,27 +196,27 @@ fn desk_of(alloc: Global, schema: &Schema, begins: Begins) -> Result<SourceDesk,
     Ok(desk)
 }
 
+// The threads of a source over sockets.
+type Crew<'a, K, Q, N, R> = NodeThreads<
+    K,
+    SourceLine<K, Q, LockedSource<'a, K, N, R>>,
+    SocketDoors<R>,
+>;
+
 // The desk's thread, and a worker at each of these doors.
 fn crew_of<'a, K: NodeName, Q: FeedName, N: SourceName, R: Wait + Log + Drop>(
     alloc: Global,
     end: FeedEnd<NodeLink<K>, Q>,
     views: Vec<View<K>>,
     doors: Vec<Unused<SocketDoors<R>>>,
-) -> Result<SourceCrew<K, Q, LockedSource<'a, K, N, R>, SocketDoors<R>>, TierError>
+) -> Result<Crew<'a, K, Q, N, R>, TierError>
     requires unsent { end.1 ≡ [] }
 {
-    let mut views = views;
-    let parts = SourceParts {
-        line: SourceLine::new(end),
-        view: views.pop().ok_or(TierError::Node(NodeError::BadCount))?,
-    };
-    let Ok(mut crew) = SourceCrew::new(alloc, parts) else {
-        return Err(TierError::NoMemory);
-    };
+    let (mut views, mut crew) = (views, NodeThreads::new(alloc));
+    let view = views.pop().ok_or(TierError::Node(NodeError::BadCount))?;
+    crew.add_feed(SourceLine::new(end), view)?;
     for (doors, view) in doors.into_iter().zip(views) {
-        if crew.add_worker(WorkerParts { view, doors }).is_err() {
-            return Err(TierError::NoMemory);
-        }
+        crew.add_worker(doors, view)?;
     }
     Ok(crew)
 }
@@ -250,6 +254,7 @@ fn run<
     requires desk { (opened.seen.book ≡ N.book) × (desk ≡ N.start) }
     requires schema { desk.source.schema ≡ K.schema }
     requires in_step { IsInStep (published parts.node.publisher.handle) (pending parts.node.publisher.handle) parts.node.publisher.front parts.node.publisher.kept (steps_in parts.node.intake.store) }
+    requires none { parts.node.intake.feed.returned ≡ [] }
     requires unsent { AllByRecursion (λ e. e.1 ≡ []) parts.ends.items }
 {
     let Parts {
@@ -259,7 +264,12 @@ fn run<
         views,
         board,
     } = parts;
-    let SourceNode { alloc, places, .. } = source;
+    let SourceNode {
+        alloc,
+        places,
+        ending,
+        ..
+    } = source;
     let Places { doors, bells, .. } = places;
     let (desk, _known) = RecordedSource::<N>::new(alloc, desk, opened);
     let stage = Stage {
@@ -271,7 +281,11 @@ fn run<
     let crew = crew_of(alloc, end, views, doors)?;
     let watching = Watching {
         rt: &*rt,
-        ending: None,
+        ending: &*ending,
+        ends_on_refusal: false,
+        ends_unfed: true,
+        unfed: UNFED,
+        has_given_up: AtomicBool::new(false),
     };
     staged(rt, alloc, &queue, &board, &stage, &watching, node, crew)
 }
@@ -300,23 +314,24 @@ fn staged<
     stage: &'a Stage<'x, K, N, R>,
     watching: &'a Watching<'x, 'e, R>,
     node: Node<K, Q, Handle<K, &'x R>>,
-    crew: SourceCrew<K, Q, LockedSource<'x, K, N, R>, SocketDoors<R>>,
+    crew: Crew<'x, K, Q, N, R>,
 ) -> Result<Closing, TierError>
     requires in_step { IsInStep (published node.publisher.handle) (pending node.publisher.handle) node.publisher.front node.publisher.kept (steps_in node.intake.store) }
+    requires none { node.intake.feed.returned ≡ [] }
 {
-    let shared = SharedSource {
+    let shared = Shared {
         rt: &*rt,
         queue: &*queue,
         board: &*board,
         desk: &stage.desk,
+        upward: &stage.desk,
         bells: &stage.bells,
         counters: &stage.counters,
         watcher: &*watching,
         limits: LIMITS,
     };
     holding_desk_sends();
-    match run_source(alloc, &shared, node, crew) {
-        Ok(ran) => closing_of_source(&*rt, alloc, &*queue, &*board, ran),
-        Err(_unrun) => Err(TierError::NoMemory),
-    }
+    let report = run_source(alloc, &shared, node, crew)?;
+    let has_given_up = watching.has_given_up();
+    Ok(Closing::of(rt, alloc, &report, has_given_up))
 }

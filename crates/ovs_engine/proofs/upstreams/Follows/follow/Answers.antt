@@ -15,4 +15,4 @@ again-requires g c =
     let lawful = subst (λ (r : _). AdmitsBytes g.C.Connector.admits c.args.asked (g.C.In.Read.remaining r)) (sym c.new-reader.ensures.device) c.requires.lawful in
     let was = ∥∥₁_map c.into_end.ensures.admitted (λ a. subst (λ (e : _). AllOf g.C.Connector.admits e.1) (sym c.new-sink.ensures.end) a) in
     let now = ∥∥₁_map was (λ a. admitted_more g.C.Connector.admits c.args.self.now.schema.now c.args.asked _ _ _ lawful c.follow_upstream-followed.ensures.sent a) in
-    record { admitted = ∥∥₁_map now (λ a. subst (λ (e : _). AllOf g.C.Connector.admits e.1) (sym c.into_parts-end.ensures.end) a) }
+    record { admitted = ∥∥₁_map now (λ a. subst (λ (e : _). AllOf g.C.Connector.admits e.1) (sym c.into_end-2.ensures.end) a) }

@@ -8,4 +8,4 @@ pub again-requires : goal.again-requires
 again-requires g c =
     let was = ∥∥₁_map c.into_end.ensures.admitted (λ a. subst (λ (e : _). AllOf g.L.OriginDesk.gives e.1) (sym c.new-sink.ensures.end) a) in
     let now = ∥∥₁_map was (λ a. sent_given g.L.OriginDesk.gives _ _ _ _ c.follow_source-followed.ensures.sent a) in
-    record { admitted = ∥∥₁_map now (λ a. subst (λ (e : _). AllOf g.L.OriginDesk.gives e.1) (sym c.into_parts-end.ensures.end) a) }
+    record { admitted = ∥∥₁_map now (λ a. subst (λ (e : _). AllOf g.L.OriginDesk.gives e.1) (sym c.into_end-2.ensures.end) a) }

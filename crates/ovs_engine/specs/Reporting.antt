@@ -1,0 +1,32 @@
+-- What comes of a node that has run.
+use Rattle.std.specs.Prelude.{◌≡◌, ◌≢◌, ℕ, List}
+use Rattle.std.specs.List.{AllByRecursion}
+use Rattle.ovs_folder.specs.Ledger.{WasSent}
+use Rattle.ovs_links.specs.Epochs.{EpochHistory, IsEpochChain, IsEpochHistory, epochs_of, links_in}
+use Rattle.ovs_links.specs.Pruning.{IsOld}
+use Rattle.ovs_links.specs.Sets.{AllOf, Among, Contradict, Holds}
+use Rattle.ovs_links.specs.Settling.{chain_of, settled_of}
+use Rattle.ovs_links.specs.Store.{Stored, start_in, tables_of}
+use Rattle.ovs_links.specs.declared.answer.Settled.{Settled}
+use Rattle.ovs_links.specs.declared.link.Link.{Link}
+
+-- each end of the feed has sent such links alone
+abbrev pub AreSent : (Link → Type 0) → List (List Link) → Type 0
+AreSent sends sent = AllByRecursion (AllOf sends) sent
+
+-- The ends of the feed have sent such links alone. The longest chain is folded. Each held link was sent; and where none was refused each
+-- that was sent is held, but for those of older epochs where any was dropped. None was refused as a contradiction where no two that were
+-- sent contradict each other. Where all that were sent are links of one history, none was, and what is folded is the latest epoch of it of
+-- which the first link is held, as far as all of it is held, with the rows there.
+pub record IsReport (sends : Link → Type 0) (store : Stored) (settled : Settled) (forks short dropped : ℕ) : Type 0 where
+  pub sent : List (List Link)
+  pub admitted : ∥ AreSent sends sent ∥₁
+  pub chain : store.folded ≡ chain_of store
+  pub settled_as : settled ≡ settled_of store
+  pub held : (l : Link) → Holds store.links l → WasSent sent l
+  pub whole : forks ≡ 0 → short ≡ 0 → (l : Link) → WasSent sent l
+      → ¬ ((dropped ≢ 0) × IsOld (WasSent sent) (start_in store) l) → Holds store.links l
+  pub agree : ((l m : Link) → WasSent sent l → WasSent sent m → ¬ (Contradict l m)) → forks ≡ 0
+  pub history : (h : EpochHistory) → IsEpochHistory (tables_of store) h
+      → ((l : Link) → WasSent sent l → Among (links_in (tables_of store) (epochs_of h)) l)
+      → (forks ≡ 0) × IsEpochChain (tables_of store) (Holds store.links) (epochs_of h) store.folded
