@@ -6,7 +6,7 @@ ghost use Rattle.ovs_feed.specs.Feed.{IsDrained};
 ghost use Rattle.ovs_folder.specs.InStep.{IsAtRest, IsInStep};
 ghost use Rattle.ovs_folder.specs.Ledger.{steps_in};
 ghost use Rattle.ovs_links.specs.Absorbing.{last_chain};
-ghost use Rattle.ovs_engine.specs.Reporting.{AreSent, IsReport};
+ghost use Rattle.ovs_engine.specs.Reporting.{AreSent, IsReport, KeepsEnds};
 
 use crate::not_run::NotRun;
 use crate::party::Party;
@@ -29,6 +29,7 @@ fn take_back<K: NodeName, Q: FeedName, F: Sender<K, Q>, V: Drop, H: Wait + Drop>
     requires sent { ∥ AreSent F.sends node.old.intake.feed.returned ∥₁ }
     ensures in_step { IsInStep (published node.new.publisher.handle) (pending node.new.publisher.handle) node.new.publisher.front node.new.publisher.kept (steps_in node.new.intake.store) }
     ensures sent { OnOk result (∥ AreSent F.sends node.new.intake.feed.returned ∥₁) }
+    ensures ends { node.new.intake.feed.ends ≡ node.old.intake.feed.ends }
 {
     let Party::Feed(sender) = party else {
         return Ok(());
@@ -49,6 +50,7 @@ fn take_all_back<K: NodeName, Q: FeedName, F: Sender<K, Q> + Drop, D: Doors + Dr
     requires sent { ∥ AreSent F.sends node.old.intake.feed.returned ∥₁ }
     ensures in_step { IsInStep (published node.new.publisher.handle) (pending node.new.publisher.handle) node.new.publisher.front node.new.publisher.kept (steps_in node.new.intake.store) }
     ensures sent { OnOk result (∥ AreSent F.sends node.new.intake.feed.returned ∥₁) }
+    ensures ends { node.new.intake.feed.ends ≡ node.old.intake.feed.ends }
 {
     for back in backs {
         let (party, _handle, _known, _tally) = back;
@@ -67,7 +69,7 @@ fn fold_rest<K: NodeName, Q: FeedName, H: Wait + Drop, R: Wait>(
     requires in_step { IsInStep (published node.old.publisher.handle) (pending node.old.publisher.handle) node.old.publisher.front node.old.publisher.kept (steps_in node.old.intake.store) }
     ensures in_step { IsInStep (published node.new.publisher.handle) (pending node.new.publisher.handle) node.new.publisher.front node.new.publisher.kept (steps_in node.new.intake.store) }
     ensures done { IsAtRest node.new.intake node.new.settled (published node.new.publisher.handle) × IsDrained node.new.intake.feed }
-    ensures returned { node.new.intake.feed.returned ≡ node.old.intake.feed.returned }
+    ensures ends { KeepsEnds node.old.intake.feed node.new.intake.feed }
 {
     for _ in rt.forever() {
         match node.fold_next(rt, queue, board) {
@@ -99,7 +101,8 @@ pub(crate) fn report_of<
 ) -> Result<Report<K, Handle<K, H>>, NotRun>
     requires in_step { IsInStep (published node.publisher.handle) (pending node.publisher.handle) node.publisher.front node.publisher.kept (steps_in node.intake.store) }
     requires none { node.intake.feed.returned ≡ [] }
-    ensures report { IfOk result (λ r. IsReport F.sends r.store r.settled r.forks r.short r.dropped) }
+    ensures report { IfOk result (λ r. IsReport F.sends node.intake.feed.ends r.store r.settled r.forks r.short r.dropped) }
+    ensures schema { IfOk result (λ r. r.store.schema ≡ K.schema) }
     // A view that learns what is told answers from all of the chain, and reads on while the publisher lives.
     ensures told { IfOk result (λ r. (last_chain r.told ≡ steps_in r.store) × (r.told ≡ published r.publisher.handle)) }
 {

@@ -5,6 +5,7 @@ ghost use Rattle.left_right.specs.Handles.{published, pending};
 ghost use Rattle.ovs_feed.specs.Feed.{IsDrained};
 ghost use Rattle.ovs_folder.specs.InStep.{IsAtRest, IsInStep};
 ghost use Rattle.ovs_folder.specs.Ledger.{steps_in};
+ghost use Rattle.ovs_engine.specs.Reporting.{KeepsEnds};
 
 use crate::counters::Counters;
 use crate::party::beside_with_views;
@@ -70,7 +71,7 @@ impl<'a, K: NodeName, Q: FeedName, B: Bell, O: Watcher, R: Wait> Folding<'a, K, 
         requires in_step { IsInStep (published node.old.publisher.handle) (pending node.old.publisher.handle) node.old.publisher.front node.old.publisher.kept (steps_in node.old.intake.store) }
         ensures in_step { IsInStep (published node.new.publisher.handle) (pending node.new.publisher.handle) node.new.publisher.front node.new.publisher.kept (steps_in node.new.intake.store) }
         ensures done { IsAtRest node.new.intake node.new.settled (published node.new.publisher.handle) × IsDrained node.new.intake.feed }
-        ensures returned { node.new.intake.feed.returned ≡ node.old.intake.feed.returned }
+        ensures ends { KeepsEnds node.old.intake.feed node.new.intake.feed }
     {
         let mut bells = Bells {
             bells: self.bells,
@@ -102,7 +103,7 @@ impl<'a, K: NodeName, Q: FeedName, B: Bell, O: Watcher, R: Wait> Folding<'a, K, 
         ensures in_step { IsInStep (published node.new.publisher.handle) (pending node.new.publisher.handle) node.new.publisher.front node.new.publisher.kept (steps_in node.new.intake.store) }
         ensures rest { OnOk result (IsAtRest node.new.intake node.new.settled (published node.new.publisher.handle)) }
         ensures drained { result ≡ Ok false → IsDrained node.new.intake.feed }
-        ensures returned { node.new.intake.feed.returned ≡ node.old.intake.feed.returned }
+        ensures ends { KeepsEnds node.old.intake.feed node.new.intake.feed }
     {
         let queued = self.counters.folded().queued();
         let folded = node.fold_next(self.rt, self.queue, self.board);
@@ -184,7 +185,7 @@ pub(crate) fn fold_beside<
     ensures in_step { IfOk result (λ r. IsInStep (published r.1.publisher.handle) (pending r.1.publisher.handle) r.1.publisher.front r.1.publisher.kept (steps_in r.1.intake.store)) }
     ensures done { IfOk result (λ r. IsAtRest r.1.intake r.1.settled (published r.1.publisher.handle) × IsDrained r.1.intake.feed) }
     ensures all { IfOk result (λ r. vec_len r.0 ≡ vec_len jobs) }
-    ensures returned { IfOk result (λ r. r.1.intake.feed.returned ≡ node.intake.feed.returned) }
+    ensures ends { IfOk result (λ r. KeepsEnds node.intake.feed r.1.intake.feed) }
 {
     folding
         .counters
@@ -194,7 +195,7 @@ pub(crate) fn fold_beside<
         requires { IsInStep (published node.publisher.handle) (pending node.publisher.handle) node.publisher.front node.publisher.kept (steps_in node.intake.store) }
         ensures in_step { IsInStep (published result.publisher.handle) (pending result.publisher.handle) result.publisher.front result.publisher.kept (steps_in result.intake.store) }
         ensures done { IsAtRest result.intake result.settled (published result.publisher.handle) × IsDrained result.intake.feed }
-        ensures returned { result.intake.feed.returned ≡ node.intake.feed.returned }
+        ensures ends { KeepsEnds node.intake.feed result.intake.feed }
     {
         let mut node = node;
         folding.fold_all(&mut node);

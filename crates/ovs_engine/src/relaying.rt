@@ -5,6 +5,9 @@ ghost use Rattle.left_right.specs.Handles.{published, pending};
 ghost use Rattle.ovs_folder.specs.InStep.{IsInStep};
 ghost use Rattle.ovs_folder.specs.Ledger.{steps_in};
 ghost use Rattle.ovs_links.specs.Absorbing.{last_chain};
+ghost use Rattle.ovs_links.specs.Epochs.{EpochHistory, IsEpochChain, IsEpochHistory, epochs_of, links_in};
+ghost use Rattle.ovs_links.specs.Sets.{AllOf, Among, Holds};
+ghost use Rattle.ovs_links.specs.declared.link.Link.{Link};
 ghost use Rattle.ovs_engine.specs.Reporting.{IsReport};
 
 use crate::connector::Connector;
@@ -56,7 +59,12 @@ pub fn run_relay<
     requires schema { schema.now ≡ K.schema }
     requires in_step { IsInStep (published node.publisher.handle) (pending node.publisher.handle) node.publisher.front node.publisher.kept (steps_in node.intake.store) }
     requires none { node.intake.feed.returned ≡ [] }
-    ensures report { IfOk result (λ r. IsReport C.admits r.store r.settled r.forks r.short r.dropped) }
+    ensures report { IfOk result (λ r. IsReport (AllOf (C.admits K.schema)) node.intake.feed.ends r.store r.settled r.forks r.short r.dropped) }
+    ensures schema { IfOk result (λ r. r.store.schema ≡ K.schema) }
+    // Where the connections admit links of one history alone, none is refused as a contradiction, and the node has the database of the
+    // latest epoch of which it has the first link, as far as it has all of it.
+    ensures headline { (h : EpochHistory) → IsEpochHistory K.schema.description.tables h → ((l : Link) → C.admits K.schema l → Among (links_in K.schema.description.tables (epochs_of h)) l)
+        → IfOk result (λ r. ∥ (r.forks ≡ 0) × IsEpochChain K.schema.description.tables (Holds r.store.links) (epochs_of h) r.store.folded ∥₁) }
     ensures told { IfOk result (λ r. (last_chain r.told ≡ steps_in r.store) × (r.told ≡ published r.publisher.handle)) }
 {
     let follows = Follows {

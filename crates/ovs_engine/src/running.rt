@@ -88,7 +88,8 @@ pub fn run_node<
 ) -> Result<Report<K, Handle<K, H>>, NotRun>
     requires in_step { IsInStep (published node.publisher.handle) (pending node.publisher.handle) node.publisher.front node.publisher.kept (steps_in node.intake.store) }
     requires none { node.intake.feed.returned ≡ [] }
-    ensures report { IfOk result (λ r. IsReport F.sends r.store r.settled r.forks r.short r.dropped) }
+    ensures report { IfOk result (λ r. IsReport F.sends node.intake.feed.ends r.store r.settled r.forks r.short r.dropped) }
+    ensures schema { IfOk result (λ r. r.store.schema ≡ K.schema) }
     // A view that learns what is told answers from all of the chain, and reads on while the publisher lives.
     ensures told { IfOk result (λ r. (last_chain r.told ≡ steps_in r.store) × (r.told ≡ published r.publisher.handle)) }
 {

@@ -162,7 +162,7 @@ impl Connector for Upstream {
 
     type Out = Unheard;
 
-    ghost admits = { λ _. Unit {0} };
+    ghost admits = { λ _ _. Unit {0} };
 
     fn next(&mut self) -> bool {
         match self.sessions.front() {

@@ -5,7 +5,7 @@ ghost use Rattle.left_right.specs.Handles.{published, pending};
 ghost use Rattle.ovs_folder.specs.InStep.{IsInStep};
 ghost use Rattle.ovs_folder.specs.Ledger.{steps_in};
 ghost use Rattle.ovs_links.specs.Absorbing.{last_chain};
-ghost use Rattle.ovs_engine.specs.Reporting.{IsReport};
+ghost use Rattle.ovs_origin.specs.Reporting.{IsOwnReport};
 
 use crate::origin_desk::OriginDesk;
 use crate::sending::{SourceFollowed, follow_source};
@@ -16,7 +16,6 @@ use ovs_engine::{
 use ovs_feed::{FeedName, FeedQueue};
 use ovs_folder::{Node, NodeLink, Report};
 use ovs_hall::{Bell, Doors, Tally};
-use ovs_session::Ended;
 use ovs_views::{Handle, NodeName, View};
 use std::alloc::Global;
 use std::sync::Wait;
@@ -42,31 +41,31 @@ impl<'a, K: NodeName, Q: FeedName, L: OriginDesk<K>, R: Wait> Feeds<
         _view: &mut View<K>,
         tally: &mut Tally,
     ) -> SourceSent<K, Q, L> {
-        let sink = FeedSink::new(self.rt, self.queue, self.counters.folded(), line.into_end());
+        let (end, taken) = line.into_parts();
+        let sink = FeedSink::new(self.rt, self.queue, self.counters.folded(), end);
         let followed = follow_source::<K, L, FeedSink<'a, K, Q, R>, R>(
             self.rt,
             self.desk,
             self.counters.running(),
+            taken,
             sink,
         );
-        let SourceFollowed { sink, counts } = followed;
+        let SourceFollowed {
+            sink,
+            taken: _,
+            counts,
+        } = followed;
         tally.add(counts);
-        SourceSent {
-            line: SourceLine::again(sink.into_end()),
-            ended: Ended::Closed,
-        }
+        SourceSent::new(sink.into_end())
     }
 
     fn refuse(&self, line: SourceLine<K, Q, L>) -> SourceSent<K, Q, L> {
-        SourceSent {
-            line,
-            ended: Ended::NoMemory,
-        }
+        line.into_refused()
     }
 }
 
-/// Runs a source (`run_node`): the links of its desk are sent to the node's feed by a thread of their own. Each link that it holds is
-/// one that its desk may give.
+/// Runs a source (`run_node`): the links of its desk are sent to the node's feed by a thread of their own. What is sent is all that was
+/// taken out of the desk, each link once and in order: the first links of a history, which the node is then a node of.
 ///
 /// # Errors
 /// As `run_node`; `NoMemory` also where the thread couldn't be started that sends the desk's links.
@@ -74,7 +73,7 @@ pub fn run_source<
     'a,
     K: NodeName + Send + Sync,
     Q: FeedName + Send + Sync,
-    L: KnownDesk<Known: Send> + OriginDesk<K> + Send + Sync,
+    L: KnownDesk<Known: Send> + OriginDesk<K, Taken: Send> + Send + Sync,
     D: Doors<In: Send, Out: Send> + Drop + Send,
     B: Bell + Sync,
     O: Watcher,
@@ -88,7 +87,8 @@ pub fn run_source<
 ) -> Result<Report<K, Handle<K, H>>, NotRun>
     requires in_step { IsInStep (published node.publisher.handle) (pending node.publisher.handle) node.publisher.front node.publisher.kept (steps_in node.intake.store) }
     requires none { node.intake.feed.returned ≡ [] }
-    ensures report { IfOk result (λ r. IsReport L.gives r.store r.settled r.forks r.short r.dropped) }
+    requires one { node.intake.feed.ends ≡ 1 }
+    ensures report { IfOk result (λ r. ∥ IsOwnReport L.gives r.store r.settled r.forks r.short r.dropped ∥₁) }
     ensures told { IfOk result (λ r. (last_chain r.told ≡ steps_in r.store) × (r.told ≡ published r.publisher.handle)) }
 {
     let sends = Sends {

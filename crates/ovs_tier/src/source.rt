@@ -5,6 +5,7 @@ ghost use Rattle.std.specs.List.{AllByRecursion};
 ghost use Rattle.left_right.specs.Handles.{published, pending};
 ghost use Rattle.ovs_folder.specs.InStep.{IsInStep};
 ghost use Rattle.ovs_folder.specs.Ledger.{IsFresh, steps_in};
+ghost use Rattle.ovs_source.specs.SourceDesk.{AreBehind, KeepsTaken};
 
 use crate::closing::Closing;
 use crate::error::TierError;
@@ -20,7 +21,7 @@ use ovs_node::{
     Opened, Parts, View,
 };
 use ovs_origin::{LockedSource, SourceLine, run_source};
-use ovs_recorded_source::{RecordedSource, SourceName, SourceStep, holding_desk_sends};
+use ovs_recorded_source::{RecordedSource, SourceName, SourceStep, TakenLinks, holding_desk_sends};
 use ovs_sockets::{Ending, IsEnding, SocketBell, SocketDoors};
 use ovs_source::{FreshRows, Source, SourceDesk};
 use ovs_types::{RowId, Schema, TxnId};
@@ -165,7 +166,7 @@ fn named<
 ) -> Result<Closing, TierError>
     requires schema { schema.now ≡ K.schema }
     requires table { node.feed.items.table.shared.table_id ≡ Q.table }
-    requires upstreams { node.upstreams ≤ 4 }
+    requires one { node.upstreams ≡ 1 }
     requires store { IsFresh K.schema node.store }
     requires publisher { IsInStep (published node.publisher.handle) (pending node.publisher.handle) node.publisher.front node.publisher.kept [] }
 {
@@ -178,6 +179,7 @@ fn named<
 // Has the desk begin a new epoch after so many links, where that is wanted; none where it is after no link.
 fn renew_every(desk: &mut SourceDesk, every: Option<u32>)
     ensures schema { desk.new.source.schema ≡ desk.old.source.schema }
+    ensures taken { KeepsTaken desk.old desk.new }
 {
     match every {
         Some(every) if every > 0 => desk.trim_every(u64::from(every)),
@@ -188,6 +190,7 @@ fn renew_every(desk: &mut SourceDesk, every: Option<u32>)
 // A desk of a source without a commit.
 fn desk_of(alloc: Global, schema: &Schema, begins: Begins) -> Result<SourceDesk, TierError>
     ensures schema { IfOk result (λ d. d.source.schema ≡ schema.now) }
+    ensures none_taken { IfOk result (AreBehind []) }
 {
     let source = Source::new(alloc, schema)?;
     let fresh = FreshRows::new(begins.first_row);
@@ -207,14 +210,16 @@ type Crew<'a, K, Q, N, R> = NodeThreads<
 fn crew_of<'a, K: NodeName, Q: FeedName, N: SourceName, R: Wait + Log + Drop>(
     alloc: Global,
     end: FeedEnd<NodeLink<K>, Q>,
+    taken: TakenLinks<N>,
     views: Vec<View<K>>,
     doors: Vec<Unused<SocketDoors<R>>>,
 ) -> Result<Crew<'a, K, Q, N, R>, TierError>
     requires unsent { end.1 ≡ [] }
+    requires untaken { taken ≡ [] }
 {
     let (mut views, mut crew) = (views, NodeThreads::new(alloc));
     let view = views.pop().ok_or(TierError::Node(NodeError::BadCount))?;
-    crew.add_feed(SourceLine::new(end), view)?;
+    crew.add_feed(SourceLine::new(end, taken), view)?;
     for (doors, view) in doors.into_iter().zip(views) {
         crew.add_worker(doors, view)?;
     }
@@ -252,9 +257,11 @@ fn run<
     opened: Opened<SourceStep>,
 ) -> Result<Closing, TierError>
     requires desk { (opened.seen.book ≡ N.book) × (desk ≡ N.start) }
+    requires none_taken { AreBehind [] N.start }
     requires schema { desk.source.schema ≡ K.schema }
     requires in_step { IsInStep (published parts.node.publisher.handle) (pending parts.node.publisher.handle) parts.node.publisher.front parts.node.publisher.kept (steps_in parts.node.intake.store) }
     requires none { parts.node.intake.feed.returned ≡ [] }
+    requires one { parts.node.intake.feed.ends ≡ 1 }
     requires unsent { AllByRecursion (λ e. e.1 ≡ []) parts.ends.items }
 {
     let Parts {
@@ -271,14 +278,14 @@ fn run<
         ..
     } = source;
     let Places { doors, bells, .. } = places;
-    let (desk, _known) = RecordedSource::<N>::new(alloc, desk, opened);
+    let (desk, known) = RecordedSource::<N>::new(alloc, desk, opened);
     let stage = Stage {
         desk: LockedSource::new(rt, alloc, desk),
         bells,
         counters: Counters::new(),
     };
     let end = ends.pop().ok_or(TierError::Node(NodeError::BadCount))?;
-    let crew = crew_of(alloc, end, views, doors)?;
+    let crew = crew_of(alloc, end, TakenLinks::new(known), views, doors)?;
     let watching = Watching {
         rt: &*rt,
         ending: &*ending,
@@ -318,6 +325,7 @@ fn staged<
 ) -> Result<Closing, TierError>
     requires in_step { IsInStep (published node.publisher.handle) (pending node.publisher.handle) node.publisher.front node.publisher.kept (steps_in node.intake.store) }
     requires none { node.intake.feed.returned ≡ [] }
+    requires one { node.intake.feed.ends ≡ 1 }
 {
     let shared = Shared {
         rt: &*rt,

@@ -20,7 +20,7 @@ impl<R: Net + Log + Drop> Connector for UpstreamSockets<R> {
 
     type Out = ToUpstream;
 
-    ghost admits = { λ _. Unit {0} };
+    ghost admits = { λ _ _. Unit {0} };
 
     fn next(&mut self) -> bool {
         self.upward.next()
