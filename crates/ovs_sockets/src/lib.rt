@@ -7,6 +7,7 @@ mod client;
 mod crowd;
 mod doors;
 mod ending;
+mod exchange;
 mod listening;
 mod pause;
 mod upward;

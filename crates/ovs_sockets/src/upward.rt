@@ -76,9 +76,6 @@ impl<R: Net + Log + Drop> Upward<R> {
         let Some(mut channel) = self.channel.try_lock() else {
             return false;
         };
-        if channel.has_heard() {
-            self.pause = Pause::new();
-        }
         channel.close();
         if self.tries_left == 0 || channel.is_ending() {
             return false;
@@ -127,12 +124,26 @@ impl<R: Net + Log + Drop> Upward<R> {
         }
     }
 
-    /// Tells how a session over the connection ended.
+    /// Tells how a session over the connection ended. Where the upstream was followed the pauses begin anew.
     pub fn lost(&mut self, ended: Ended)
         ensures same { self.new.tries_left ≡ self.old.tries_left }
+        ensures grown { ended ≡ Ended.BadInput → self.new.pause ≡ self.old.pause }
     {
+        if self.was_followed(ended) {
+            self.pause = Pause::new();
+        }
         let address = self.address;
         info!(self.rt; "upstream {address} lost: {ended}");
+    }
+
+    // Whether the upstream was followed in the session that ended so.
+    fn was_followed(&self, ended: Ended) -> bool
+        ensures taken { result ≡ true → ended ≡ Ended.BadInput → ⊥ }
+    {
+        match self.channel.try_lock() {
+            Some(channel) => channel.exchange().was_followed(ended),
+            None => false,
+        }
     }
 }
 
