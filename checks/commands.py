@@ -1,10 +1,13 @@
 """The command line: help, version, faults of its words, files, schemas and ports, in the order in which they are found."""
 import json
 import os
+import re
+import shutil
 import socket
+import subprocess
 
 from data import FIRST_ID, FIRST_ROW, NET
-from harness import START_SECONDS, check, equal, holds
+from harness import START_SECONDS, Skip, check, equal, holds
 from processes import free_port
 
 LIMIT = 10 * START_SECONDS
@@ -51,8 +54,21 @@ def help_and_version(lab):
         _, out, _ = lab.run(command, "--help")
         for option in ("--schema", "--listen", *options):
             holds(option in out, f"the help of {command} doesn't name {option}")
-    status, out, err = lab.run("--version")
-    holds(status == 0 and err == "" and out.startswith("ovs_relay") and out.count("\n") == 1, f"--version: {status}, {out!r}, {err!r}")
+    for words in (["--version"], *([command, "--version"] for command in COMMANDS)):
+        status, out, err = lab.run(*words)
+        holds(status == 0 and err == "" and out.startswith("ovs_relay") and out.count("\n") == 1, f"{words!r}: {status}, {out!r}, {err!r}")
+
+
+@check(LIMIT)
+def the_version_names_the_toolchain(lab):
+    """The version of the program and of each command tells of the toolchain what `rt version` does."""
+    rt = shutil.which("rt")
+    if rt is None:
+        raise Skip("rt isn't there")
+    toolchain = subprocess.run([rt, "version"], stdout=subprocess.PIPE, check=True).stdout.decode().strip()
+    for words in (["--version"], *([command, "--version"] for command in COMMANDS)):
+        _, out, _ = lab.run(*words)
+        holds(re.fullmatch(rf"\S+ \d+\.\d+\.\d+ \({re.escape(toolchain)}\)\n", out), f"{words!r}: {out!r} doesn't tell of {toolchain!r}")
 
 
 @check(LIMIT)

@@ -7,6 +7,9 @@ ghost use Rattle.ovs_command.specs.CommandLine.{program, fold_app, world_app, so
 use clap::{Arg, ArgAction, Command};
 use std::alloc::{AllocError, Global};
 
+// The program's version, and the toolchain that it is proved and built with, as `rt version` tells it.
+const VERSION: &str = "1.0.0 (rattle-kit-13b logic dac8208d650f15bf)";
+
 const MERGE_HELP: &str = "A file of links for a second store, which is merged into the first";
 
 const SCHEMA_HELP: &str = "A file whose first line is the schema";
@@ -156,7 +159,8 @@ pub(crate) fn commands<'a>(alloc: Global) -> Result<Command<'a>, AllocError>
     let relay = relay_command(alloc)?;
     Command::new(alloc, "ovs_relay")
         .about("A relay tier for OVSDB")
-        .version("1.0.0")
+        .version(VERSION)
+        .propagate_version(true)
         .subcommand_required(true)
         .disable_help_subcommand(true)
         .bin_name("ovs_relay")?
