@@ -115,6 +115,15 @@ def addresses_ids_and_numbers(lab):
 
 
 @check(LIMIT)
+def its_own_upstream(lab):
+    """Status 2 and one line that names the address where a relay is to follow itself, however the address is spelled."""
+    port = free_port()
+    for listen, upstream in ((f"127.0.0.1:{port}", f"127.0.0.1:{port}"), (f"[::1]:{port}", f"[0:0:0:0:0:0:0:1]:{port}")):
+        for upstreams in ([upstream], [f"127.0.0.2:{port}", upstream]):
+            fails(lab, relay_words(lab, *upstreams, listen=listen), 2, listen, "own address")
+
+
+@check(LIMIT)
 def files_that_cannot_be_read(lab):
     """One line that names the file for a merged file, and with the cause for a schema file that isn't there or is a folder."""
     missing, folder = lab.path("missing"), lab.path("folder")

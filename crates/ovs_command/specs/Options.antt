@@ -1,5 +1,5 @@
 -- The options of `source` and `relay`, and what the words behind them give.
-use Rattle.std.specs.Prelude.{◌≡◌, ℕ, ◌≤◌, List, [], length, Option, Some, None, Bool, true, false, codes, bytes_eq, string_bytes}
+use Rattle.std.specs.Prelude.{◌≡◌, ◌≢◌, ℕ, ◌≤◌, List, All, [], length, Option, Some, None, Bool, true, false, codes, bytes_eq, string_bytes}
 use Rattle.std.specs.List.{AllZip}
 use Rattle.std.specs.Option.{option_map_or, unwrap_or}
 use Rattle.std.specs.declared.net.socket_addr.SocketAddr.{SocketAddr}
@@ -82,6 +82,7 @@ pub record GiveRelay (rows : List Row) (o : RelayOptions) : Type 0 where
   pub schema : word_of Schema rows ≡ Some (string_bytes o.schema)
   pub listen : Gives SpellsAddress Listen rows o.listen
   pub upstreams : AreUpstreams rows o.upstreams.items
+  pub others : All (λ upstream. upstream ≢ o.listen) o.upstreams.items
   pub accepts : Counts Accepts rows o.accepts
   pub tries : Counts Tries rows o.tries
   pub verbose : o.verbose ≡ has_flag (codes "verbose") rows

@@ -9,7 +9,7 @@ ghost use Rattle.ovs_command.specs.Faults.{IsFaultOf, IsFaultOfSource, IsFaultOf
 
 use crate::command_fault::CommandFault;
 use crate::command_option::CommandOption;
-use crate::upstreams::upstreams_of;
+use crate::upstreams::other_upstreams_of;
 use crate::values::{read_address, read_commit, read_count, read_row};
 use clap::ArgMatches;
 use ovs_data::{RowId, TxnId};
@@ -42,7 +42,8 @@ pub struct RelayOptions {
     pub schema: String,
     /// Where connections are taken, a loopback address.
     pub listen: SocketAddr,
-    /// One to four upstreams at loopback addresses, in the order in which they were given.
+    /// One to four upstreams at loopback addresses, none of which is where connections are taken, in the order in which they were
+    /// given.
     pub upstreams: Vec<SocketAddr>,
     /// How many connections each thread of readers takes, 1 to 1,000,000.
     pub accepts: u32,
@@ -193,10 +194,12 @@ pub(crate) fn relay_options(
     ensures value { IfOk result (GiveRelay (rows_of (found_of found.now))) }
     ensures fault { IfErr result (IsFaultOfRelay (rows_of (found_of found.now))) }
 {
+    let schema = schema_of(alloc, found)?;
+    let listen = listen_of(alloc, found)?;
     Ok(RelayOptions {
-        schema: schema_of(alloc, found)?,
-        listen: listen_of(alloc, found)?,
-        upstreams: upstreams_of(alloc, found)?,
+        schema,
+        listen,
+        upstreams: other_upstreams_of(alloc, found, listen)?,
         accepts: count_of(alloc, found, CommandOption::Accepts)?,
         tries: count_of(alloc, found, CommandOption::Tries)?,
         verbose: has_flag(found, "verbose"),
