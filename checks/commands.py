@@ -54,6 +54,9 @@ def help_and_version(lab):
         _, out, _ = lab.run(command, "--help")
         for option in ("--schema", "--listen", *options):
             holds(option in out, f"the help of {command} doesn't name {option}")
+    for command, bounds in (("source", 1), ("relay", 2)):
+        _, out, _ = lab.run(command, "--help")
+        equal(out.count("any number where this isn't given"), bounds, f"the bounds that {command} doesn't have of itself")
     for words in (["--version"], *([command, "--version"] for command in COMMANDS)):
         status, out, err = lab.run(*words)
         holds(status == 0 and err == "" and out.startswith("ovs_relay") and out.count("\n") == 1, f"{words!r}: {status}, {out!r}, {err!r}")

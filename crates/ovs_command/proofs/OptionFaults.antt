@@ -11,7 +11,7 @@ use Rattle.ovs_command.specs.declared.command_option.CommandOption.TheVariants.{
 use Rattle.ovs_command.specs.declared.command_fault.CommandFault.{CommandFault}
 use Rattle.ovs_command.specs.declared.command_fault.CommandFault.TheVariants.{Usage, Missing, BadValue, OneTooMany, OwnAddress, NoMemory}
 use Rattle.ovs_command.specs.Values.{SpellsAddress, SpellsCommit, SpellsRow, SpellsCount, SpellsNone}
-use Rattle.ovs_command.specs.Options.{is_count, word_of, words_of, Gives, SpellsOrMost, SpellsIfGiven}
+use Rattle.ovs_command.specs.Options.{is_count, word_of, words_of, Gives, SpellsIfGiven}
 use Rattle.ovs_command.specs.CommandLine.{Found, HasCommand}
 use Rattle.ovs_command.specs.Faults.{is_of_source, IsReadable, IsNoValue, StandsBehind, IsFaultOf, IsFaultOfSource, IsFaultOfRelay, IsFoundReadable, IsNoValueOf, HasOptionFault}
 
@@ -44,11 +44,6 @@ given_alone : {A : Type 0} (Spells : Text → A → Type 0) (option : CommandOpt
     → (word : Text) → word_of option rows ≡ Some word → ¬ (SpellsNone Spells word)
 given_alone Spells option rows value gives word is none =
     none value (subst (λ w. Spells w value) (same_word (word_of option rows) gives.0 word gives.1 is) gives.2)
-
-counted_alone : (o : Option Text) (n : ℕ) → SpellsOrMost o n → (word : Text) → o ≡ Some word → ¬ (SpellsNone SpellsCount word)
-counted_alone None n counts word is none = let no : None ≡ Some word = is in cc
-counted_alone (Some w) n counts word is none =
-    let same : w ≡ word = (let some : Some w ≡ Some word = is in cc) in none n (subst (λ v. SpellsCount v n) same counts)
 
 counted_if_given : (o : Option Text) (n : Option ℕ) → SpellsIfGiven o n → (word : Text) → o ≡ Some word → ¬ (SpellsNone SpellsCount word)
 counted_if_given None n counts word is none = let no : None ≡ Some word = is in cc
@@ -105,8 +100,8 @@ is_value Upstream rows readable word behind none = each_spells SpellsAddress (wo
 is_value FirstId rows readable word behind none = given_alone SpellsCommit FirstId rows readable.0 readable.1 word behind none
 is_value FirstRow rows readable word behind none = given_alone SpellsRow FirstRow rows readable.0 readable.1 word behind none
 is_value TrimEvery rows readable word behind none = counted_if_given (word_of TrimEvery rows) readable.0 readable.1 word behind none
-is_value Accepts rows readable word behind none = counted_alone (word_of Accepts rows) readable.0 readable.1 word behind none
-is_value Tries rows readable word behind none = counted_alone (word_of Tries rows) readable.0 readable.1 word behind none
+is_value Accepts rows readable word behind none = counted_if_given (word_of Accepts rows) readable.0 readable.1 word behind none
+is_value Tries rows readable word behind none = counted_if_given (word_of Tries rows) readable.0 readable.1 word behind none
 
 -- and no upstream is the fifth
 no_fifth : (rows : List Row) → IsReadable Upstream rows → (word : Text) → slice_get (words_of Upstream rows) 4 ≢ Some word

@@ -11,7 +11,7 @@ use Rattle.ovs_command.specs.declared.command_fault.CommandFault.TheVariants.{Us
 use Rattle.ovs_command.specs.declared.command_line.Task.{Task}
 use Rattle.ovs_command.specs.declared.command_line.Task.TheVariants.{Help, Version}
 use Rattle.ovs_command.specs.Values.{SpellsAddress, SpellsCommit, SpellsRow, SpellsCount, SpellsNone}
-use Rattle.ovs_command.specs.Options.{is_count, word_of, words_of, Gives, Counts, CountsIfGiven, AreUpstreams}
+use Rattle.ovs_command.specs.Options.{is_count, word_of, words_of, Gives, CountsIfGiven, AreUpstreams}
 use Rattle.ovs_command.specs.CommandLine.{Found, HasCommand, AskForText, program}
 
 -- the exit status beside a fault: 2 a fault of the command line, 3 memory gave out
@@ -42,8 +42,8 @@ IsReadable Upstream rows = (upstreams : List SocketAddr) × AreUpstreams rows up
 IsReadable FirstId rows = (id : ℕ) × Gives SpellsCommit FirstId rows id
 IsReadable FirstRow rows = (id : ℕ) × Gives SpellsRow FirstRow rows id
 IsReadable TrimEvery rows = (n : Option ℕ) × CountsIfGiven TrimEvery rows n
-IsReadable Accepts rows = (n : ℕ) × Counts Accepts rows n
-IsReadable Tries rows = (n : ℕ) × Counts Tries rows n
+IsReadable Accepts rows = (n : Option ℕ) × CountsIfGiven Accepts rows n
+IsReadable Tries rows = (n : Option ℕ) × CountsIfGiven Tries rows n
 
 -- an upstream is the address at which the relay listens
 abbrev pub HasOwnAddress : List Row → SocketAddr → Type 0

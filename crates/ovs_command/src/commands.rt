@@ -28,10 +28,10 @@ const TRIM_EVERY_HELP: &str =
     "After how many commits of one epoch the next begins, 1 to 1000000; where this isn't given there is one alone";
 
 const ACCEPTS_HELP: &str =
-    "How many connections each thread of readers takes, 1 to 1000000, which it is where this isn't given";
+    "How many connections each thread of readers takes, 1 to 1000000; any number where this isn't given";
 
 const TRIES_HELP: &str =
-    "How many connections each thread of an upstream tries, 1 to 1000000, which it is where this isn't given";
+    "How many connections each thread of an upstream tries, 1 to 1000000; any number where this isn't given";
 
 const VERBOSE_HELP: &str = "Tells on standard error what happens";
 

@@ -65,7 +65,8 @@ fn source<
         first_commit: options.first_id,
         first_row: options.first_row,
         trim_every: options.trim_every,
-        accepts: options.accepts,
+        // As many as can be counted, where no number is given.
+        accepts: options.accepts.unwrap_or(u32::MAX),
     };
     let rt = Logged::new(rt, level_of(options.verbose, false), LogLines(rt));
     SourceNode::open(rt, alloc, plan)?.run(schema)

@@ -44,10 +44,10 @@ pub struct RelayPlan<'a> {
     pub listen: SocketAddr,
     /// Its upstreams, the first of which is asked what only the source can answer.
     pub upstreams: &'a [SocketAddr],
-    /// How many connections each worker takes at most.
-    pub accepts: u32,
-    /// How many connections with each upstream are tried at most.
-    pub tries: u32,
+    /// How many connections each worker takes at most, where there is a bound.
+    pub accepts: Option<u32>,
+    /// How many connections with each upstream are tried at most, where there is a bound.
+    pub tries: Option<u32>,
     /// Whether it comes to its end once a link was refused, or no upstream is tried any more.
     pub ends_on_refusal: bool,
     /// Whether it drops the links of older epochs once a newer one is published.

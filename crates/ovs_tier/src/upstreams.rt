@@ -43,12 +43,12 @@ pub(crate) struct Upstreams<R: Net + Log + Drop> {
 }
 
 impl<R: Net + Log + Copy + Drop> Upstreams<R> {
-    /// At these addresses, so many connections with each.
+    /// At these addresses, so many connections with each, or any number.
     pub(crate) fn new(
         rt: R,
         alloc: Global,
         addresses: &[SocketAddr],
-        tries: u32,
+        tries: Option<u32>,
         is_ending: &IsEnding,
     ) -> Result<Upstreams<R>, TierError> {
         let mut connectors = Vec::new(alloc);

@@ -89,8 +89,8 @@ fn relay<
     let plan = RelayPlan {
         listen: any_port()?,
         upstreams: &[upstream],
-        accepts: MOST_CONNECTIONS,
-        tries: MOST_CONNECTIONS,
+        accepts: Some(MOST_CONNECTIONS),
+        tries: Some(MOST_CONNECTIONS),
         ends_on_refusal: false,
         prunes: false,
     };
