@@ -1,9 +1,10 @@
 """How nodes end, and what they say while they run."""
+import os
 import re
 from datetime import datetime, timedelta, timezone
 
 from data import FIRST_ID, NET, ZEROS, insert, nth, select
-from harness import END_SECONDS, Node, check, equal, holds
+from harness import END_SECONDS, WORKERS, Node, check, equal, holds
 from processes import TIMED, free_port, wait_until
 
 
@@ -11,6 +12,10 @@ from processes import TIMED, free_port, wait_until
 UNFED = "ovs_relay: no upstream is tried any more: all tries are used up\n"
 # What a node says when the last of its workers has taken as many connections as it may.
 TAKEN = "ovs_relay: no connection is taken any more: each worker has taken as many as it may\n"
+# What it says of lines for which there was no room, before their number.
+DROPPED = "lines dropped, since nobody read or there was no memory:"
+# So many that a node has more to say of them than a pipe holds, and than a node keeps.
+MANY_SESSIONS = 2_000
 
 
 def shows(session, name, seconds=15):
@@ -149,6 +154,58 @@ def lines_bear_the_time(lab):
     times = [datetime.fromisoformat(TIMED.match(line)[2].removesuffix("Z") + "+00:00") for line in lines]
     holds(times == sorted(times), f"the times don't ascend: {lines[:5]!r}")
     holds(begun - timedelta(milliseconds=1) <= times[0] and times[-1] <= datetime.now(timezone.utc), f"another time than now: {lines[:5]!r}")
+
+
+class Unread:
+    """A pipe for the standard error of a node, of which nothing is read but by `lines`."""
+
+    def __init__(self):
+        self.near, self.far = os.pipe()
+        os.set_blocking(self.near, False)
+        self.told = b""
+
+    def lines(self):
+        try:
+            while piece := os.read(self.near, 1 << 16):
+                self.told += piece
+        except BlockingIOError:
+            pass
+        return self.told.decode().splitlines()
+
+    def close(self):
+        os.close(self.near)
+        os.close(self.far)
+
+
+def visited(node, times):
+    for number in range(times):
+        with node.session() as session:
+            equal(session.ask("echo", number), [number], f"an echo in session {number}")
+
+
+@check(240)
+def standard_error_that_nobody_reads(lab):
+    """Where nobody reads what a node says, lines are dropped and counted, nobody waits for it, and the count is told once somebody reads."""
+    unread = lab.keep(Unread())
+    source = lab.source("--verbose", errors=unread.far)
+    visited(source, MANY_SESSIONS)
+
+    def counted():
+        lines = unread.lines()
+        dropped = [int(line.rpartition(" ")[2]) for line in lines if DROPPED in line]
+        return (len(lines) - len(dropped), sum(dropped)) if len(lines) - len(dropped) + sum(dropped) == 2 * MANY_SESSIONS else None
+
+    told, dropped = wait_until(counted, 15, "each session's two lines are told or counted")
+    holds(told > 0 and dropped > 0, f"{told} lines are told, and {dropped} were dropped")
+
+
+@check(240)
+def an_end_that_nobody_reads(lab):
+    """A node whose standard error nobody reads ends as others do."""
+    unread = lab.keep(Unread())
+    source = lab.source("--verbose", "--accepts", str(MANY_SESSIONS // WORKERS), errors=unread.far)
+    visited(source, MANY_SESSIONS // WORKERS * WORKERS)
+    equal((source.child.wait(END_SECONDS), source.child.output()), (0, closing(ZEROS, 0, 0)), "the source's status and output")
 
 
 @check(240)

@@ -89,13 +89,13 @@ TIMED = re.compile(r"^(ovs_relay: )(\d{4}-\d\d-\d\dT\d\d:\d\d:\d\d\.\d{3}Z) ", r
 
 
 class Child:
-    """A process that runs in one folder, with its output in files of another, or of the same."""
+    """A process that runs in one folder, with its output in files of another, or of the same; or with its standard error in a pipe."""
 
-    def __init__(self, words, folder, name, output_folder=None, environment=None):
+    def __init__(self, words, folder, name, output_folder=None, environment=None, errors=None):
         self.name = name
         self.paths = [os.path.join(output_folder or folder, f"{name}.{stream}") for stream in ("out", "err")]
         with open(self.paths[0], "wb") as out, open(self.paths[1], "wb") as err:
-            self.process = subprocess.Popen(words, stdin=subprocess.DEVNULL, stdout=out, stderr=err, cwd=folder, env=environment)
+            self.process = subprocess.Popen(words, stdin=subprocess.DEVNULL, stdout=out, stderr=errors or err, cwd=folder, env=environment)
         self.served_by = None
         self.is_stopped = False
 

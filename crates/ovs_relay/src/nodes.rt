@@ -1,5 +1,6 @@
 //! The commands `source` and `relay`.
 
+use crate::backlog::Backlog;
 use crate::log_lines::LogLines;
 use crate::saying::{complains, fails, says};
 use crate::schema_file::schema_of_file;
@@ -58,7 +59,8 @@ fn source<
         + Copy
         + Drop
         + Send
-        + Sync,
+        + Sync
+        + 'static,
 >(rt: R, alloc: Global, schema: &Schema, options: &SourceOptions) -> Result<Closing, TierError> {
     let plan = SourcePlan {
         listen: options.listen,
@@ -68,8 +70,12 @@ fn source<
         // As many as can be counted, where no number is given.
         accepts: options.accepts.unwrap_or(u32::MAX),
     };
-    let rt = Logged::new(rt, level_of(options.verbose, false), LogLines(rt));
-    SourceNode::open(rt, alloc, plan)?.run(schema)
+    let backlog = Backlog::begin(rt, alloc)?;
+    let level = level_of(options.verbose, false);
+    let logged = Logged::new(rt, level, LogLines::new(rt, alloc, &*backlog));
+    let ran = SourceNode::open(logged, alloc, plan)?.run(schema);
+    backlog.finish(&rt);
+    ran
 }
 
 // A relay of a database of this schema.
@@ -82,7 +88,8 @@ fn relay<
         + Copy
         + Drop
         + Send
-        + Sync,
+        + Sync
+        + 'static,
 >(rt: R, alloc: Global, schema: &Schema, options: &RelayOptions) -> Result<Closing, TierError> {
     let plan = RelayPlan {
         listen: options.listen,
@@ -92,8 +99,12 @@ fn relay<
         ends_on_refusal: options.end_on_refusal,
         prunes: options.prunes,
     };
+    let backlog = Backlog::begin(rt, alloc)?;
     let level = level_of(options.verbose, options.end_on_refusal);
-    Relay::open(Logged::new(rt, level, LogLines(rt)), alloc, plan)?.run(schema)
+    let logged = Logged::new(rt, level, LogLines::new(rt, alloc, &*backlog));
+    let ran = Relay::open(logged, alloc, plan)?.run(schema);
+    backlog.finish(&rt);
+    ran
 }
 
 /// Runs a source until all its threads have come to their ends.
@@ -105,7 +116,8 @@ pub(crate) fn run_source<
         + Copy
         + Drop
         + Send
-        + Sync,
+        + Sync
+        + 'static,
 >(rt: R, alloc: Global, options: &SourceOptions) -> ExitCode {
     match schema_of_file(&rt, alloc, options.schema.as_str()) {
         Ok(schema) => closes(&rt, options.listen, source(rt, alloc, &schema, options)),
@@ -122,7 +134,8 @@ pub(crate) fn run_relay<
         + Copy
         + Drop
         + Send
-        + Sync,
+        + Sync
+        + 'static,
 >(rt: R, alloc: Global, options: &RelayOptions) -> ExitCode {
     match schema_of_file(&rt, alloc, options.schema.as_str()) {
         Ok(schema) => closes(&rt, options.listen, relay(rt, alloc, &schema, options)),
