@@ -75,7 +75,7 @@ fn source<
         first_commit: scene.first_commit,
         first_row: scene.first_row,
         trim_every: None,
-        accepts: MOST_CONNECTIONS,
+        accepts: Some(MOST_CONNECTIONS),
     };
     Ok(SourceNode::open(rt, alloc, plan)?)
 }

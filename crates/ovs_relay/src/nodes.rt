@@ -67,8 +67,7 @@ fn source<
         first_commit: options.first_id,
         first_row: options.first_row,
         trim_every: options.trim_every,
-        // As many as can be counted, where no number is given.
-        accepts: options.accepts.unwrap_or(u32::MAX),
+        accepts: options.accepts,
     };
     let backlog = Backlog::begin(rt, alloc)?;
     let level = level_of(options.verbose, false);

@@ -35,10 +35,9 @@ impl<R: Net + Log + Copy + Drop> Places<R> {
         rt: R,
         alloc: Global,
         listen: SocketAddr,
-        accepts: impl Into<Option<u32>>,
+        accepts: Option<u32>,
         is_ending: &IsEnding,
     ) -> Result<Places<R>, TierError> {
-        let accepts = accepts.into();
         let listening = match Listening::at(&rt, alloc, listen) {
             Ok(listening) => listening,
             Err(error) => return Err(TierError::Listening(error)),

@@ -46,8 +46,8 @@ pub struct SourcePlan {
     pub first_row: RowId,
     /// After how many links of one epoch it begins the next, where it has more than one.
     pub trim_every: Option<u32>,
-    /// How many connections each worker takes at most.
-    pub accepts: u32,
+    /// How many connections each worker takes at most, where there is a bound.
+    pub accepts: Option<u32>,
 }
 
 /// A source that listens, and is served once it runs.
