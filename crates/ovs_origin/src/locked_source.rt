@@ -216,10 +216,9 @@ impl<'a, K: NodeName, N: SourceName, R: Wait> Bell for LockedSource<'a, K, N, R>
     }
 }
 
-impl<'a, K: NodeName, N: SourceName, R: Wait> OriginDesk<K> for LockedSource<'a, K, N, R> {
+impl<'a, K: NodeName, N: SourceName, R: Wait> OriginDesk<K, TakenLinks<N>>
+    for LockedSource<'a, K, N, R> {
     ghost use Rattle.ovs_origin.specs.NoneTaken.{none_taken};
-
-    type Taken = TakenLinks<N>;
 
     ghost links = { λ taken. taken };
 

@@ -10,19 +10,17 @@ use ovs_hall::Bell;
 use ovs_links::Link;
 use ovs_views::NodeName;
 
-/// The desk of a source, as the thread shares it that sends its links to the node's feed. To ring it is to wake that thread.
-pub trait OriginDesk<K: NodeName>: DeskLock<K> + Bell {
-    /// The links that were taken out of it, as the thread knows them.
-    type Taken: Drop;
-
-    // Which these are, in the order in which they were taken out.
-    ghost links: { Self.Taken → List Link };
+/// The desk of a source, as the thread shares it that sends its links to the node's feed, which knows those that were taken out by a `T`.
+/// To ring it is to wake that thread.
+pub trait OriginDesk<K: NodeName, T>: DeskLock<K> + Bell {
+    // Which links were taken out, in their order.
+    ghost links: { T → List Link };
 
     // All links that were taken out of it may be these, in this order.
     ghost gives: { List Link → Type 0 };
 
     /// Takes out the next link that came of what was asked, if there is one. Once another thread took one out, none is given any more.
-    fn next_link(&self, taken: &mut Self::Taken) -> Option<Link>
+    fn next_link(&self, taken: &mut T) -> Option<Link>
         ensures next { MatchOption result (links taken.new ≡ links taken.old) (λ l. links taken.new ≡ links taken.old ++ l ∷ []) }
         ensures given { gives (links taken.new) }
         ensures tables { IfSome result (IsOfTables K.schema.description.tables) };

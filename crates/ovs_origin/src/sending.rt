@@ -24,9 +24,9 @@ pub struct SourceFollowed<S: LinkSink, T: Drop> {
 }
 
 // Sends the next link of the desk; false where there is none.
-fn send_next<K: NodeName, L: OriginDesk<K>, S: LinkSink>(
+fn send_next<K: NodeName, T, L: OriginDesk<K, T>, S: LinkSink>(
     desk: &L,
-    taken: &mut L::Taken,
+    taken: &mut T,
     sink: &mut S,
     counts: &mut Counts,
 ) -> bool
@@ -47,11 +47,11 @@ fn send_next<K: NodeName, L: OriginDesk<K>, S: LinkSink>(
 }
 
 // Sends the links of the desk, until no other thread runs and no link is left.
-fn send_all<K: NodeName, L: OriginDesk<K>, S: LinkSink, R: Wait>(
+fn send_all<K: NodeName, T, L: OriginDesk<K, T>, S: LinkSink, R: Wait>(
     rt: &R,
     desk: &L,
     running: &AtomicU64,
-    taken: &mut L::Taken,
+    taken: &mut T,
     sink: &mut S,
     counts: &mut Counts,
 )
@@ -65,7 +65,7 @@ fn send_all<K: NodeName, L: OriginDesk<K>, S: LinkSink, R: Wait>(
     for _ in rt.forever() {
         // Who ends after this has asked before, so that no link comes later than it is looked for.
         let is_last = running.load(Ordering::SeqCst) <= 1;
-        match send_next::<K, L, S>(desk, taken, sink, counts) {
+        match send_next::<K, T, L, S>(desk, taken, sink, counts) {
             true => {}
             false if is_last => break,
             false => desk.wait(),
@@ -76,13 +76,13 @@ fn send_all<K: NodeName, L: OriginDesk<K>, S: LinkSink, R: Wait>(
 /// Sends the links of a source's desk to a sink, in the order in which the desk made them, from the first that wasn't taken out. It
 /// waits at the desk while there is none, and ends once no other of the threads runs that are counted here with its own, and no link
 /// is left: so the desk is to be rung after each of them has left, and after what may make a link.
-pub fn follow_source<K: NodeName, L: OriginDesk<K>, S: LinkSink, R: Wait>(
+pub fn follow_source<K: NodeName, T: Drop, L: OriginDesk<K, T>, S: LinkSink, R: Wait>(
     rt: &R,
     desk: &L,
     running: &AtomicU64,
-    taken: L::Taken,
+    taken: T,
     sink: S,
-) -> SourceFollowed<S, L::Taken>
+) -> SourceFollowed<S, T>
     requires takes { (l : Link) → IsOfTables K.schema.description.tables l → S.takes l }
     requires sent { S.sent sink ≡ L.links taken }
     requires given { L.gives (L.links taken) }
@@ -96,7 +96,7 @@ pub fn follow_source<K: NodeName, L: OriginDesk<K>, S: LinkSink, R: Wait>(
         messages: 0,
         bytes_out: 0,
     };
-    send_all::<K, L, S, R>(rt, desk, running, &mut taken, &mut sink, &mut counts);
+    send_all::<K, T, L, S, R>(rt, desk, running, &mut taken, &mut sink, &mut counts);
     SourceFollowed {
         sink,
         taken,

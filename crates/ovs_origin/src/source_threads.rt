@@ -23,27 +23,27 @@ use std::thread::Threads;
 
 // What the thread shares with the others that sends the desk's links.
 #[derive(Drop)]
-struct Sends<'a, K: NodeName, Q: FeedName, L: OriginDesk<K>, R: Wait> {
+struct Sends<'a, K: NodeName, Q: FeedName, L, R: Wait> {
     rt: &'a R,
     queue: &'a FeedQueue<NodeLink<K>, Q>,
     desk: &'a L,
     counters: &'a Counters,
 }
 
-impl<'a, K: NodeName, Q: FeedName, L: OriginDesk<K>, R: Wait> Feeds<
+impl<'a, K: NodeName, Q: FeedName, T: Drop, L: OriginDesk<K, T>, R: Wait> Feeds<
     K,
-    SourceLine<K, Q, L>,
-    SourceSent<K, Q, L>,
+    SourceLine<K, Q, T, L>,
+    SourceSent<K, Q, T, L>,
 > for Sends<'a, K, Q, L, R> {
     fn feed(
         &self,
-        line: SourceLine<K, Q, L>,
+        line: SourceLine<K, Q, T, L>,
         _view: &mut View<K>,
         tally: &mut Tally,
-    ) -> SourceSent<K, Q, L> {
+    ) -> SourceSent<K, Q, T, L> {
         let (end, taken) = line.into_parts();
         let sink = FeedSink::new(self.rt, self.queue, self.counters.folded(), end);
-        let followed = follow_source::<K, L, FeedSink<'a, K, Q, R>, R>(
+        let followed = follow_source::<K, T, L, FeedSink<'a, K, Q, R>, R>(
             self.rt,
             self.desk,
             self.counters.running(),
@@ -59,7 +59,7 @@ impl<'a, K: NodeName, Q: FeedName, L: OriginDesk<K>, R: Wait> Feeds<
         SourceSent::new(sink.into_end())
     }
 
-    fn refuse(&self, line: SourceLine<K, Q, L>) -> SourceSent<K, Q, L> {
+    fn refuse(&self, line: SourceLine<K, Q, T, L>) -> SourceSent<K, Q, T, L> {
         line.into_refused()
     }
 }
@@ -73,7 +73,8 @@ pub fn run_source<
     'a,
     K: NodeName + Send + Sync,
     Q: FeedName + Send + Sync,
-    L: KnownDesk<Known: Send> + OriginDesk<K, Taken: Send> + Send + Sync,
+    T: Drop + Send,
+    L: KnownDesk<Known: Send> + OriginDesk<K, T> + Send + Sync,
     D: Doors<In: Send, Out: Send> + Drop + Send,
     B: Bell + Sync,
     O: Watcher,
@@ -83,7 +84,7 @@ pub fn run_source<
     alloc: Global,
     shared: &'a Shared<'a, K, Q, L, L, B, O, R>,
     node: Node<K, Q, Handle<K, H>>,
-    threads: NodeThreads<K, SourceLine<K, Q, L>, D>,
+    threads: NodeThreads<K, SourceLine<K, Q, T, L>, D>,
 ) -> Result<Report<K, Handle<K, H>>, NotRun>
     requires in_step { IsInStep (published node.publisher.handle) (pending node.publisher.handle) node.publisher.front node.publisher.kept (steps_in node.intake.store) }
     requires none { node.intake.feed.returned ≡ [] }

@@ -202,7 +202,7 @@ fn desk_of(alloc: Global, schema: &Schema, begins: Begins) -> Result<SourceDesk,
 // The threads of a source over sockets.
 type Crew<'a, K, Q, N, R> = NodeThreads<
     K,
-    SourceLine<K, Q, LockedSource<'a, K, N, R>>,
+    SourceLine<K, Q, TakenLinks<N>, LockedSource<'a, K, N, R>>,
     SocketDoors<R>,
 >;
 

@@ -4,7 +4,7 @@ use Rattle.ovs_types.specs.Schema.{SchemaValue}
 use Rattle.ovs_types.specs.declared.schema.Table.{Table}
 use Rattle.ovs_links.specs.Sets.{IsOfTables}
 use Rattle.ovs_recorded_source.specs.Taking.{AreTaken}
-use Rattle.ovs_origin.proofs.locked_source.LockedSourceOriginDesk.next_link.Goals as goal
+use Rattle.ovs_origin.proofs.locked_source.LockedSourceOriginDeskTakenLinks.next_link.Goals as goal
 
 pub returns-clause-given : goal.returns-clause-given
 returns-clause-given g c =
