@@ -9,7 +9,7 @@ import shutil
 import subprocess
 import sys
 
-LAST_COMMITS = 12
+LAST_COMMITS = 18
 PARTS = 3
 
 
