@@ -26,7 +26,8 @@ def tried(names):
     if os.environ.get("OVS_EDITS") == "all":
         return set(names)
     count = int(git("rev-list", "--count", "HEAD")[0])
-    changed = {path.split("/")[1] for path in git("log", f"-{LAST_COMMITS}", "--name-only", "--format=", "--", "crates")}
+    before = f"HEAD~{min(LAST_COMMITS, count - 1)}"
+    changed = {path.split("/")[1] for path in git("diff", "--name-only", before, "HEAD", "--", "crates")}
     return {name for at, name in enumerate(names) if name in changed or at % PARTS == count % PARTS}
 
 
