@@ -1,6 +1,5 @@
 """Processes that a check starts, ports, and what the kernel tells of a process."""
 import os
-import re
 import random
 import resource
 import signal
@@ -84,18 +83,14 @@ def _holds(process, inode):
         return False
 
 
-# How a line begins that a node says while it runs.
-TIMED = re.compile(r"^(ovs_relay: )(\d{4}-\d\d-\d\dT\d\d:\d\d:\d\d\.\d{3}Z) ", re.M)
-
-
 class Child:
-    """A process that runs in one folder, with its output in files of another, or of the same; or with its standard error in a pipe."""
+    """A process that runs in one folder, with its output in files of another, or of the same."""
 
-    def __init__(self, words, folder, name, output_folder=None, environment=None, errors=None):
+    def __init__(self, words, folder, name, output_folder=None, environment=None):
         self.name = name
         self.paths = [os.path.join(output_folder or folder, f"{name}.{stream}") for stream in ("out", "err")]
         with open(self.paths[0], "wb") as out, open(self.paths[1], "wb") as err:
-            self.process = subprocess.Popen(words, stdin=subprocess.DEVNULL, stdout=out, stderr=errors or err, cwd=folder, env=environment)
+            self.process = subprocess.Popen(words, stdin=subprocess.DEVNULL, stdout=out, stderr=err, cwd=folder, env=environment)
         self.served_by = None
         self.is_stopped = False
 
@@ -107,8 +102,7 @@ class Child:
         return self.read(0)
 
     def complaints(self):
-        """What it said on standard error so far, where a line that a node says while it runs stands without its time."""
-        return TIMED.sub(r"\1", self.read(1))
+        return self.read(1)
 
     def told(self):
         return f"{self.name}: status {self.process.poll()}, output {self.output()[-400:]!r}, standard error {self.complaints()[-400:]!r}"

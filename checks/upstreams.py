@@ -1,6 +1,5 @@
 """How a relay follows its upstreams: late ones, silent ones, those that break off, and those that contradict."""
 import json
-import os
 import time
 
 from data import FIRST_ID, NET, ZEROS, insert, nth, select
@@ -14,13 +13,6 @@ ROW = "11111111-1111-4111-8111-111111111111"
 OTHER_ID = "bbbbbbbb-bbbb-4bbb-8bbb-bbbbbbbbbbbb"
 LONGEST_PAUSE = 1.0
 SLACK = 0.6
-# How often a relay comes again behind a refused link, and what each time may take of a processor, in seconds.
-RECONNECTS = 20
-PROCESSOR_A_RECONNECT = 0.010
-TICKS_A_SECOND = os.sysconf("SC_CLK_TCK")
-# How often an upstream breaks off behind a link.
-MANY_BREAKS = 12
-LONGEST_MESSAGE = 16_777_216
 
 
 def commit_id(number):
@@ -157,74 +149,6 @@ def pauses_between_tries(lab):
         equal(session.ask("echo", 1), [1], "an echo meanwhile")
 
 
-def with_schema(connection, schema):
-    """Answers the first request of a relay, for the schema."""
-    connection.reply(connection.receive()["id"], schema)
-
-
-def another_schema(connection):
-    with_schema(connection, {**NET, "tables": {"Port": {"columns": {"name": {"type": "string"}}}}})
-    connection.wait_closed()
-
-
-def standalone(connection):
-    """As a standalone ovsdb-server: all that it has, under the id of zeros."""
-    connection.begin(lambda asked: [False, ZEROS, change(1)])
-    connection.wait_closed()
-
-
-def bad_answer(connection):
-    connection.begin(lambda asked: "all")
-    connection.wait_closed()
-
-
-def above_the_limit(connection):
-    with_schema(connection, NET)
-    connection.receive()
-    connection.send_bytes(b'{"id":"monitor","error":null,"result":["' + b"x" * LONGEST_MESSAGE)
-    connection.wait_closed()
-
-
-def schema_alone(connection):
-    with_schema(connection, NET)
-    connection.receive()
-
-
-@check(240)
-def pauses_before_refused_upstreams(lab):
-    """An upstream that gives no link, whether what it says is refused or it hangs up behind its schema, is tried again after such pauses, too."""
-    upstreams = [lab.keep(Upstream(NET, script)) for script in (another_schema, standalone, bad_answer, above_the_limit, schema_alone)]
-    for upstream in upstreams:
-        lab.relay([upstream])
-    time.sleep(5)
-    for upstream in upstreams:
-        name, begun = upstream.scripts[0].__name__, upstream.times()[0]
-        times = [tried for tried in upstream.times() if tried <= begun + 5]
-        pauses = [later - earlier for earlier, later in zip(times, times[1:])]
-        holds(3 <= len(times) <= 20, f"{name}: {len(times)} tries in 5 seconds")
-        holds(pauses[-1] > LONGEST_PAUSE / 4, f"{name}: the pauses don't grow: {pauses!r}")
-        sound(upstream)
-
-
-@check(240)
-def pauses_after_links(lab):
-    """An upstream that tells a link in each session and breaks off in the middle of the next is tried again soon each time."""
-
-    def breaks(connection):
-        connection.begin(known)
-        tell(connection, [len(upstream.connections)])
-        connection.send_bytes(b'{"id":null,"method":"upd')
-
-    upstream = lab.keep(Upstream(NET, *[breaks] * MANY_BREAKS, tells(MANY_BREAKS + 1, MANY_BREAKS + 1)))
-    relay = lab.relay([upstream])
-    with relay.session() as session:
-        shows(session, f"p{MANY_BREAKS + 1}", 60)
-    times = upstream.times()
-    pauses = sorted(later - earlier for earlier, later in zip(times, times[1:]))
-    holds(pauses[len(pauses) // 2] <= LONGEST_PAUSE / 4, f"the pauses grow: {pauses!r}")
-    sound(upstream)
-
-
 @check(240)
 def tries_are_bounded(lab):
     """`--tries N` bounds how often an upstream is tried, whether it hangs up or nothing listens; the relay then ends by itself."""
@@ -332,24 +256,6 @@ def contradictions_without_the_option(lab):
         holds(relay.child.is_running(), "the relay ended")
     upstream.close()
     equal(relay.end(), (1, closing(commit_id(2), 2, 2)), "the relay's status and output")
-
-
-@check(240)
-def a_refused_link_costs_no_processor(lab):
-    """A relay whose upstream ends each connection behind a link that contradicts what it has comes again soon, and takes hardly any processor for it."""
-
-    def forks_and_breaks(connection):
-        connection.begin(unknown)
-        connection.update3(commit_id(1), change(1))
-        connection.update3(OTHER_ID, {"Port": {ROW: {"modify": {"name": "other"}}}})
-
-    upstream = lab.keep(Upstream(NET, tells_and_breaks, forks_and_breaks))
-    relay = lab.relay([upstream])
-    wait_until(lambda: len(upstream.connections) >= 2, 15, "the relay asks again")
-    before, ticks = len(upstream.connections), relay.child.ticks()
-    wait_until(lambda: len(upstream.connections) >= before + RECONNECTS, 30, f"the relay asks {RECONNECTS} times more")
-    each = (relay.child.ticks() - ticks) / TICKS_A_SECOND / (len(upstream.connections) - before)
-    holds(each < PROCESSOR_A_RECONNECT, f"each connection costs {each * 1000:.1f} ms of processor")
 
 
 @check(240)

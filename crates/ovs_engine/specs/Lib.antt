@@ -2,4 +2,3 @@ pub mod Collecting
 pub mod Epochs
 pub mod Lines
 pub mod Refusing
-pub mod Reporting

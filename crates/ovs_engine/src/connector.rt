@@ -1,7 +1,6 @@
 //! Where connections come from.
 
 ghost use Rattle.std.specs.Prelude.{◌≡◌, IfSome};
-ghost use Rattle.ovs_types.specs.Schema.{SchemaValue};
 ghost use Rattle.ovs_links.specs.declared.link.Link.{Link};
 ghost use Rattle.ovs_engine.specs.Lines.{AdmitsBytes};
 
@@ -17,8 +16,8 @@ pub trait Connector {
     /// What it is written to.
     type Out: Write + Drop;
 
-    // The links that may come of its connections, where these are read with a schema.
-    ghost admits: { SchemaValue → Link → Type 0 };
+    // The links that may come of its connections.
+    ghost admits: { Link → Type 0 };
 
     /// Whether there is to be another connection; it may wait until there is.
     fn next(&mut self) -> bool;

@@ -1,14 +1,13 @@
 //! What the folder's thread does, beside all others.
 
-ghost use Rattle.std.specs.Prelude.{◌≡◌, Ok, false, IfOk, OnOk, vec_len};
+ghost use Rattle.std.specs.Prelude.{◌≡◌, Ok, false, IfOk, IfErr, OnOk, length, vec_len};
 ghost use Rattle.left_right.specs.Handles.{published, pending};
 ghost use Rattle.ovs_feed.specs.Feed.{IsDrained};
 ghost use Rattle.ovs_folder.specs.InStep.{IsAtRest, IsInStep};
 ghost use Rattle.ovs_folder.specs.Ledger.{steps_in};
-ghost use Rattle.ovs_engine.specs.Reporting.{KeepsEnds};
 
-use crate::counters::Counters;
 use crate::party::beside_with_views;
+use crate::progress::Progress;
 use crate::watcher::Watcher;
 use left_right::ReadHandle;
 use ovs_feed::{FeedName, FeedQueue};
@@ -18,26 +17,37 @@ use ovs_json::NoMemory;
 use ovs_threads::Work;
 use ovs_views::{Board, Front, Handle, NodeName, Shown};
 use std::alloc::Global;
-use std::sync::atomic::Ordering;
+use std::sync::atomic::{AtomicU64, Ordering};
 use std::sync::{Mutex, Wait};
 use std::thread;
 use std::thread::Threads;
 
 /// What the folder's thread shares with the others.
 #[derive(Drop)]
-pub(crate) struct Folding<'a, K: NodeName, Q: FeedName, B: Bell, O: Watcher, R: Wait> {
+pub struct Folding<'a, K: NodeName, Q: FeedName, B: Bell, O: Watcher, R: Wait> {
     /// What it waits with.
-    pub(crate) rt: &'a R,
+    pub rt: &'a R,
     /// Where links come from.
-    pub(crate) queue: &'a FeedQueue<NodeLink<K>, Q>,
+    pub queue: &'a FeedQueue<NodeLink<K>, Q>,
     /// Where what is published is told.
-    pub(crate) board: &'a Mutex<Board<K>>,
+    pub board: &'a Mutex<Board<K>>,
     /// What wakes the workers.
-    pub(crate) bells: &'a [B],
+    pub bells: &'a [B],
     /// Who looks on.
-    pub(crate) watcher: &'a O,
-    /// What it and the other threads count.
-    pub(crate) counters: &'a Counters,
+    pub watcher: &'a O,
+    /// How many other threads run.
+    pub running: &'a AtomicU64,
+    /// Where the other threads see how far it has come.
+    pub progress: &'a Progress,
+}
+
+/// There was no memory to begin: no job was done, and all is handed back.
+#[derive(Drop)]
+pub struct NotFolded<J, N> {
+    /// What the threads were to have.
+    pub jobs: Vec<J>,
+    /// The node.
+    pub node: N,
 }
 
 /// Rings all bells.
@@ -56,7 +66,9 @@ struct Bells<'a, B: Bell> {
 
 impl<'a, B: Bell> Bells<'a, B> {
     // Rings all bells where more steps are published than they were rung for.
-    fn ring_for(&mut self, published: u64) {
+    fn ring_for(&mut self, published: u64)
+        ensures rung { self.new.rung_for ≡ published }
+    {
         if self.rung_for != published {
             ring_all(self.bells);
             self.rung_for = published;
@@ -71,16 +83,14 @@ impl<'a, K: NodeName, Q: FeedName, B: Bell, O: Watcher, R: Wait> Folding<'a, K, 
         requires in_step { IsInStep (published node.old.publisher.handle) (pending node.old.publisher.handle) node.old.publisher.front node.old.publisher.kept (steps_in node.old.intake.store) }
         ensures in_step { IsInStep (published node.new.publisher.handle) (pending node.new.publisher.handle) node.new.publisher.front node.new.publisher.kept (steps_in node.new.intake.store) }
         ensures done { IsAtRest node.new.intake node.new.settled (published node.new.publisher.handle) × IsDrained node.new.intake.feed }
-        ensures ends { KeepsEnds node.old.intake.feed node.new.intake.feed }
     {
         let mut bells = Bells {
             bells: self.bells,
             rung_for: 0,
         };
-        let (mut is_put_off, mut is_unfed) = (false, false);
+        let mut is_put_off = false;
         for _ in self.rt.forever() {
-            let is_last = self.counters.running().load(Ordering::SeqCst) == 0;
-            self.tell_feeds_ended(&mut is_unfed);
+            let is_last = self.running.load(Ordering::SeqCst) == 0;
             let folded = self.fold_and_ring(node, &mut bells);
             self.tell_put_off(&mut is_put_off, folded.is_err());
             match folded {
@@ -101,35 +111,23 @@ impl<'a, K: NodeName, Q: FeedName, B: Bell, O: Watcher, R: Wait> Folding<'a, K, 
     ) -> Result<bool, NoMemory>
         requires in_step { IsInStep (published node.old.publisher.handle) (pending node.old.publisher.handle) node.old.publisher.front node.old.publisher.kept (steps_in node.old.intake.store) }
         ensures in_step { IsInStep (published node.new.publisher.handle) (pending node.new.publisher.handle) node.new.publisher.front node.new.publisher.kept (steps_in node.new.intake.store) }
+        ensures rung { bells.new.rung_for ≡ length (published node.new.publisher.handle) }
         ensures rest { OnOk result (IsAtRest node.new.intake node.new.settled (published node.new.publisher.handle)) }
         ensures drained { result ≡ Ok false → IsDrained node.new.intake.feed }
-        ensures ends { KeepsEnds node.old.intake.feed node.new.intake.feed }
     {
-        let queued = self.counters.folded().queued();
         let folded = node.fold_next(self.rt, self.queue, self.board);
-        self.counters.progress().note_head(node.head());
+        self.progress.note_head(node.head());
         bells.ring_for(node.published_len());
         for link in node.take_refused() {
             self.note_refused(&link);
         }
-        self.note_folded(queued, &folded);
         folded
-    }
-
-    // Notes what a call has folded, before which so many links were in the queue or had been.
-    fn note_folded(&self, queued: u64, folded: &Result<bool, NoMemory>) {
-        match folded {
-            Ok(true) => self.counters.folded().note_one(self.rt),
-            Ok(false) => self.counters.folded().note_all(self.rt, queued),
-            // What was taken is folded later, and then all before it.
-            Err(NoMemory) => {}
-        }
     }
 
     // A link was refused: from then on answers aren't held back for what they stand for, so that the workers are rung.
     fn note_refused(&self, link: &RefusedLink) {
-        if !self.counters.progress().has_refused() {
-            self.counters.progress().note_refused();
+        if !self.progress.has_refused() {
+            self.progress.note_refused();
             ring_all(self.bells);
         }
         self.watcher.refused(link);
@@ -142,22 +140,14 @@ impl<'a, K: NodeName, Q: FeedName, B: Bell, O: Watcher, R: Wait> Folding<'a, K, 
         }
         *is_put_off = is_now;
     }
-
-    // Tells once that no thread sends links any more, though readers are served.
-    fn tell_feeds_ended(&self, is_told: &mut bool) {
-        if !*is_told && self.counters.is_unfed() {
-            *is_told = true;
-            self.watcher.feeds_ended();
-        }
-    }
 }
 
 /// Does each job in a thread of its own, and folds beside them in this one, until all have come to their ends and nothing is
 /// left to fold.
 ///
 /// # Errors
-/// Memory ran out before a thread was started.
-pub(crate) fn fold_beside<
+/// `NotFolded` where memory ran out before a thread was started.
+pub fn fold_beside<
     K: NodeName + Send + Sync,
     Q: FeedName,
     E: Send + Drop,
@@ -179,23 +169,19 @@ pub(crate) fn fold_beside<
         Vec<(F, ReadHandle<Shown<K>>, Front<K>, Y)>,
         Node<K, Q, Handle<K, H>>,
     ),
-    NoMemory,
+    NotFolded<(E, ReadHandle<Shown<K>>, Front<K>), Node<K, Q, Handle<K, H>>>,
 >
     requires in_step { IsInStep (published node.publisher.handle) (pending node.publisher.handle) node.publisher.front node.publisher.kept (steps_in node.intake.store) }
     ensures in_step { IfOk result (λ r. IsInStep (published r.1.publisher.handle) (pending r.1.publisher.handle) r.1.publisher.front r.1.publisher.kept (steps_in r.1.intake.store)) }
     ensures done { IfOk result (λ r. IsAtRest r.1.intake r.1.settled (published r.1.publisher.handle) × IsDrained r.1.intake.feed) }
     ensures all { IfOk result (λ r. vec_len r.0 ≡ vec_len jobs) }
-    ensures ends { IfOk result (λ r. KeepsEnds node.intake.feed r.1.intake.feed) }
+    ensures handed_back { IfErr result (λ n. (n.jobs ≡ jobs) × IsInStep (published n.node.publisher.handle) (pending n.node.publisher.handle) n.node.publisher.front n.node.publisher.kept (steps_in n.node.intake.store)) }
 {
-    folding
-        .counters
-        .running()
-        .store(jobs.len() as u64, Ordering::SeqCst);
+    folding.running.store(jobs.len() as u64, Ordering::SeqCst);
     let folds = move || -> Node<K, Q, Handle<K, H>>
         requires { IsInStep (published node.publisher.handle) (pending node.publisher.handle) node.publisher.front node.publisher.kept (steps_in node.intake.store) }
         ensures in_step { IsInStep (published result.publisher.handle) (pending result.publisher.handle) result.publisher.front result.publisher.kept (steps_in result.intake.store) }
         ensures done { IsAtRest result.intake result.settled (published result.publisher.handle) × IsDrained result.intake.feed }
-        ensures ends { KeepsEnds node.intake.feed result.intake.feed }
     {
         let mut node = node;
         folding.fold_all(&mut node);
@@ -203,6 +189,12 @@ pub(crate) fn fold_beside<
     };
     match beside_with_views(folding.rt, alloc, jobs, work, folds) {
         Ok(done) => Ok(done),
-        Err(_not_begun) => Err(NoMemory),
+        Err(not_begun) => {
+            folding.running.store(0, Ordering::SeqCst);
+            Err(NotFolded {
+                node: (not_begun.here)(),
+                jobs: not_begun.jobs,
+            })
+        }
     }
 }

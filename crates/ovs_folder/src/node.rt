@@ -178,7 +178,6 @@ impl<K: NodeName, Q: FeedName, R: Wait + Drop> Node<K, Q, Handle<K, R>> {
         requires drained { IsDrained self.intake.feed }
         requires rest { IsAtRest self.intake self.settled (published self.publisher.handle) }
         ensures store { (result.store ≡ self.intake.store) × (result.store.folded ≡ chain_of result.store) }
-        ensures schema { result.store.schema ≡ K.schema }
         ensures settled { result.settled ≡ settled_of result.store }
         // A view that learns what is told answers from all of the chain, and reads on while the publisher lives.
         ensures told { (last_chain result.told ≡ steps_in result.store) × (result.told ≡ published result.publisher.handle) }

@@ -1,11 +1,11 @@
-//! What the folder's thread does, and the end of a node.
+//! What the folder's thread does.
 
 ghost use Rattle.left_right.specs.Handles.{published, pending};
 ghost use Rattle.ovs_folder.specs.InStep.{IsInStep};
 ghost use Rattle.ovs_folder.specs.Ledger.{steps_in};
 
 use crate::fault::Fault;
-use crate::jobs::{Back, Done};
+use crate::jobs::Sent;
 use ovs_node::{
     Board, FeedEnd, FeedName, FeedQueue, Handle, Node, NodeLink, NodeName, Report, View,
 };
@@ -37,18 +37,18 @@ pub(crate) fn fold_all<K: NodeName, Q: FeedName, H: Wait + Drop, R: Wait>(
     Ok(())
 }
 
-// Takes back what the threads had: the ends in the order of their numbers, and the views.
+// Takes the ends back in the order of their numbers; the views of their threads go to the others.
 fn take_back<K: NodeName, Q: FeedName, H: Wait + Drop>(
     queue: &FeedQueue<NodeLink<K>, Q>,
     node: &mut Node<K, Q, Handle<K, H>>,
-    backs: Vec<Back<K, Q>>,
+    sent: Vec<Sent<K, Q>>,
     views: &mut Vec<View<K>>,
 ) -> Result<(), Fault>
     requires in_step { IsInStep (published node.old.publisher.handle) (pending node.old.publisher.handle) node.old.publisher.front node.old.publisher.kept (steps_in node.old.intake.store) }
     ensures in_step { IsInStep (published node.new.publisher.handle) (pending node.new.publisher.handle) node.new.publisher.front node.new.publisher.kept (steps_in node.new.intake.store) }
 {
-    for back in backs {
-        take_one_back(queue, node, back, views)?;
+    for one in sent {
+        take_one_back(queue, node, one, views)?;
     }
     Ok(())
 }
@@ -56,18 +56,16 @@ fn take_back<K: NodeName, Q: FeedName, H: Wait + Drop>(
 fn take_one_back<K: NodeName, Q: FeedName, H: Wait + Drop>(
     queue: &FeedQueue<NodeLink<K>, Q>,
     node: &mut Node<K, Q, Handle<K, H>>,
-    back: Back<K, Q>,
+    sent: Sent<K, Q>,
     views: &mut Vec<View<K>>,
 ) -> Result<(), Fault>
     requires in_step { IsInStep (published node.old.publisher.handle) (pending node.old.publisher.handle) node.old.publisher.front node.old.publisher.kept (steps_in node.old.intake.store) }
     ensures in_step { IsInStep (published node.new.publisher.handle) (pending node.new.publisher.handle) node.new.publisher.front node.new.publisher.kept (steps_in node.new.intake.store) }
 {
-    let (done, handle, known) = back;
+    let (end, handle, known, is_whole) = sent;
+    let is_back = is_joined(queue, node, end);
     views.push(View::new(handle, known))?;
-    let Done::Sent(end, is_whole) = done else {
-        return Ok(());
-    };
-    match (is_joined(queue, node, end), is_whole) {
+    match (is_back, is_whole) {
         (true, true) => Ok(()),
         (true, false) => Err(Fault::Unsent),
         (false, _) => Err(Fault::NotDrained),
@@ -86,19 +84,19 @@ fn is_joined<K: NodeName, Q: FeedName, H: Wait + Drop>(
     node.join(queue, end).is_ok()
 }
 
-/// Takes back what the threads had, and ends the node.
+/// Takes the ends back, and ends the node.
 pub(crate) fn finished<K: NodeName, Q: FeedName, H: Wait + Drop, R: Wait>(
     rt: &R,
     queue: &FeedQueue<NodeLink<K>, Q>,
     board: &Mutex<Board<K>>,
     node: Node<K, Q, Handle<K, H>>,
-    backs: Vec<Back<K, Q>>,
+    sent: Vec<Sent<K, Q>>,
     views: &mut Vec<View<K>>,
 ) -> Result<Report<K, Handle<K, H>>, Fault>
     requires in_step { IsInStep (published node.publisher.handle) (pending node.publisher.handle) node.publisher.front node.publisher.kept (steps_in node.intake.store) }
 {
     let mut node = node;
-    take_back(queue, &mut node, backs, views)?;
+    take_back(queue, &mut node, sent, views)?;
     if node.fold_next(rt, queue, board)? || !node.is_back() {
         return Err(Fault::NotDrained);
     }

@@ -1,2 +1,2 @@
 pub mod LastSteps
-pub mod Reports
+pub mod SentLinks

@@ -5,4 +5,3 @@ pub mod Listing
 pub mod Making
 pub mod Recording
 pub mod Sending
-pub mod Taking

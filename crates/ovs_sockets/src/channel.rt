@@ -3,7 +3,6 @@
 ghost use Rattle.std.specs.Io.{ReadsAtMost, WritesAtMost};
 
 use crate::ending::IsEnding;
-use crate::exchange::Exchange;
 use mio::net::TcpStream;
 use mio::{Events, Interest, Poll, Token, Waker};
 use std::alloc::Global;
@@ -35,7 +34,8 @@ pub(crate) struct Channel {
     stream: Option<TcpStream>,
     // What came while a write had to wait. An upstream that writes may read nothing until that is taken.
     ahead: VecDeque<u8>,
-    exchange: Exchange,
+    // Whether anything came by the connection.
+    has_heard: bool,
     is_ending: IsEnding,
 }
 
@@ -47,7 +47,7 @@ impl Channel {
             events: Events::with_capacity(alloc, EVENTS)?,
             stream: None,
             ahead: VecDeque::new(alloc),
-            exchange: Exchange::Opened,
+            has_heard: false,
             is_ending,
         })
     }
@@ -62,9 +62,9 @@ impl Channel {
         self.is_ending.is_asked()
     }
 
-    /// How far the exchange over the connection has come.
-    pub(crate) fn exchange(&self) -> Exchange {
-        self.exchange
+    /// Whether anything came by the connection.
+    pub(crate) fn has_heard(&self) -> bool {
+        self.has_heard
     }
 
     /// Waits for so long, or less where the bell is rung.
@@ -76,7 +76,7 @@ impl Channel {
     pub(crate) fn close(&mut self) {
         self.stream = None;
         self.ahead.clear();
-        self.exchange = Exchange::Opened;
+        self.has_heard = false;
     }
 
     /// Connects, and waits until that has succeeded or failed.
@@ -127,9 +127,7 @@ impl Channel {
             return Ok(0);
         };
         let len = (&mut &*stream).read(buf)?;
-        if len > 0 {
-            self.exchange = self.exchange.after_read();
-        }
+        self.has_heard |= len > 0;
         Ok(len)
     }
 
@@ -185,10 +183,6 @@ impl Channel {
                     self.wait()?;
                 }
                 Err(error)
-            }
-            Ok(len) => {
-                self.exchange = self.exchange.after_write();
-                Ok(len)
             }
             other => other,
         }

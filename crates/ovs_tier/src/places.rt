@@ -30,12 +30,12 @@ where
 }
 
 impl<R: Net + Log + Copy + Drop> Places<R> {
-    /// At this address, each of which takes so many connections, or any number.
+    /// At this address, each of which takes so many connections.
     pub(crate) fn new(
         rt: R,
         alloc: Global,
         listen: SocketAddr,
-        accepts: Option<u32>,
+        accepts: u32,
         is_ending: &IsEnding,
     ) -> Result<Places<R>, TierError> {
         let listening = match Listening::at(&rt, alloc, listen) {

@@ -6,7 +6,7 @@ ghost use Rattle.left_right.specs.Handles.{published, pending};
 ghost use Rattle.ovs_folder.specs.InStep.{IsInStep};
 ghost use Rattle.ovs_folder.specs.Ledger.{IsFresh, steps_in};
 
-use crate::closing::Closing;
+use crate::closing::{Closing, closing_of_relay};
 use crate::error::TierError;
 use crate::places::{LIMITS, Places, WORKERS};
 use crate::stop::Stop;
@@ -14,8 +14,8 @@ use crate::upstreams::{UpstreamSockets, Upstreams};
 use crate::watching::Watching;
 use log::Log;
 use ovs_engine::{
-    Counters, Line, LockedDesk, NodeThreads, RelayThreads, Shared, SharedSide, SourceDesk, Unused,
-    Upstream, run_relay,
+    Counters, Crew, Line, LockedDesk, Shared, SourceDesk, Unused, UpstreamParts, WorkerParts,
+    run_node,
 };
 use ovs_hall::Doors;
 use ovs_json::Text;
@@ -30,12 +30,8 @@ use ovs_types::Schema;
 use std::alloc::Global;
 use std::marker::Brand;
 use std::net::{Net, SocketAddr, TcpListener, TcpStream};
-use std::sync::atomic::AtomicBool;
 use std::sync::{Arc, Mutex, Wait};
 use std::thread::Threads;
-
-// What a relay says once none of its upstreams is tried any more, while it serves readers.
-const UNFED: &str = "no upstream is tried any more: all tries are used up";
 
 /// Which relay to run.
 #[derive(Clone, Copy, Debug)]
@@ -44,11 +40,11 @@ pub struct RelayPlan<'a> {
     pub listen: SocketAddr,
     /// Its upstreams, the first of which is asked what only the source can answer.
     pub upstreams: &'a [SocketAddr],
-    /// How many connections each worker takes at most, where there is a bound.
-    pub accepts: Option<u32>,
-    /// How many connections with each upstream are tried at most, where there is a bound.
-    pub tries: Option<u32>,
-    /// Whether it comes to its end once a link was refused, or no upstream is tried any more.
+    /// How many connections each worker takes at most.
+    pub accepts: u32,
+    /// How many connections with each upstream are tried at most.
+    pub tries: u32,
+    /// Whether it comes to its end once a link was refused.
     pub ends_on_refusal: bool,
     /// Whether it drops the links of older epochs once a newer one is published.
     pub prunes: bool,
@@ -222,8 +218,8 @@ where
     views: Vec<View<K>>,
 }
 
-// The threads of a relay over sockets.
-type Crew<'a, 'x, K, Q, N, R> = RelayThreads<
+// A relay's threads.
+type RelayCrew<'a, 'x, K, Q, N, R> = Crew<
     'a,
     K,
     Q,
@@ -235,27 +231,28 @@ type Crew<'a, 'x, K, Q, N, R> = RelayThreads<
 
 // A worker at each of these doors, with the last of the views.
 fn add_workers<'a, 'x, K: NodeName, Q: FeedName, N: DeskName + Send, R: Wait + Net + Log + Drop>(
-    crew: Crew<'a, 'x, K, Q, N, R>,
+    crew: RelayCrew<'a, 'x, K, Q, N, R>,
     doors: Vec<Unused<SocketDoors<R>>>,
     views: &mut Vec<View<K>>,
-) -> Result<Crew<'a, 'x, K, Q, N, R>, TierError> {
+) -> Result<RelayCrew<'a, 'x, K, Q, N, R>, TierError> {
     let mut crew = crew;
     for doors in doors {
         let view = views.pop().ok_or(TierError::Node(NodeError::BadCount))?;
-        crew.add_worker(doors, view)?;
+        if crew.add_worker(WorkerParts { view, doors }).is_err() {
+            return Err(TierError::NoMemory);
+        }
     }
     Ok(crew)
 }
 
 // An upstream for each of these lines. The first is the source, to which the desk's requests go.
 fn add_upstreams<'a, 'x, K: NodeName, Q: FeedName, N: DeskName + Send, R: Wait + Net + Log + Drop>(
-    alloc: Global,
-    crew: Crew<'a, 'x, K, Q, N, R>,
+    crew: RelayCrew<'a, 'x, K, Q, N, R>,
     stage: &'a Stage<'x, N, R>,
     lines: Vec<Line<K, Q, UpstreamSockets<R>>>,
     connectors: Vec<UpstreamSockets<R>>,
     views: Vec<View<K>>,
-) -> Result<Crew<'a, 'x, K, Q, N, R>, TierError> {
+) -> Result<RelayCrew<'a, 'x, K, Q, N, R>, TierError> {
     let mut crew = crew;
     let progress = if connectors.len() == 1 {
         Some(stage.counters.progress())
@@ -268,12 +265,14 @@ fn add_upstreams<'a, 'x, K: NodeName, Q: FeedName, N: DeskName + Send, R: Wait +
         progress,
     });
     for ((line, connector), view) in lines.into_iter().zip(connectors).zip(views) {
-        let upstream = Upstream {
+        let upstream = UpstreamParts {
             line,
+            view,
             connector,
-            source: SharedSide::new(alloc, source.take()),
         };
-        crew.add_feed(upstream, view)?;
+        if crew.add_upstream(upstream, source.take()).is_err() {
+            return Err(TierError::NoMemory);
+        }
     }
     Ok(crew)
 }
@@ -297,7 +296,7 @@ fn crew_of<'a, 'x, K: NodeName, Q: FeedName, N: DeskName + Send, R: Wait + Net +
     alloc: Global,
     stage: &'a Stage<'x, N, R>,
     outfit: Outfit<K, Q, R>,
-) -> Result<Crew<'a, 'x, K, Q, N, R>, TierError>
+) -> Result<RelayCrew<'a, 'x, K, Q, N, R>, TierError>
     requires unsent { AllByRecursion (λ e. e.1 ≡ []) outfit.ends.items }
 {
     let Outfit {
@@ -307,8 +306,8 @@ fn crew_of<'a, 'x, K: NodeName, Q: FeedName, N: DeskName + Send, R: Wait + Net +
         mut views,
     } = outfit;
     let lines = lines_of(alloc, ends)?;
-    let crew = add_workers(NodeThreads::new(alloc), doors, &mut views)?;
-    add_upstreams(alloc, crew, &*stage, lines, connectors, views)
+    let crew = add_workers(Crew::new(alloc), doors, &mut views)?;
+    add_upstreams(crew, &*stage, lines, connectors, views)
 }
 
 // Runs the node with a desk for its database, and tells what came of it.
@@ -336,7 +335,6 @@ fn run<
     requires desk { (opened.seen.book ≡ N.book) × (database ≡ N.database) }
     requires schema { schema.now ≡ K.schema }
     requires in_step { IsInStep (published parts.node.publisher.handle) (pending parts.node.publisher.handle) parts.node.publisher.front parts.node.publisher.kept (steps_in parts.node.intake.store) }
-    requires none { parts.node.intake.feed.returned ≡ [] }
     requires unsent { AllByRecursion (λ e. e.1 ≡ []) parts.ends.items }
 {
     let Parts {
@@ -368,13 +366,14 @@ fn run<
         views,
     };
     let stage = Stage::<'x, N, R>::new(rt, alloc, database, opened, bells, upward)?;
+    let rung = if ends_on_refusal {
+        Some(&*ending)
+    } else {
+        None
+    };
     let watching = Watching {
         rt: &*rt,
-        ending: &*ending,
-        ends_on_refusal,
-        ends_unfed: ends_on_refusal,
-        unfed: UNFED,
-        has_given_up: AtomicBool::new(false),
+        ending: rung,
     };
     staged(
         rt, alloc, schema, &queue, &board, &stage, &watching, node, outfit,
@@ -411,11 +410,11 @@ fn staged<
     requires schema { schema.now ≡ K.schema }
     requires unsent { AllByRecursion (λ e. e.1 ≡ []) outfit.ends.items }
     requires in_step { IsInStep (published node.publisher.handle) (pending node.publisher.handle) node.publisher.front node.publisher.kept (steps_in node.intake.store) }
-    requires none { node.intake.feed.returned ≡ [] }
 {
     let crew = crew_of(alloc, &*stage, outfit)?;
     let shared = Shared {
         rt: &*rt,
+        schema: &*schema,
         queue: &*queue,
         board: &*board,
         desk: &stage.desk,
@@ -426,7 +425,8 @@ fn staged<
         limits: LIMITS,
     };
     relay_desk_sends();
-    let report = run_relay(alloc, &shared, schema, node, crew)?;
-    let has_given_up = watching.has_given_up();
-    Ok(Closing::of(rt, alloc, &report, has_given_up))
+    match run_node(alloc, &shared, node, crew) {
+        Ok(ran) => closing_of_relay(&*rt, alloc, &*queue, &*board, ran),
+        Err(_unrun) => Err(TierError::NoMemory),
+    }
 }

@@ -20,7 +20,7 @@ impl<R: Net + Log + Drop> Connector for UpstreamSockets<R> {
 
     type Out = ToUpstream;
 
-    ghost admits = { λ _ _. Unit {0} };
+    ghost admits = { λ _. Unit {0} };
 
     fn next(&mut self) -> bool {
         self.upward.next()
@@ -43,12 +43,12 @@ pub(crate) struct Upstreams<R: Net + Log + Drop> {
 }
 
 impl<R: Net + Log + Copy + Drop> Upstreams<R> {
-    /// At these addresses, so many connections with each, or any number.
+    /// At these addresses, so many connections with each.
     pub(crate) fn new(
         rt: R,
         alloc: Global,
         addresses: &[SocketAddr],
-        tries: Option<u32>,
+        tries: u32,
         is_ending: &IsEnding,
     ) -> Result<Upstreams<R>, TierError> {
         let mut connectors = Vec::new(alloc);

@@ -3,7 +3,7 @@ use Rattle.ovs_folder.specs.InStep.{IsInStep}
 use Rattle.ovs_folder.specs.Ledger.{steps_in}
 use Rattle.ovs_node_cases.proofs.fold.take_back.Given as goal
 
-abbrev pub invariant-loop-back : goal.invariant-loop-back
-invariant-loop-back g l =
+abbrev pub invariant-loop-one : goal.invariant-loop-one
+invariant-loop-one g l =
     IsInStep (published l.node.publisher.handle) (pending l.node.publisher.handle) l.node.publisher.front l.node.publisher.kept
     (steps_in l.node.intake.store)
