@@ -5,7 +5,7 @@ ghost use Rattle.ovs_rows.specs.Change.{IsChangeOf};
 ghost use Rattle.ovs_query.specs.Updates.{AreTouchedOf};
 
 use crate::case::{list, part, truth, word};
-use crate::fault::Fault;
+use crate::fault::{Fault, is_refused};
 use crate::ids::commit;
 use ovs_rows::{Applied, ApplyError, Change, Database};
 use ovs_types::{Schema, TxnId};
@@ -91,7 +91,7 @@ fn answer(alloc: Global, applied: &Result<Applied, ApplyError>) -> Result<String
         Ok(applied) => letters(alloc, &applied.copy()?),
         Err(ApplyError::RowThere) => word(alloc, "row-there"),
         Err(ApplyError::NoRow) => word(alloc, "no-row"),
-        Err(ApplyError::NoMemory) => Err(Fault::NoMemory),
+        Err(ApplyError::NoMemory) => Err(Fault::Refused),
     }
 }
 
@@ -139,11 +139,27 @@ fn step(
     apply(alloc, database, &change, id)
 }
 
+// The same. Where there is no memory to apply a change nothing is changed, and it is applied again.
+fn step_again(
+    alloc: Global,
+    database: &mut Database,
+    value: &Value,
+    number: usize,
+) -> Result<String, Fault>
+    ensures schema { database.new.schema ≡ database.old.schema }
+{
+    let answer = step(alloc, database, value, number);
+    if !is_refused(&answer) {
+        return answer;
+    }
+    step(alloc, database, value, number)
+}
+
 fn steps(alloc: Global, database: &mut Database, changes: &[Value]) -> Result<(), Fault>
     ensures schema { database.new.schema ≡ database.old.schema }
 {
     for (number, change) in changes.iter().enumerate() {
-        let _ = step(alloc, database, change, number)?;
+        let _ = step_again(alloc, database, change, number)?;
     }
     Ok(())
 }

@@ -14,11 +14,20 @@ fn flag(is_there: bool, word: &'static str) -> &'static str {
     if is_there { word } else { "" }
 }
 
+// How often something is done at most.
+fn count_told(alloc: Global, count: Option<u32>) -> Result<String, Fault> {
+    match count {
+        Some(count) => Ok(format!(in alloc; "{count}")?),
+        None => word(alloc, "any"),
+    }
+}
+
 // What a source is given.
 fn source_told(alloc: Global, given: &SourceOptions) -> Result<String, Fault> {
     let first_id = given.first_id.to_text(alloc)?;
     let first_row = given.first_row.to_text(alloc)?;
-    let (schema, listen, accepts) = (&given.schema, given.listen, given.accepts);
+    let (schema, listen) = (&given.schema, given.listen);
+    let accepts = count_told(alloc, given.accepts)?;
     let trims = match given.trim_every {
         Some(every) => format!(in alloc; ", trims every {every}")?,
         None => String::new(alloc),
@@ -38,7 +47,8 @@ fn relay_told(alloc: Global, given: &RelayOptions) -> Result<String, Fault> {
         let upstream = format!(in alloc; " {upstream}")?;
         told.push_str(upstream.as_str())?;
     }
-    let (accepts, tries) = (given.accepts, given.tries);
+    let accepts = count_told(alloc, given.accepts)?;
+    let tries = count_told(alloc, given.tries)?;
     let verbose = flag(given.verbose, ", tells");
     let ends = flag(given.end_on_refusal, ", ends on refusal");
     let prunes = flag(given.prunes, ", prunes");

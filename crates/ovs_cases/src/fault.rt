@@ -14,6 +14,10 @@ pub(crate) enum Fault {
     Epoch,
     /// Memory ran out.
     NoMemory,
+    /// It ran out within the call that the case asks for.
+    Refused,
+    /// It ran out within a call, and what the call says then isn't so.
+    Changed,
 }
 
 impl Fault {
@@ -22,9 +26,20 @@ impl Fault {
             Fault::Malformed => "no such case",
             Fault::BadId => "bad-id",
             Fault::Epoch => "epoch",
-            Fault::NoMemory => "no memory",
+            Fault::NoMemory | Fault::Refused => "no memory",
+            Fault::Changed => "changed for want of memory",
         }
     }
+}
+
+/// Whether memory ran out within the call that was asked for.
+pub(crate) fn is_refused<T>(answer: &Result<T, Fault>) -> bool {
+    matches!(answer, Err(Fault::Refused))
+}
+
+/// What is so where memory ran out within a call.
+pub(crate) fn is_so(holds: bool) -> Result<(), Fault> {
+    if holds { Ok(()) } else { Err(Fault::Changed) }
 }
 
 impl From<NoMemory> for Fault {
@@ -37,7 +52,7 @@ impl From<ShownError> for Fault {
     fn from(error: ShownError) -> Fault {
         match error {
             ShownError::Epoch => Fault::Epoch,
-            ShownError::NoMemory => Fault::NoMemory,
+            ShownError::NoMemory => Fault::Refused,
         }
     }
 }

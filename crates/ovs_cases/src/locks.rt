@@ -1,7 +1,7 @@
 //! Locks of a server, asked for one after the other.
 
 use crate::case::{add, list, part, text, word};
-use crate::fault::Fault;
+use crate::fault::{Fault, is_refused};
 use ovs_locks::{LockError, LockNotice, LockTable};
 use ovs_types::Text;
 use serde_json::Value;
@@ -19,7 +19,7 @@ fn asked(alloc: Global, answer: Result<bool, LockError>) -> Result<String, Fault
     match answer {
         Ok(true) => word(alloc, "true"),
         Ok(false) => word(alloc, "false"),
-        Err(LockError::NoMemory) => Err(Fault::NoMemory),
+        Err(LockError::NoMemory) => Err(Fault::Refused),
         Err(LockError::BadLock) => word(alloc, "bad lock"),
         Err(LockError::AlreadyAsked) => word(alloc, "already asked"),
         Err(LockError::TooMany) => word(alloc, "too many requests"),
@@ -42,7 +42,7 @@ fn notice(alloc: Global, notice: &LockNotice) -> Result<String, Fault> {
 
 fn notices(alloc: Global, locks: &mut LockTable, who: u64) -> Result<String, Fault> {
     let mut told = String::from_str(alloc, "told")?;
-    for one in locks.notices(alloc, who)? {
+    for one in locks.notices(alloc, who).ok().ok_or(Fault::Refused)? {
         told.push(' ')?;
         told.push_str(notice(alloc, &one)?.as_str())?;
     }
@@ -77,6 +77,15 @@ fn event(alloc: Global, locks: &mut LockTable, parts: &[Value]) -> Result<String
     }
 }
 
+// The same. Where there is no memory for a call nothing is changed, and it is asked again.
+fn event_again(alloc: Global, locks: &mut LockTable, parts: &[Value]) -> Result<String, Fault> {
+    let answer = event(alloc, locks, parts);
+    if !is_refused(&answer) {
+        return answer;
+    }
+    event(alloc, locks, parts)
+}
+
 /// `["locks", [EVENT, ..]]`, where an event is `["lock", SESSION, NAME]`, `["steal", SESSION, NAME]`, `["unlock", SESSION,
 /// NAME]`, `["owner", NAME]`, `["told", SESSION]` or `["end", SESSION]`: what each answers.
 pub(crate) fn locks(alloc: Global, parts: &[Value]) -> Result<String, Fault> {
@@ -84,7 +93,7 @@ pub(crate) fn locks(alloc: Global, parts: &[Value]) -> Result<String, Fault> {
     let mut answers = String::new(alloc);
     for one in list(parts, 1)? {
         let parts = one.as_array().ok_or(Fault::Malformed)?;
-        let answer = event(alloc, &mut locks, parts.as_slice())?;
+        let answer = event_again(alloc, &mut locks, parts.as_slice())?;
         add(&mut answers, answer.as_str())?;
     }
     Ok(answers)

@@ -20,7 +20,11 @@ pub(crate) fn transact(alloc: Global, schema: &Schema, parts: &[Value]) -> Resul
         return word(alloc, "not read-only");
     }
     let database = after(alloc, schema, list(parts, 1)?)?;
-    let results = transact_read(alloc, &database, operations)?;
+    // Where there is no memory for it, it is asked again.
+    let results = match transact_read(alloc, &database, operations) {
+        Ok(results) => results,
+        Err(_) => transact_read(alloc, &database, operations)?,
+    };
     Ok(results.to_string(alloc)?)
 }
 

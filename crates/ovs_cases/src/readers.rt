@@ -6,7 +6,7 @@ ghost use Rattle.ovs_links.specs.Store.{IsStore};
 ghost use Rattle.ovs_reader.specs.Session.{MayBeShown};
 
 use crate::case::{add, list, text, word};
-use crate::fault::Fault;
+use crate::fault::{Fault, is_refused};
 use crate::folds::{shortened, spelled_out};
 use crate::messages::text_of;
 use crate::stores::take;
@@ -127,6 +127,23 @@ fn event(
     }
 }
 
+// The same. Where there is no memory for a call nothing is changed, and it is asked again.
+fn event_again(
+    alloc: Global,
+    store: &mut LinkStore,
+    session: &mut ReaderSession,
+    one: &Value,
+) -> Result<String, Fault>
+    requires shown { MayBeShown session.old (folded_of store.old.schema store.old.folded) }
+    ensures shown { MayBeShown session.new (folded_of store.new.schema store.new.folded) }
+{
+    let answer = event(alloc, store, session, one);
+    if !is_refused(&answer) {
+        return answer;
+    }
+    event(alloc, store, session, one)
+}
+
 fn new_store(alloc: Global, schema: &Schema) -> Result<(LinkStore, ReaderSession), Fault>
     ensures shown { IfOk result (λ p. MayBeShown p.1 (folded_of p.0.schema p.0.folded)) }
 {
@@ -147,7 +164,7 @@ fn answers(
 {
     let mut answers = String::new(alloc);
     for one in events {
-        let answer = event(alloc, store, session, one)?;
+        let answer = event_again(alloc, store, session, one)?;
         add(&mut answers, answer.as_str())?;
     }
     shortened(alloc, answers.as_str())

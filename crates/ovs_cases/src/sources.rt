@@ -4,7 +4,7 @@ ghost use Rattle.std.specs.Prelude.{IfSome};
 ghost use Rattle.ovs_rows.specs.Change.{IsChangeOf};
 
 use crate::case::{add, list, part, text};
-use crate::fault::Fault;
+use crate::fault::{Fault, is_refused, is_so};
 use ovs_links::Link;
 use ovs_locks::LockTable;
 use ovs_rows::Change;
@@ -43,7 +43,7 @@ fn refusal(error: SourceError) -> Result<&'static str, Fault> {
         SourceError::IdTaken => Ok("id taken"),
         SourceError::RowIdsSpent => Ok("row ids spent"),
         SourceError::Full => Ok("full"),
-        SourceError::NoMemory => Err(Fault::NoMemory),
+        SourceError::NoMemory => Err(Fault::Refused),
     }
 }
 
@@ -93,6 +93,23 @@ fn transaction(
     }
 }
 
+// The same. Where there is no memory for it nothing is committed, and it is asked again.
+fn transaction_again(
+    alloc: Global,
+    source: &mut Source,
+    fresh: &mut FreshRows,
+    locks: &LockTable,
+    parts: &[Value],
+) -> Result<String, Fault> {
+    let held = source.store().len();
+    let answer = transaction(alloc, source, fresh, locks, parts);
+    if !is_refused(&answer) {
+        return answer;
+    }
+    is_so(source.store().len() == held)?;
+    transaction(alloc, source, fresh, locks, parts)
+}
+
 // What each transaction answers, one after another.
 fn transactions(
     alloc: Global,
@@ -104,7 +121,7 @@ fn transactions(
     let mut told = String::new(alloc);
     for one in asked {
         let parts = one.as_array().ok_or(Fault::Malformed)?;
-        let answer = transaction(alloc, source, fresh, locks, parts)?;
+        let answer = transaction_again(alloc, source, fresh, locks, parts)?;
         add(&mut told, answer.as_str())?;
     }
     Ok(told)

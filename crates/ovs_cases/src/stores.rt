@@ -5,7 +5,7 @@ ghost use Rattle.ovs_links.specs.Sets.{IsOfTables};
 ghost use Rattle.ovs_links.specs.Store.{tables_of};
 
 use crate::case::{list, part, text, truth, word};
-use crate::fault::Fault;
+use crate::fault::{Fault, is_refused, is_so};
 use crate::ids::{commit, letter};
 use ovs_links::{By, Link, LinkStore, MergeError, Settled, TakeError, Took};
 use ovs_rows::Change;
@@ -50,7 +50,7 @@ fn refused_text(alloc: Global, error: &TakeError) -> Result<String, Fault> {
             ..
         } => fork_text(alloc, *by, *held_prev, *held_id),
         TakeError::Full { .. } => word(alloc, "full"),
-        TakeError::NoMemory { .. } => Err(Fault::NoMemory),
+        TakeError::NoMemory { .. } => Err(Fault::Refused),
     }
 }
 
@@ -95,7 +95,7 @@ fn append(alloc: Global, store: &mut LinkStore, parts: &[Value]) -> Result<Strin
 fn settle(alloc: Global, store: &mut LinkStore) -> Result<String, Fault>
     ensures tables { tables_of store.new ≡ tables_of store.old }
 {
-    match store.settle(alloc)? {
+    match store.settle(alloc).ok().ok_or(Fault::Refused)? {
         Settled::Done => word(alloc, "done"),
         Settled::Stuck(id) => {
             let id = letter(id);
@@ -145,7 +145,7 @@ fn merge_refusal(alloc: Global, error: &MergeError) -> Result<String, Fault> {
             held_id,
         } => fork_text(alloc, *by, *held_prev, *held_id),
         MergeError::Full => word(alloc, "full"),
-        MergeError::NoMemory => Err(Fault::NoMemory),
+        MergeError::NoMemory => Err(Fault::Refused),
     }
 }
 
@@ -204,6 +204,19 @@ fn event(alloc: Global, store: &mut LinkStore, parts: &[Value]) -> Result<String
     }
 }
 
+// The same. Where there is no memory for a call the links are as they were, and it is asked again.
+fn event_again(alloc: Global, store: &mut LinkStore, parts: &[Value]) -> Result<String, Fault>
+    ensures tables { tables_of store.new ≡ tables_of store.old }
+{
+    let held = store.len();
+    let answer = event(alloc, store, parts);
+    if !is_refused(&answer) {
+        return answer;
+    }
+    is_so(store.len() == held)?;
+    event(alloc, store, parts)
+}
+
 // The head, how many links are held and parked, and of copies of the steps the ids and how many rows each named.
 fn state(alloc: Global, store: &LinkStore) -> Result<String, Fault> {
     let head = letter(store.head());
@@ -226,7 +239,7 @@ fn events(alloc: Global, store: &mut LinkStore, events: &[Value]) -> Result<Stri
     let mut told = String::new(alloc);
     for parts in events {
         let parts = parts.as_array().ok_or(Fault::Malformed)?;
-        let answer = event(alloc, store, parts.as_slice())?;
+        let answer = event_again(alloc, store, parts.as_slice())?;
         told.push_str(answer.as_str())?;
         told.push_str("; ")?;
     }

@@ -80,10 +80,18 @@ fn waiting(alloc: Global, framer: &mut Framer) -> Result<String, Fault> {
     Ok(told)
 }
 
+// What a piece is answered. Where there is no memory nothing of it was taken, and it is fed again.
+fn feed_again(framer: &mut Framer, bytes: &[u8]) -> Result<(), FrameError> {
+    match framer.feed(bytes) {
+        Err(FrameError::NoMemory) => framer.feed(bytes),
+        answer => answer,
+    }
+}
+
 // The word of the answer to a piece.
 fn feed(alloc: Global, framer: &mut Framer, piece: &Value) -> Result<&'static str, Fault> {
     let bytes = bytes_of(alloc, piece)?;
-    match framer.feed(bytes.as_slice()) {
+    match feed_again(framer, bytes.as_slice()) {
         Ok(()) => Ok("ok"),
         Err(fault) => Ok(fault_word(fault)),
     }

@@ -6,7 +6,7 @@ ghost use Rattle.ovs_links.specs.Sets.{AllOf, IsOfTables};
 ghost use Rattle.ovs_upstream.specs.Hearing.{links_in};
 
 use crate::case::{list, text, word};
-use crate::fault::Fault;
+use crate::fault::{Fault, is_refused, is_so};
 use crate::folds::{shortened, spelled_out};
 use crate::ids::commit;
 use crate::messages::text_of;
@@ -15,7 +15,7 @@ use ovs_authority::Answer;
 use ovs_links::Link;
 use ovs_types::Schema;
 use ovs_upstream::{UpError, UpEvent, UpSession};
-use ovs_wire::Message;
+use ovs_wire::{Message, MessageError};
 use serde_json::Value;
 use std::alloc::Global;
 
@@ -24,6 +24,7 @@ pub(crate) fn message_of(alloc: Global, value: &Value) -> Result<Message, Fault>
     let text = spelled_out(alloc, value)?;
     match Message::read(alloc, text.as_bytes()) {
         Ok(message) => Ok(message),
+        Err(MessageError::NoMemory) => Err(Fault::NoMemory),
         Err(_) => Err(Fault::Malformed),
     }
 }
@@ -35,7 +36,7 @@ fn refusal(error: UpError) -> Result<&'static str, Fault> {
         UpError::BadReply => Ok("bad reply"),
         UpError::BadId => Ok("bad id"),
         UpError::Change(fault) => Ok(fault.word()),
-        UpError::NoMemory => Err(Fault::NoMemory),
+        UpError::NoMemory => Err(Fault::Refused),
     }
 }
 
@@ -84,6 +85,39 @@ fn heard(
     }
 }
 
+// Whether there is no memory to hear a message, which changes nothing.
+fn is_unheard(alloc: Global, session: &UpSession, message: &Value) -> Result<bool, Fault> {
+    let message = message_of(alloc, message)?;
+    Ok(matches!(session.hear(alloc, message), Err(UpError::NoMemory)))
+}
+
+// Whether the session is over, which each message is answered then.
+fn is_over(alloc: Global, session: &UpSession, message: &Value) -> Result<bool, Fault> {
+    let message = message_of(alloc, message)?;
+    Ok(matches!(session.hear(alloc, message), Err(UpError::Ended)))
+}
+
+// What a message comes to. Where there is no memory to hear it, it is heard again; where there is none to take it the session is over.
+fn heard_again(
+    alloc: Global,
+    schema: &Schema,
+    session: &mut UpSession,
+    message: &Value,
+) -> Result<String, Fault>
+    requires schema { session.old.schema ≡ schema.now }
+    ensures schema { session.new.schema ≡ schema.now }
+{
+    if is_unheard(alloc, session, message)? {
+        is_so(!is_unheard(alloc, session, message)?)?;
+    }
+    let taken = message_of(alloc, message)?;
+    let answer = heard(alloc, schema, session, taken);
+    if is_refused(&answer) {
+        is_so(is_over(alloc, session, message)?)?;
+    }
+    answer
+}
+
 fn first(alloc: Global, session: &UpSession) -> Result<String, Fault> {
     let requests = session.first_requests(alloc)?;
     match requests.as_slice() {
@@ -102,8 +136,7 @@ fn all(
 {
     let mut answers = first(alloc, session)?;
     for message in messages {
-        let message = message_of(alloc, message)?;
-        let answer = heard(alloc, schema, session, message)?;
+        let answer = heard_again(alloc, schema, session, message)?;
         answers.push_str(" | ")?;
         answers.push_str(answer.as_str().trim())?;
     }

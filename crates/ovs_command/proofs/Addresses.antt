@@ -1,7 +1,7 @@
 -- Addresses that are read one after another.
 use Rattle.std.proofs.Common.{◌≡◌, ◌∙◌, ◌<◌, ◌≤◌, ◌+◌, ℕ, zero, suc, ap, sym, subst, refl, arith, codes, List, [], ◌∷◌, ◌++◌, map, length, take, get_or, Option, Some, None}
 use Rattle.std.specs.Borrow.{Bor}
-use Rattle.std.specs.Prelude.{option_map, option_and_then, find, slice_get, bytes_eq}
+use Rattle.std.specs.Prelude.{option_map, option_and_then, find, slice_get, bytes_eq, Contains}
 use Rattle.std.specs.Option.{unwrap_or}
 use Rattle.std.specs.List.{AllZip}
 use Rattle.std.proofs.Math.Seq.{take-suc}
@@ -11,7 +11,7 @@ use Rattle.std.proofs.lemmas.Slice.Zip.{AllZip-long}
 use Rattle.clap.specs.Words.{Row, Text, all_of}
 use Rattle.ovs_command.specs.declared.command_option.CommandOption.TheVariants.{Upstream}
 use Rattle.ovs_command.specs.declared.command_fault.CommandFault.{CommandFault}
-use Rattle.ovs_command.specs.declared.command_fault.CommandFault.TheVariants.{Usage, Missing, BadValue, OneTooMany, NoMemory}
+use Rattle.ovs_command.specs.declared.command_fault.CommandFault.TheVariants.{Usage, Missing, BadValue, OneTooMany, OwnAddress, NoMemory}
 use Rattle.ovs_command.specs.Values.{SpellsAddress}
 use Rattle.ovs_command.specs.Options.{word_of, words_of, AreUpstreams}
 use Rattle.ovs_command.specs.Faults.{IsFaultOf, IsOneTooMany, IsFaultAmong}
@@ -63,12 +63,14 @@ fifth_fault rows word at NoMemory made = tt
 fifth_fault rows word at (Usage line) made = absurd (let no : Usage line ≡ NoMemory = made in cc)
 fifth_fault rows word at (Missing o) made = absurd (let no : Missing o ≡ NoMemory = made in cc)
 fifth_fault rows word at (BadValue o w) made = absurd (let no : BadValue o w ≡ NoMemory = made in cc)
+fifth_fault rows word at (OwnAddress a) made = absurd (let no : OwnAddress a ≡ NoMemory = made in cc)
 
 -- one of them is no address
 pub address_fault : (rows : List Row) (fault : CommandFault) → IsFaultAmong (words_of Upstream rows) fault → IsFaultOf Upstream rows fault
 address_fault rows (BadValue o w) made = made
 address_fault rows NoMemory made = tt
 address_fault rows (OneTooMany w) made = absurd (let no : OneTooMany w ≡ NoMemory = made in cc)
+address_fault rows (OwnAddress a) made = absurd (let no : OwnAddress a ≡ NoMemory = made in cc)
 address_fault rows (Usage line) made = absurd (let no : Usage line ≡ NoMemory = made in cc)
 address_fault rows (Missing o) made = absurd (let no : Missing o ≡ NoMemory = made in cc)
 
@@ -87,3 +89,13 @@ none_left (x ∷ xs) is = absurd (omega (arith, is))
 pub one_at_least : (n : ℕ) → (n ≡ 0 → ⊥) → 1 ≤ n
 one_at_least zero some = absurd (some refl)
 one_at_least (suc n) some = omega arith
+
+-- a word spells each of them
+pub spelled_at : (words : List Text) (addresses : List SocketAddr) → AllZip SpellsAddress words addresses → (i : ℕ) (d : SocketAddr) → i < length addresses
+    → (word : Text) × Contains words word × SpellsAddress word (get_or addresses i d)
+spelled_at [] [] each i d within = absurd (omega (arith, within))
+spelled_at [] (b ∷ bs) each i d within = absurd each
+spelled_at (w ∷ ws) [] each i d within = absurd each
+spelled_at (w ∷ ws) (b ∷ bs) each zero d within = (w, (zero, omega arith, refl), each.0)
+spelled_at (w ∷ ws) (b ∷ bs) each (suc i) d within =
+    let rest = spelled_at ws bs each.1 i d (omega (arith, within)) in (rest.0, (suc rest.1.0, omega (arith, rest.1.1), rest.1.2), rest.2)

@@ -7,7 +7,7 @@ use Rattle.clap.specs.declared.error.kind.ErrorKind.TheVariants.{DisplayHelp, Di
 use Rattle.ovs_command.specs.declared.command_line.Task.{Task}
 use Rattle.ovs_command.specs.declared.command_line.Task.TheVariants.{Fold, World, Source, Relay, Help, Version}
 use Rattle.ovs_command.specs.declared.command_fault.CommandFault.{CommandFault}
-use Rattle.ovs_command.specs.declared.command_fault.CommandFault.TheVariants.{Usage, Missing, BadValue, OneTooMany, NoMemory}
+use Rattle.ovs_command.specs.declared.command_fault.CommandFault.TheVariants.{Usage, Missing, BadValue, OneTooMany, OwnAddress, NoMemory}
 use Rattle.ovs_command.specs.CommandLine.{AskForText, found_for, is_task, program}
 use Rattle.ovs_command.specs.Faults.{HaveFault, IsRefusal}
 use Rattle.ovs_command.proofs.CommandFaults.{help_is_all, version_is_all}
@@ -57,6 +57,7 @@ module _ (e : Error) (a : App) (words : List Text) (is : a ≡ program) (has : H
   fault_of_error (Err (Missing o)) refusal = absurd refusal
   fault_of_error (Err (BadValue o word)) refusal = absurd refusal
   fault_of_error (Err (OneTooMany word)) refusal = absurd refusal
+  fault_of_error (Err (OwnAddress a)) refusal = absurd refusal
   fault_of_error (Err (Usage line)) refusal = elim found [
     | inl none ↦ absurd (refusal.2 none)
     | inr among ↦ (
@@ -80,6 +81,7 @@ module _ (e : Error) (a : App) (words : List Text) (is : a ≡ program) (has : H
   asked_of_error asks (Err (Missing o)) refusal = absurd refusal
   asked_of_error asks (Err (BadValue o word)) refusal = absurd refusal
   asked_of_error asks (Err (OneTooMany word)) refusal = absurd refusal
+  asked_of_error asks (Err (OwnAddress a)) refusal = absurd refusal
   asked_of_error asks (Err (Usage line)) refusal = absurd ((fault_of_error (Err (Usage line)) refusal).1 asks)
 
   -- where the words are taken, memory ran out
@@ -95,4 +97,5 @@ module _ (e : Error) (a : App) (words : List Text) (is : a ≡ program) (has : H
   memory_of_error none P (Err (Missing o)) refusal = absurd refusal
   memory_of_error none P (Err (BadValue o word)) refusal = absurd refusal
   memory_of_error none P (Err (OneTooMany word)) refusal = absurd refusal
+  memory_of_error none P (Err (OwnAddress a)) refusal = absurd refusal
   memory_of_error none P (Err (Usage line)) refusal = absurd (refusal.2 none)

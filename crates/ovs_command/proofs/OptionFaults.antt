@@ -5,14 +5,15 @@ use Rattle.std.proofs.lemmas.Option.{slice_get_within}
 use Rattle.std.specs.List.{AllZip}
 use Rattle.std.specs.Option.{unwrap_or}
 use Rattle.clap.specs.Words.{Row, Text, first_of}
+use Rattle.std.specs.declared.net.socket_addr.SocketAddr.{SocketAddr}
 use Rattle.ovs_command.specs.declared.command_option.CommandOption.{CommandOption}
 use Rattle.ovs_command.specs.declared.command_option.CommandOption.TheVariants.{Schema, Listen, Upstream, FirstId, FirstRow, TrimEvery, Accepts, Tries}
 use Rattle.ovs_command.specs.declared.command_fault.CommandFault.{CommandFault}
-use Rattle.ovs_command.specs.declared.command_fault.CommandFault.TheVariants.{Usage, Missing, BadValue, OneTooMany, NoMemory}
+use Rattle.ovs_command.specs.declared.command_fault.CommandFault.TheVariants.{Usage, Missing, BadValue, OneTooMany, OwnAddress, NoMemory}
 use Rattle.ovs_command.specs.Values.{SpellsAddress, SpellsCommit, SpellsRow, SpellsCount, SpellsNone}
-use Rattle.ovs_command.specs.Options.{is_count, word_of, words_of, Gives, SpellsOrMost, SpellsIfGiven}
+use Rattle.ovs_command.specs.Options.{is_count, word_of, words_of, Gives, SpellsIfGiven}
 use Rattle.ovs_command.specs.CommandLine.{Found, HasCommand}
-use Rattle.ovs_command.specs.Faults.{IsReadable, IsNoValue, StandsBehind, IsFaultOf, IsFaultOfSource, IsFaultOfRelay, IsFoundReadable, IsNoValueOf, HasOptionFault}
+use Rattle.ovs_command.specs.Faults.{is_of_source, IsReadable, IsNoValue, StandsBehind, IsFaultOf, IsFaultOfSource, IsFaultOfRelay, IsFoundReadable, IsNoValueOf, HasOptionFault}
 
 -- the fault of a number
 pub count_fault : (option : CommandOption) (rows : List Row) (word : Text) → is_count option ≡ true → word_of option rows ≡ Some word → SpellsNone SpellsCount word
@@ -20,6 +21,7 @@ pub count_fault : (option : CommandOption) (rows : List Row) (word : Text) → i
 count_fault option rows word is at none (Usage line) made = absurd (let no : Usage line ≡ NoMemory = made in cc)
 count_fault option rows word is at none (Missing o) made = absurd (let no : Missing o ≡ NoMemory = made in cc)
 count_fault option rows word is at none (OneTooMany w) made = absurd (let no : OneTooMany w ≡ NoMemory = made in cc)
+count_fault option rows word is at none (OwnAddress a) made = absurd (let no : OwnAddress a ≡ NoMemory = made in cc)
 count_fault option rows word is at none NoMemory made = tt
 count_fault TrimEvery rows word is at none (BadValue o w) made = (made.0, at ∙ ap Some (sym made.1), subst (SpellsNone SpellsCount) (sym made.1) none)
 count_fault Accepts rows word is at none (BadValue o w) made = (made.0, at ∙ ap Some (sym made.1), subst (SpellsNone SpellsCount) (sym made.1) none)
@@ -42,11 +44,6 @@ given_alone : {A : Type 0} (Spells : Text → A → Type 0) (option : CommandOpt
     → (word : Text) → word_of option rows ≡ Some word → ¬ (SpellsNone Spells word)
 given_alone Spells option rows value gives word is none =
     none value (subst (λ w. Spells w value) (same_word (word_of option rows) gives.0 word gives.1 is) gives.2)
-
-counted_alone : (o : Option Text) (n : ℕ) → SpellsOrMost o n → (word : Text) → o ≡ Some word → ¬ (SpellsNone SpellsCount word)
-counted_alone None n counts word is none = let no : None ≡ Some word = is in cc
-counted_alone (Some w) n counts word is none =
-    let same : w ≡ word = (let some : Some w ≡ Some word = is in cc) in none n (subst (λ v. SpellsCount v n) same counts)
 
 counted_if_given : (o : Option Text) (n : Option ℕ) → SpellsIfGiven o n → (word : Text) → o ≡ Some word → ¬ (SpellsNone SpellsCount word)
 counted_if_given None n counts word is none = let no : None ≡ Some word = is in cc
@@ -103,8 +100,8 @@ is_value Upstream rows readable word behind none = each_spells SpellsAddress (wo
 is_value FirstId rows readable word behind none = given_alone SpellsCommit FirstId rows readable.0 readable.1 word behind none
 is_value FirstRow rows readable word behind none = given_alone SpellsRow FirstRow rows readable.0 readable.1 word behind none
 is_value TrimEvery rows readable word behind none = counted_if_given (word_of TrimEvery rows) readable.0 readable.1 word behind none
-is_value Accepts rows readable word behind none = counted_alone (word_of Accepts rows) readable.0 readable.1 word behind none
-is_value Tries rows readable word behind none = counted_alone (word_of Tries rows) readable.0 readable.1 word behind none
+is_value Accepts rows readable word behind none = counted_if_given (word_of Accepts rows) readable.0 readable.1 word behind none
+is_value Tries rows readable word behind none = counted_if_given (word_of Tries rows) readable.0 readable.1 word behind none
 
 -- and no upstream is the fifth
 no_fifth : (rows : List Row) → IsReadable Upstream rows → (word : Text) → slice_get (words_of Upstream rows) 4 ≢ Some word
@@ -114,18 +111,26 @@ no_fifth rows readable word fifth =
     let within = slice_get_within (words_of Upstream rows) 4 word fifth in
     absurd (omega arith)
 
--- so nothing is off with it
-pub no_fault : (option : CommandOption) (rows : List Row) (fault : CommandFault) → IsReadable option rows → IsFaultOf option rows fault → fault ≡ NoMemory
-no_fault option rows (Usage line) readable off = absurd off
-no_fault option rows (Missing o) readable off = absurd (is_there option rows off.1 readable off.2)
-no_fault option rows (BadValue o word) readable off = absurd (is_value option rows readable (string_bytes word) off.1 off.2)
-no_fault option rows (OneTooMany word) readable off = absurd (no_fifth rows (subst (λ o. IsReadable o rows) off.0 readable) (string_bytes word) off.1)
-no_fault option rows NoMemory readable off = refl
+-- so nothing is off with it, where no upstream is the relay's own address
+pub no_fault : (option : CommandOption) (rows : List Row) (fault : CommandFault) → ((a : SocketAddr) → ¬ (IsFaultOf option rows (OwnAddress a)))
+    → IsReadable option rows → IsFaultOf option rows fault → fault ≡ NoMemory
+no_fault option rows (Usage line) apart readable off = absurd off
+no_fault option rows (Missing o) apart readable off = absurd (is_there option rows off.1 readable off.2)
+no_fault option rows (BadValue o word) apart readable off = absurd (is_value option rows readable (string_bytes word) off.1 off.2)
+no_fault option rows (OneTooMany word) apart readable off = absurd (no_fifth rows (subst (λ o. IsReadable o rows) off.0 readable) (string_bytes word) off.1)
+no_fault option rows (OwnAddress a) apart readable off = absurd (apart a off)
+no_fault option rows NoMemory apart readable off = refl
+
+-- a source has no upstream
+no_upstream : (option : CommandOption) → is_of_source option ≡ true → option ≢ Upstream
+no_upstream option is upstream = absurd (true≢false (sym is ∙ ap is_of_source upstream))
 
 of_command : (found : Found) (fault : CommandFault) → IsFoundReadable found
     → HasCommand (codes "source") (λ rows. IsFaultOfSource rows fault) found ⊎ HasCommand (codes "relay") (λ rows. IsFaultOfRelay rows fault) found → fault ≡ NoMemory
-of_command found fault readable (inl off) = no_fault off.2.0 off.0 fault (readable.0 off.0 off.1 off.2.0 off.2.1) off.2.2
-of_command found fault readable (inr off) = no_fault off.2.0 off.0 fault (readable.1 off.0 off.1 off.2.0 off.2.1) off.2.2
+of_command found fault readable (inl off) =
+    no_fault off.2.0 off.0 fault (λ a own. no_upstream off.2.0 off.2.1 own.0) (readable.0 off.0 off.1 off.2.0 off.2.1) off.2.2
+of_command found fault readable (inr off) =
+    no_fault off.2.0 off.0 fault (λ a own. readable.2 off.0 off.1 a own.1) (readable.1 off.0 off.1 off.2.0 off.2.1) off.2.2
 
 -- the same of what is found of a command
 pub no_option_fault : (found : Found) (fault : CommandFault) → IsFoundReadable found → HasOptionFault found fault → fault ≡ NoMemory
@@ -134,3 +139,4 @@ no_option_fault found (Usage line) readable off = of_command found (Usage line) 
 no_option_fault found (Missing o) readable off = of_command found (Missing o) readable off
 no_option_fault found (BadValue o word) readable off = of_command found (BadValue o word) readable off
 no_option_fault found (OneTooMany word) readable off = of_command found (OneTooMany word) readable off
+no_option_fault found (OwnAddress a) readable off = of_command found (OwnAddress a) readable off

@@ -5,7 +5,7 @@ use Rattle.clap.specs.Words.{Text, fault_of, subcommand_of}
 use Rattle.ovs_command.specs.declared.command_line.Task.{Task}
 use Rattle.ovs_command.specs.declared.command_line.Task.TheVariants.{Fold, World, Source, Relay, Help, Version}
 use Rattle.ovs_command.specs.declared.command_fault.CommandFault.{CommandFault}
-use Rattle.ovs_command.specs.declared.command_fault.CommandFault.TheVariants.{Usage, Missing, BadValue, OneTooMany, NoMemory}
+use Rattle.ovs_command.specs.declared.command_fault.CommandFault.TheVariants.{Usage, Missing, BadValue, OneTooMany, OwnAddress, NoMemory}
 use Rattle.ovs_command.specs.CommandLine.{Found, Asks, AskToRun, found_for, is_task, program}
 use Rattle.ovs_command.specs.Faults.{CanBeRead, HasOptionFault, HaveFault}
 use Rattle.ovs_command.proofs.OptionFaults.{no_option_fault}
@@ -23,6 +23,7 @@ option_fault words NoMemory nothing off = tt
 option_fault words (Missing o) nothing off = (nothing, off)
 option_fault words (BadValue o word) nothing off = (nothing, off)
 option_fault words (OneTooMany word) nothing off = (nothing, off)
+option_fault words (OwnAddress a) nothing off = (nothing, off)
 option_fault words (Usage line) nothing (inl off) = absurd off.2.2
 option_fault words (Usage line) nothing (inr off) = absurd off.2.2
 

@@ -51,9 +51,10 @@ abbrev pub with_commands : App
 with_commands = with_subcommand (with_subcommand (with_subcommand (with_subcommand (new_app (codes "ovs_relay")) fold_app.top) world_app.top)
     source_app.top) relay_app.top
 
--- the program as `clap` sees it: four commands, of which one has to be named, and a version
+-- the program as `clap` sees it: four commands, of which one has to be named, and a version, which is each command's too
 abbrev pub program : App
-program = record with_commands { top = record with_commands.top { has_version = true; subcommand_required = true; disable_help_subcommand = true } }
+program =
+    record with_commands { top = record with_commands.top { has_version = true; propagate_version = true; subcommand_required = true; disable_help_subcommand = true } }
 
 -- ---- what is asked for
 

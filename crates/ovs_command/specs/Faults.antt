@@ -7,11 +7,11 @@ use Rattle.clap.specs.declared.error.kind.ErrorKind.TheVariants.{DisplayHelp, Di
 use Rattle.ovs_command.specs.declared.command_option.CommandOption.{CommandOption}
 use Rattle.ovs_command.specs.declared.command_option.CommandOption.TheVariants.{Schema, Listen, Upstream, FirstId, FirstRow, TrimEvery, Accepts, Tries}
 use Rattle.ovs_command.specs.declared.command_fault.CommandFault.{CommandFault}
-use Rattle.ovs_command.specs.declared.command_fault.CommandFault.TheVariants.{Usage, Missing, BadValue, OneTooMany, NoMemory}
+use Rattle.ovs_command.specs.declared.command_fault.CommandFault.TheVariants.{Usage, Missing, BadValue, OneTooMany, OwnAddress, NoMemory}
 use Rattle.ovs_command.specs.declared.command_line.Task.{Task}
 use Rattle.ovs_command.specs.declared.command_line.Task.TheVariants.{Help, Version}
 use Rattle.ovs_command.specs.Values.{SpellsAddress, SpellsCommit, SpellsRow, SpellsCount, SpellsNone}
-use Rattle.ovs_command.specs.Options.{is_count, word_of, words_of, Gives, Counts, CountsIfGiven, AreUpstreams}
+use Rattle.ovs_command.specs.Options.{is_count, word_of, words_of, Gives, CountsIfGiven, AreUpstreams}
 use Rattle.ovs_command.specs.CommandLine.{Found, HasCommand, AskForText, program}
 
 -- the exit status beside a fault: 2 a fault of the command line, 3 memory gave out
@@ -42,13 +42,19 @@ IsReadable Upstream rows = (upstreams : List SocketAddr) × AreUpstreams rows up
 IsReadable FirstId rows = (id : ℕ) × Gives SpellsCommit FirstId rows id
 IsReadable FirstRow rows = (id : ℕ) × Gives SpellsRow FirstRow rows id
 IsReadable TrimEvery rows = (n : Option ℕ) × CountsIfGiven TrimEvery rows n
-IsReadable Accepts rows = (n : ℕ) × Counts Accepts rows n
-IsReadable Tries rows = (n : ℕ) × Counts Tries rows n
+IsReadable Accepts rows = (n : Option ℕ) × CountsIfGiven Accepts rows n
+IsReadable Tries rows = (n : Option ℕ) × CountsIfGiven Tries rows n
 
--- the options of `source`, or of `relay`, give values, where that is the command; the other commands have words that give any
+-- an upstream is the address at which the relay listens
+abbrev pub HasOwnAddress : List Row → SocketAddr → Type 0
+HasOwnAddress rows address = Gives SpellsAddress Listen rows address × ((word : Text) × Contains (words_of Upstream rows) word × SpellsAddress word address)
+
+-- the options of `source`, or of `relay`, give values, where that is the command, and no upstream of the latter is its own address; the
+-- other commands have words that give any
 abbrev pub IsFoundReadable : Found → Type 0
 IsFoundReadable found = ((rows : List Row) → found ≡ Some (codes "source", rows) → (option : CommandOption) → IsTrue (is_of_source option) → IsReadable option rows)
     × ((rows : List Row) → found ≡ Some (codes "relay", rows) → (option : CommandOption) → IsTrue (is_of_relay option) → IsReadable option rows)
+    × ((rows : List Row) → found ≡ Some (codes "relay", rows) → (address : SocketAddr) → ¬ (HasOwnAddress rows address))
 
 -- the words behind the options can be read
 abbrev pub CanBeRead : List Text → Type 0
@@ -72,12 +78,13 @@ abbrev pub StandsBehind : CommandOption → List Row → Text → Type 0
 StandsBehind Upstream rows word = Contains (words_of Upstream rows) word
 StandsBehind option rows word = word_of option rows ≡ Some word
 
--- what is off with an option: it isn't there and has to be, a word behind it is no value, or there is a fifth
+-- what is off with an option: it isn't there and has to be, a word behind it is no value, there is a fifth, or it is the relay's own
 abbrev pub IsFaultOf : CommandOption → List Row → CommandFault → Type 0
 IsFaultOf option rows (Usage line) = ⊥
 IsFaultOf option rows (Missing o) = (o ≡ option) × (is_count option ≡ false) × (word_of option rows ≡ None)
 IsFaultOf option rows (BadValue o word) = (o ≡ option) × StandsBehind option rows (string_bytes word) × IsNoValue option (string_bytes word)
 IsFaultOf option rows (OneTooMany word) = (option ≡ Upstream) × (slice_get (words_of Upstream rows) 4 ≡ Some (string_bytes word))
+IsFaultOf option rows (OwnAddress address) = (option ≡ Upstream) × HasOwnAddress rows address
 IsFaultOf option rows NoMemory = Unit {0}
 
 -- an option of `source` is off, or memory ran out

@@ -1,5 +1,5 @@
 -- The options of `source` and `relay`, and what the words behind them give.
-use Rattle.std.specs.Prelude.{◌≡◌, ℕ, ◌≤◌, List, [], length, Option, Some, None, Bool, true, false, codes, bytes_eq, string_bytes}
+use Rattle.std.specs.Prelude.{◌≡◌, ◌≢◌, ℕ, ◌≤◌, List, All, [], length, Option, Some, None, Bool, true, false, codes, bytes_eq, string_bytes}
 use Rattle.std.specs.List.{AllZip}
 use Rattle.std.specs.Option.{option_map_or, unwrap_or}
 use Rattle.std.specs.declared.net.socket_addr.SocketAddr.{SocketAddr}
@@ -45,14 +45,6 @@ has_flag flag rows = option_map_or (λ word. bytes_eq word (codes "true")) (firs
 abbrev pub Gives : {A : Type 0} → (Text → A → Type 0) → CommandOption → List Row → A → Type 0
 Gives Spells option rows value = (word : Text) × (word_of option rows ≡ Some word) × Spells word value
 
--- the number that the word behind an option spells, or 1,000,000 where it isn't there
-abbrev pub SpellsOrMost : Option Text → ℕ → Type 0
-SpellsOrMost None n = n ≡ 1000000
-SpellsOrMost (Some word) n = SpellsCount word n
-
-abbrev pub Counts : CommandOption → List Row → ℕ → Type 0
-Counts option rows n = SpellsOrMost (word_of option rows) n
-
 -- the number that the word behind an option spells, or none where it isn't there
 abbrev pub SpellsIfGiven : Option Text → Option ℕ → Type 0
 SpellsIfGiven None n = n ≡ None
@@ -70,7 +62,7 @@ pub record GiveSource (rows : List Row) (o : SourceOptions) : Type 0 where
   pub first_id : Gives SpellsCommit FirstId rows o.first_id
   pub first_row : Gives SpellsRow FirstRow rows o.first_row
   pub trim_every : CountsIfGiven TrimEvery rows o.trim_every
-  pub accepts : Counts Accepts rows o.accepts
+  pub accepts : CountsIfGiven Accepts rows o.accepts
   pub verbose : o.verbose ≡ has_flag (codes "verbose") rows
 
 -- one to four addresses, in the order of the words
@@ -82,8 +74,9 @@ pub record GiveRelay (rows : List Row) (o : RelayOptions) : Type 0 where
   pub schema : word_of Schema rows ≡ Some (string_bytes o.schema)
   pub listen : Gives SpellsAddress Listen rows o.listen
   pub upstreams : AreUpstreams rows o.upstreams.items
-  pub accepts : Counts Accepts rows o.accepts
-  pub tries : Counts Tries rows o.tries
+  pub others : All (λ upstream. upstream ≢ o.listen) o.upstreams.items
+  pub accepts : CountsIfGiven Accepts rows o.accepts
+  pub tries : CountsIfGiven Tries rows o.tries
   pub verbose : o.verbose ≡ has_flag (codes "verbose") rows
   pub end_on_refusal : o.end_on_refusal ≡ has_flag (codes "end-on-refusal") rows
   pub prunes : o.prunes ≡ has_flag (codes "prune") rows

@@ -5,6 +5,7 @@ ghost use Rattle.ovs_command.specs.Faults.{fault_status};
 
 use crate::command_option::CommandOption;
 use std::alloc::AllocError;
+use std::net::SocketAddr;
 use thiserror::Error;
 
 /// Why a command line asks for nothing. Each is shown as one line.
@@ -22,6 +23,9 @@ pub enum CommandFault {
     /// The fifth upstream.
     #[error("{0:?} is one upstream too many: wanted 1 to 4")]
     OneTooMany(String),
+    /// An upstream of the relay is the address at which it listens.
+    #[error("{0} is the relay's own address: wanted an upstream")]
+    OwnAddress(SocketAddr),
     /// Memory ran out.
     #[error("out of memory")]
     NoMemory,

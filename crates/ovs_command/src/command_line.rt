@@ -88,8 +88,8 @@ fn task_of(alloc: Global, matches: &ArgMatches<'_>) -> Result<Task, CommandFault
 ///
 /// # Errors
 /// `Usage` where the words are no task, as where no command is named, or an option stands twice or has no word after it.
-/// `Missing`, `BadValue` and `OneTooMany` where the words after the options of `source` or `relay` aren't what is wanted. And
-/// `NoMemory`.
+/// `Missing`, `BadValue`, `OneTooMany` and `OwnAddress` where the words after the options of `source` or `relay` aren't what is
+/// wanted. And `NoMemory`.
 pub fn command<S: AsStr>(alloc: Global, words: &[S]) -> Result<Task, CommandFault>
     ensures accepted { takes program (map S.text words.now) ≡ true → CanBeRead (map S.text words.now)
         → IfOk result (AskToRun (map S.text words.now)) × IfErr result (λ fault. fault ≡ CommandFault.NoMemory) }

@@ -21,9 +21,9 @@ pub enum CommandOption {
     FirstRow,
     /// After how many links of one epoch a source begins the next.
     TrimEvery,
-    /// How many connections each thread of readers takes.
+    /// How many connections each thread of readers takes at most.
     Accepts,
-    /// How many connections each thread of an upstream tries.
+    /// How many connections each thread of an upstream tries at most.
     Tries,
 }
 

@@ -7,6 +7,9 @@ ghost use Rattle.ovs_command.specs.CommandLine.{program, fold_app, world_app, so
 use clap::{Arg, ArgAction, Command};
 use std::alloc::{AllocError, Global};
 
+// The program's version, and the logic that it is proved in, by the sum that `rt version` tells.
+const VERSION: &str = "1.0.0 (rattle logic dac8208d650f15bf)";
+
 const MERGE_HELP: &str = "A file of links for a second store, which is merged into the first";
 
 const SCHEMA_HELP: &str = "A file whose first line is the schema";
@@ -25,10 +28,10 @@ const TRIM_EVERY_HELP: &str =
     "After how many commits of one epoch the next begins, 1 to 1000000; where this isn't given there is one alone";
 
 const ACCEPTS_HELP: &str =
-    "How many connections each thread of readers takes, 1 to 1000000, which it is where this isn't given";
+    "How many connections each thread of readers takes, 1 to 1000000; any number where this isn't given";
 
 const TRIES_HELP: &str =
-    "How many connections each thread of an upstream tries, 1 to 1000000, which it is where this isn't given";
+    "How many connections each thread of an upstream tries, 1 to 1000000; any number where this isn't given";
 
 const VERBOSE_HELP: &str = "Tells on standard error what happens";
 
@@ -156,7 +159,8 @@ pub(crate) fn commands<'a>(alloc: Global) -> Result<Command<'a>, AllocError>
     let relay = relay_command(alloc)?;
     Command::new(alloc, "ovs_relay")
         .about("A relay tier for OVSDB")
-        .version("1.0.0")
+        .version(VERSION)
+        .propagate_version(true)
         .subcommand_required(true)
         .disable_help_subcommand(true)
         .bin_name("ovs_relay")?

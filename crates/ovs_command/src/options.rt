@@ -3,13 +3,13 @@
 ghost use Rattle.std.specs.Prelude.{◌≡◌, false, Some, IfOk, IfErr, IsTrue, string_bytes};
 ghost use Rattle.clap.specs.Words.{found_of, rows_of};
 ghost use Rattle.ovs_command.specs.declared.command_option.CommandOption.TheVariants as options;
-ghost use Rattle.ovs_command.specs.Options.{is_count, word_of, has_flag, Gives, Counts, CountsIfGiven, GiveSource, GiveRelay};
+ghost use Rattle.ovs_command.specs.Options.{is_count, word_of, has_flag, Gives, CountsIfGiven, GiveSource, GiveRelay};
 ghost use Rattle.ovs_command.specs.Values.{SpellsAddress, SpellsCommit, SpellsRow};
 ghost use Rattle.ovs_command.specs.Faults.{IsFaultOf, IsFaultOfSource, IsFaultOfRelay, IsNoValueOf};
 
 use crate::command_fault::CommandFault;
 use crate::command_option::CommandOption;
-use crate::upstreams::upstreams_of;
+use crate::upstreams::other_upstreams_of;
 use crate::values::{read_address, read_commit, read_count, read_row};
 use clap::ArgMatches;
 use ovs_data::{RowId, TxnId};
@@ -29,8 +29,8 @@ pub struct SourceOptions {
     pub first_row: RowId,
     /// After how many links of one epoch it begins the next, 1 to 1,000,000; none where it has one epoch alone.
     pub trim_every: Option<u32>,
-    /// How many connections each thread of readers takes, 1 to 1,000,000.
-    pub accepts: u32,
+    /// How many connections each thread of readers takes, 1 to 1,000,000; none where it takes any number.
+    pub accepts: Option<u32>,
     /// Whether to tell what happens.
     pub verbose: bool,
 }
@@ -42,12 +42,13 @@ pub struct RelayOptions {
     pub schema: String,
     /// Where connections are taken, a loopback address.
     pub listen: SocketAddr,
-    /// One to four upstreams at loopback addresses, in the order in which they were given.
+    /// One to four upstreams at loopback addresses, none of which is where connections are taken, in the order in which they were
+    /// given.
     pub upstreams: Vec<SocketAddr>,
-    /// How many connections each thread of readers takes, 1 to 1,000,000.
-    pub accepts: u32,
-    /// How many connections each thread of an upstream tries, 1 to 1,000,000.
-    pub tries: u32,
+    /// How many connections each thread of readers takes, 1 to 1,000,000; none where it takes any number.
+    pub accepts: Option<u32>,
+    /// How many connections each thread of an upstream tries, 1 to 1,000,000; none where it tries any number.
+    pub tries: Option<u32>,
     /// Whether to tell what happens.
     pub verbose: bool,
     /// Whether the program ends once something that an upstream sends is refused.
@@ -123,35 +124,21 @@ fn first_row_of(alloc: Global, found: &ArgMatches<'_>) -> Result<RowId, CommandF
     }
 }
 
-// The number behind this option, `--accepts` or `--tries`.
+// The number behind this option, if it is there.
 fn count_of(
     alloc: Global,
     found: &ArgMatches<'_>,
     option: CommandOption,
-) -> Result<u32, CommandFault>
+) -> Result<Option<u32>, CommandFault>
     requires counts { IsTrue (is_count option) }
-    ensures value { IfOk result (Counts option (rows_of (found_of found.now))) }
+    ensures value { IfOk result (CountsIfGiven option (rows_of (found_of found.now))) }
     ensures fault { IfErr result (IsFaultOf option (rows_of (found_of found.now))) }
 {
     match found.get_str(option.name()) {
-        None => Ok(1_000_000),
-        Some(word) => match read_count(word) {
-            Some(count) => Ok(count),
-            None => Err(no_value(alloc, option, word)),
-        },
-    }
-}
-
-// The number behind `--trim-every`, if it is there.
-fn trim_every_of(alloc: Global, found: &ArgMatches<'_>) -> Result<Option<u32>, CommandFault>
-    ensures value { IfOk result (CountsIfGiven options.TrimEvery (rows_of (found_of found.now))) }
-    ensures fault { IfErr result (IsFaultOf options.TrimEvery (rows_of (found_of found.now))) }
-{
-    match found.get_str(CommandOption::TrimEvery.name()) {
         None => Ok(None),
         Some(word) => match read_count(word) {
             Some(count) => Ok(Some(count)),
-            None => Err(no_value(alloc, CommandOption::TrimEvery, word)),
+            None => Err(no_value(alloc, option, word)),
         },
     }
 }
@@ -179,7 +166,7 @@ pub(crate) fn source_options(
         listen: listen_of(alloc, found)?,
         first_id: first_id_of(alloc, found)?,
         first_row: first_row_of(alloc, found)?,
-        trim_every: trim_every_of(alloc, found)?,
+        trim_every: count_of(alloc, found, CommandOption::TrimEvery)?,
         accepts: count_of(alloc, found, CommandOption::Accepts)?,
         verbose: has_flag(found, "verbose"),
     })
@@ -193,10 +180,12 @@ pub(crate) fn relay_options(
     ensures value { IfOk result (GiveRelay (rows_of (found_of found.now))) }
     ensures fault { IfErr result (IsFaultOfRelay (rows_of (found_of found.now))) }
 {
+    let schema = schema_of(alloc, found)?;
+    let listen = listen_of(alloc, found)?;
     Ok(RelayOptions {
-        schema: schema_of(alloc, found)?,
-        listen: listen_of(alloc, found)?,
-        upstreams: upstreams_of(alloc, found)?,
+        schema,
+        listen,
+        upstreams: other_upstreams_of(alloc, found, listen)?,
         accepts: count_of(alloc, found, CommandOption::Accepts)?,
         tries: count_of(alloc, found, CommandOption::Tries)?,
         verbose: has_flag(found, "verbose"),

@@ -1,10 +1,10 @@
 //! The upstreams of a relay, as they are given.
 
-ghost use Rattle.std.specs.Prelude.{map, IfOk, IfErr};
+ghost use Rattle.std.specs.Prelude.{◌≡◌, ◌≢◌, true, false, map, All, IfOk, IfErr};
 ghost use Rattle.std.specs.List.{AllZip};
 ghost use Rattle.clap.specs.Words.{found_of, rows_of};
 ghost use Rattle.ovs_command.specs.declared.command_option.CommandOption.TheVariants as options;
-ghost use Rattle.ovs_command.specs.Options.{AreUpstreams};
+ghost use Rattle.ovs_command.specs.Options.{AreUpstreams, Gives};
 ghost use Rattle.ovs_command.specs.Values.{SpellsAddress};
 ghost use Rattle.ovs_command.specs.Faults.{IsFaultOf, IsOneTooMany, IsNoAddress, IsFaultAmong};
 
@@ -51,11 +51,8 @@ fn addresses_of(alloc: Global, words: &[&str]) -> Result<Vec<SocketAddr>, Comman
     Ok(addresses)
 }
 
-/// The upstreams that `relay` is given, by what clap finds of it.
-pub(crate) fn upstreams_of(
-    alloc: Global,
-    found: &ArgMatches<'_>,
-) -> Result<Vec<SocketAddr>, CommandFault>
+// The upstreams that `relay` is given, by what clap finds of it.
+fn upstreams_of(alloc: Global, found: &ArgMatches<'_>) -> Result<Vec<SocketAddr>, CommandFault>
     ensures value { IfOk result (λ upstreams. AreUpstreams (rows_of (found_of found.now)) upstreams.items) }
     ensures fault { IfErr result (IsFaultOf options.Upstream (rows_of (found_of found.now))) }
 {
@@ -67,4 +64,32 @@ pub(crate) fn upstreams_of(
         return Err(one_too_many(alloc, word));
     }
     addresses_of(alloc, words)
+}
+
+// Whether two addresses are the same.
+fn is_same(address: SocketAddr, other: SocketAddr) -> bool
+    ensures same { result ≡ true → address ≡ other }
+    ensures another { result ≡ false → address ≢ other }
+{
+    address == other
+}
+
+/// The upstreams that `relay` is given, by what clap finds of it, where it listens at this address, which is none of them.
+pub(crate) fn other_upstreams_of(
+    alloc: Global,
+    found: &ArgMatches<'_>,
+    listen: SocketAddr,
+) -> Result<Vec<SocketAddr>, CommandFault>
+    requires listens { Gives SpellsAddress options.Listen (rows_of (found_of found.now)) listen }
+    ensures value { IfOk result (λ upstreams. AreUpstreams (rows_of (found_of found.now)) upstreams.items) }
+    ensures others { IfOk result (λ upstreams. All (λ upstream. upstream ≢ listen) upstreams.items) }
+    ensures fault { IfErr result (IsFaultOf options.Upstream (rows_of (found_of found.now))) }
+{
+    let upstreams = upstreams_of(alloc, found)?;
+    for upstream in &upstreams {
+        if is_same(*upstream, listen) {
+            return Err(CommandFault::OwnAddress(listen));
+        }
+    }
+    Ok(upstreams)
 }

@@ -17,9 +17,10 @@ AllOf-any S all [] = tt
 AllOf-any S all (x ∷ xs) = (all x, AllOf-any S all xs)
 
 -- what a session added to what was sent may come of the connection
-pub admitted_more : (S : Link → Type 0) (schema : SchemaValue) (asked : ℕ) (remaining : Option (List ℕ)) (old new : List Link) → AdmitsBytes S asked remaining → IfSome remaining (λ bytes. SendsFirst (opening schema asked) bytes old new) → AllOf S old → AllOf S new
-admitted_more S schema asked None old new lawful sends was = AllOf-any S lawful new
-admitted_more S schema asked (Some bytes) old new lawful sends was =
+pub admitted_more : (admits : SchemaValue → Link → Type 0) (schema : SchemaValue) (asked : ℕ) (remaining : Option (List ℕ)) (old new : List Link) → AdmitsBytes admits asked remaining
+    → IfSome remaining (λ bytes. SendsFirst (opening schema asked) bytes old new) → AllOf (admits schema) old → AllOf (admits schema) new
+admitted_more admits schema asked None old new lawful sends was = AllOf-any (admits schema) (lawful schema) new
+admitted_more admits schema asked (Some bytes) old new lawful sends was =
     let links = lawful schema sends.links sends.derived in
-    let first = AllOf-left S sends.first sends.rest (subst (λ ls. AllOf S ls) sends.whole links) in
-    subst (λ ls. AllOf S ls) (sym sends.sent) (AllOf-append S old sends.first was first)
+    let first = AllOf-left (admits schema) sends.first sends.rest (subst (λ ls. AllOf (admits schema) ls) sends.whole links) in
+    subst (λ ls. AllOf (admits schema) ls) (sym sends.sent) (AllOf-append (admits schema) old sends.first was first)

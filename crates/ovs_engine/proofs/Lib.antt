@@ -1,6 +1,9 @@
 pub mod Admitted
+pub mod Agreeing
 pub mod Collected
 pub mod DeskParts
 pub mod LastSteps
+pub mod Lawful
 pub mod Nobody
+pub mod Reports
 pub mod Served

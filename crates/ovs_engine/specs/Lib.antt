@@ -2,3 +2,4 @@ pub mod Collecting
 pub mod Epochs
 pub mod Lines
 pub mod Refusing
+pub mod Reporting

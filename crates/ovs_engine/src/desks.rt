@@ -4,7 +4,6 @@ ghost use Rattle.std.specs.Prelude.{◌≡◌, [], Some, None, IfSome, option_ma
 ghost use Rattle.ovs_authority.specs.declared.ask.Ask.{Ask};
 ghost use Rattle.ovs_service.specs.Replies.{seen_ask};
 
-use crate::crew::SourceDesk;
 use crate::desk_lock::{DeskLock, KnownDesk, UpwardDesk};
 use crate::folding::ring_all;
 use crate::progress::Progress;
@@ -21,6 +20,17 @@ use ovs_views::{NodeName, View, ViewError, ViewSession};
 use ovs_wire::Message;
 use std::alloc::Global;
 use std::snapshot::Snapshot;
+
+/// The desk that passes requests on to the source, with what wakes the workers whose sessions are owed something.
+#[derive(Drop)]
+pub struct SourceDesk<'a, L: UpwardDesk, B: Bell> {
+    /// The desk.
+    pub desk: &'a L,
+    /// The workers' bells.
+    pub bells: &'a [B],
+    /// How far the folder has come, where the node has no other upstream.
+    pub progress: Option<&'a Progress>,
+}
 
 /// The desk as a worker asks it. What is asked wakes the thread that passes it on, or that sends the links which come of it; and
 /// what may make notices due to other sessions wakes all workers.
@@ -143,7 +153,7 @@ pub struct SharedSide<'a, L: UpwardDesk, B: Bell> {
 
 impl<'a, L: UpwardDesk, B: Bell> SharedSide<'a, L, B> {
     /// The side of this desk, or that of an upstream that isn't the source.
-    pub(crate) fn new(alloc: Global, source: Option<SourceDesk<'a, L, B>>) -> SharedSide<'a, L, B>
+    pub fn new(alloc: Global, source: Option<SourceDesk<'a, L, B>>) -> SharedSide<'a, L, B>
         ensures desk { option_map (λ (up : _). up.desk) result.uplink ≡ option_map (λ (s : _). s.desk) source.entry }
         ensures bells { IfSome source.entry (λ s. result.bells ≡ s.bells) }
     {

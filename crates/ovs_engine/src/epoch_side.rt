@@ -32,13 +32,12 @@ impl<'v, K: NodeName, D: SourceSide + Drop> EpochSide<'v, K, D> {
         EpochSide { side, view, start }
     }
 
-    /// The side alone, and where the chain begins of which the session told.
-    pub(crate) fn into_parts(self) -> (D, TxnId)
-        ensures side { result.0 ≡ self.entry.side }
-        ensures start { result.1 ≡ self.entry.start }
+    /// The side alone.
+    pub(crate) fn into_side(self) -> D
+        ensures side { result ≡ self.entry.side }
     {
-        let EpochSide { side, start, .. } = self;
-        (side, start)
+        let EpochSide { side, .. } = self;
+        side
     }
 
     // Where an answer stands that the session heard.

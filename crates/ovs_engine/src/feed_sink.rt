@@ -3,11 +3,11 @@
 ghost use Rattle.std.specs.Prelude.{◌≡◌};
 ghost use Rattle.ovs_links.specs.Sets.{IsOfTables};
 
+use crate::folded_count::FoldedCount;
 use ovs_feed::{FeedEnd, FeedName, FeedQueue};
 use ovs_folder::NodeLink;
 use ovs_follow::LinkSink;
 use ovs_links::Link;
-use ovs_types::TxnId;
 use ovs_views::NodeName;
 use std::sync::Wait;
 
@@ -15,36 +15,35 @@ use std::sync::Wait;
 #[derive(Drop)]
 pub struct FeedSink<'a, K: NodeName, Q: FeedName, R: Wait> {
     end: FeedEnd<NodeLink<K>, Q>,
-    // The id of the link that was sent last, if one was sent by this.
-    last: Option<TxnId>,
     queue: &'a FeedQueue<NodeLink<K>, Q>,
+    counts: &'a FoldedCount,
     rt: &'a R,
 }
 
 impl<'a, K: NodeName, Q: FeedName, R: Wait> FeedSink<'a, K, Q, R> {
-    /// Sends to this end.
+    /// Sends to this end, and counts what is sent.
     pub fn new(
         rt: &'a R,
         queue: &'a FeedQueue<NodeLink<K>, Q>,
+        counts: &'a FoldedCount,
         end: FeedEnd<NodeLink<K>, Q>,
     ) -> FeedSink<'a, K, Q, R>
         ensures end { result.end ≡ end }
     {
         FeedSink {
             end,
-            last: None,
             queue,
+            counts,
             rt,
         }
     }
 
-    /// The end, and the id of the link that was sent last, if one was.
-    pub fn into_parts(self) -> (FeedEnd<NodeLink<K>, Q>, Option<TxnId>)
-        ensures end { result.0 ≡ self.entry.end }
-        ensures last { result.1 ≡ self.entry.last }
+    /// The end.
+    pub fn into_end(self) -> FeedEnd<NodeLink<K>, Q>
+        ensures end { result ≡ self.entry.end }
     {
-        let FeedSink { end, last, .. } = self;
-        (end, last)
+        let FeedSink { end, .. } = self;
+        end
     }
 }
 
@@ -54,8 +53,8 @@ impl<'a, K: NodeName, Q: FeedName, R: Wait> LinkSink for FeedSink<'a, K, Q, R> {
     ghost sent = { λ s. s.end.1 };
 
     fn send(&mut self, link: Link) {
-        let id = link.id();
+        self.counts.note_sending();
         self.end.send(self.rt, self.queue, NodeLink::new(link));
-        self.last = Some(id);
+        self.counts.note_queued();
     }
 }

@@ -4,6 +4,8 @@ ghost use Rattle.std.specs.Prelude.{◌≡◌, []};
 ghost use Rattle.ovs_links.specs.Sets.{AllOf};
 
 use crate::connector::Connector;
+use crate::not_run::NotRun;
+use crate::sender::Sender;
 use ovs_feed::{FeedEnd, FeedName};
 use ovs_folder::NodeLink;
 use ovs_views::NodeName;
@@ -14,7 +16,7 @@ use std::marker::PhantomData;
 pub struct Line<K: NodeName, Q: FeedName, C: Connector> {
     end: FeedEnd<NodeLink<K>, Q>,
     of: PhantomData<C>,
-    ghost admitted: { ∥ AllOf C.admits end.1 ∥₁ },
+    ghost admitted: { ∥ AllOf (C.admits K.schema) end.1 ∥₁ },
 }
 
 impl<K: NodeName, Q: FeedName, C: Connector> Line<K, Q, C> {
@@ -31,7 +33,7 @@ impl<K: NodeName, Q: FeedName, C: Connector> Line<K, Q, C> {
 
     /// An end to which nothing else was sent.
     pub(crate) fn again(end: FeedEnd<NodeLink<K>, Q>) -> Line<K, Q, C>
-        requires admitted { ∥ AllOf C.admits end.1 ∥₁ }
+        requires admitted { ∥ AllOf (C.admits K.schema) end.1 ∥₁ }
         ensures end { result.end ≡ end }
     {
         Line {
@@ -43,9 +45,17 @@ impl<K: NodeName, Q: FeedName, C: Connector> Line<K, Q, C> {
     /// The end.
     pub fn into_end(self) -> FeedEnd<NodeLink<K>, Q>
         ensures end { result ≡ self.end }
-        ensures admitted { ∥ AllOf C.admits result.1 ∥₁ }
+        ensures admitted { ∥ AllOf (C.admits K.schema) result.1 ∥₁ }
     {
         let Line { end, of: _ } = self;
         end
+    }
+}
+
+impl<K: NodeName, Q: FeedName, C: Connector> Sender<K, Q> for Line<K, Q, C> {
+    ghost sends = { λ ls. AllOf (C.admits K.schema) ls };
+
+    fn take_end(self) -> Result<FeedEnd<NodeLink<K>, Q>, NotRun> {
+        Ok(self.into_end())
     }
 }

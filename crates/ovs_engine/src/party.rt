@@ -13,9 +13,16 @@ use std::thread::Threads;
 #[derive(Drop)]
 pub enum Party<U, W> {
     /// It sends links to the node's feed: those of an upstream, or at the source those of its own desk.
-    Upstream(U),
+    Feed(U),
     /// It serves readers.
     Worker(W),
+}
+
+impl<U, W> Party<U, W> {
+    /// Whether it sends links to the node's feed.
+    pub(crate) fn is_feed(&self) -> bool {
+        matches!(self, Party::Feed(_))
+    }
 }
 
 /// Does each job that has a view in a thread of its own, beside what is to be done here.

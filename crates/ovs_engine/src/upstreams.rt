@@ -6,11 +6,12 @@ ghost use Rattle.ovs_engine.specs.Lines.{AdmitsBytes};
 use crate::connector::Connector;
 use crate::epoch_side::EpochSide;
 use crate::feed_sink::FeedSink;
+use crate::folded_count::FoldedCount;
 use crate::line::Line;
 use crate::serving::Feeds;
 use ovs_feed::{FeedName, FeedQueue};
 use ovs_folder::NodeLink;
-use ovs_follow::{Followed, SourceSide, follow_upstream};
+use ovs_follow::{Followed, InputFault, SourceSide, follow_upstream};
 use ovs_hall::Tally;
 use ovs_session::{Ended, Limits};
 use ovs_types::{Schema, TxnId};
@@ -18,21 +19,21 @@ use ovs_views::{Board, NodeName, View, teach};
 use ovs_wire::Counted;
 use std::alloc::Global;
 use std::sync::{Mutex, Wait};
-use std::thread;
-
-// How often the board is asked at most for what a session before sent.
-const TAUGHT_AT_MOST: u32 = 1_000_000;
 
 // How many turns a session with an upstream has: as many as there can be. A session that ends loses the requests that are open,
 // and a busy one would come to the end of fewer.
 const TURNS: u32 = u32::MAX;
 
-/// What follows an upstream: what it sends with, where its connections come from, and the desk's side where it is the source.
+/// What follows an upstream: what it sends with, where its connections come from, and the desk's side, which has a desk where the
+/// upstream is the source.
 #[derive(Drop)]
-pub(crate) struct Upstream<K: NodeName, Q: FeedName, C: Connector + Drop, D: SourceSide + Drop> {
-    pub(crate) line: Line<K, Q, C>,
-    pub(crate) connector: C,
-    pub(crate) source: D,
+pub struct Upstream<K: NodeName, Q: FeedName, C: Connector + Drop, D: SourceSide + Drop> {
+    /// What it sends with.
+    pub line: Line<K, Q, C>,
+    /// Where its connections come from.
+    pub connector: C,
+    /// The desk's side.
+    pub source: D,
 }
 
 /// What the threads of upstreams share.
@@ -43,6 +44,7 @@ pub(crate) struct Follows<'a, K: NodeName, Q: FeedName, R: Wait> {
     pub(crate) schema: &'a Schema,
     pub(crate) queue: &'a FeedQueue<NodeLink<K>, Q>,
     pub(crate) board: &'a Mutex<Board<K>>,
+    pub(crate) counts: &'a FoldedCount,
     pub(crate) limits: Limits,
     pub ghost schema_is: { schema.now ≡ K.schema },
 }
@@ -51,33 +53,12 @@ pub(crate) struct Follows<'a, K: NodeName, Q: FeedName, R: Wait> {
 #[derive(Drop)]
 struct Back<K: NodeName, Q: FeedName, C: Connector, D: SourceSide + Drop> {
     line: Line<K, Q, C>,
-    // The id of the link that was sent last, if one was.
-    last: Option<TxnId>,
-    // Where the chain begins of which it told.
-    start: TxnId,
-    // How it ended, if there was one.
-    ended: Option<Ended>,
+    // How it ended, if there was one, and what was wrong with what the upstream said.
+    ended: Option<(Ended, Option<InputFault>)>,
     source: D,
 }
 
-// Whether the view knows what was sent last of a chain from this start, or never will, since the node's chain begins behind it.
-fn is_taught<K: NodeName>(view: &mut View<K>, last: TxnId, start: TxnId) -> bool {
-    view.knows(last) == Ok(true)
-        || matches!(view.ends(), Ok((begins, _head)) if u128::from(start) < u128::from(begins))
-}
-
 impl<'a, K: NodeName, Q: FeedName, R: Wait> Follows<'a, K, Q, R> {
-    // The view learns what is posted on the board, and again until it knows what was sent last, or the chain of that is over.
-    fn teach(&self, view: &mut View<K>, last: Option<TxnId>, start: TxnId) {
-        for _ in 0..TAUGHT_AT_MOST {
-            teach(self.rt, self.board, view);
-            match last {
-                Some(id) if !is_taught(view, id, start) => thread::yield_now(),
-                _ => break,
-            }
-        }
-    }
-
     // Follows one connection, which was asked for what comes after this id.
     fn follow<C: Connector, D: SourceSide + Drop>(
         &self,
@@ -91,7 +72,7 @@ impl<'a, K: NodeName, Q: FeedName, R: Wait> Follows<'a, K, Q, R> {
     {
         let (reader, writer) = connection;
         let (mut reader, mut writer) = (Counted::new(reader), Counted::new(writer));
-        let sink = FeedSink::new(self.rt, self.queue, line.into_end());
+        let sink = FeedSink::new(self.rt, self.queue, self.counts, line.into_end());
         let followed = follow_upstream(
             self.alloc,
             self.schema,
@@ -108,22 +89,19 @@ impl<'a, K: NodeName, Q: FeedName, R: Wait> Follows<'a, K, Q, R> {
             source,
             counts,
             ended,
+            fault,
             made: _,
         } = followed;
         tally.add(counts);
-        let (end, last) = sink.into_parts();
-        let (source, start) = source.into_parts();
         Back {
-            line: Line::again(end),
-            last,
-            start,
-            ended: Some(ended),
-            source,
+            line: Line::again(sink.into_end()),
+            ended: Some((ended, fault)),
+            source: source.into_side(),
         }
     }
 
-    // The next connection, if it can be had, which is asked for what comes after what the node has folded, once it has folded
-    // what the one before sent.
+    // The next connection, if it can be had, which is asked for what comes after what the node has folded, once the folder is done
+    // with all that those before sent.
     fn follow_next<C: Connector, D: SourceSide + Drop>(
         &self,
         connector: &mut C,
@@ -131,7 +109,8 @@ impl<'a, K: NodeName, Q: FeedName, R: Wait> Follows<'a, K, Q, R> {
         back: Back<K, Q, C, D>,
         tally: &mut Tally,
     ) -> Back<K, Q, C, D> {
-        self.teach(view, back.last, back.start);
+        self.counts.wait_for_sent(self.rt);
+        teach(self.rt, self.board, view);
         let Ok((start, asked)) = view.ends() else {
             return back;
         };
@@ -140,8 +119,8 @@ impl<'a, K: NodeName, Q: FeedName, R: Wait> Follows<'a, K, Q, R> {
         };
         let side = EpochSide::new(back.source, view, start);
         let back = self.follow(asked, connection, back.line, side, tally);
-        if let Some(ended) = back.ended {
-            connector.lost(ended);
+        if let Some((ended, fault)) = back.ended {
+            connector.lost(ended, fault);
         }
         back
     }
@@ -166,8 +145,6 @@ impl<'a, K: NodeName, Q: FeedName, R: Wait, C: Connector + Drop, D: SourceSide +
         } = upstream;
         let mut back = Back {
             line,
-            last: None,
-            start: TxnId::zero(),
             ended: None,
             source,
         };

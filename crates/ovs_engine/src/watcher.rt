@@ -1,14 +1,17 @@
-//! What is told of a node's folder while it runs.
+//! What is told of a node while it runs.
 
 use ovs_folder::RefusedLink;
 
-/// Looks on while a node folds.
+/// Looks on while a node runs.
 pub trait Watcher {
     /// A link was refused: it contradicts a held one, or the store has no room for it.
     fn refused(&self, link: &RefusedLink);
 
     /// There was no memory to fold or to publish what came, which is tried again.
     fn put_off(&self);
+
+    /// No thread sends links to the folder any more, though readers are served.
+    fn feeds_ended(&self);
 }
 
 /// Nobody looks on.
@@ -19,4 +22,6 @@ impl Watcher for Unwatched {
     fn refused(&self, _link: &RefusedLink) {}
 
     fn put_off(&self) {}
+
+    fn feeds_ended(&self) {}
 }

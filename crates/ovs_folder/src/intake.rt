@@ -229,6 +229,7 @@ impl<K: NodeName, Q: FeedName> Intake<K, Q> {
         requires back { length self.feed.returned ≡ self.feed.ends }
         requires drained { IsDrained self.feed }
         ensures store { result.store ≡ self.store }
+        ensures schema { result.store.schema ≡ K.schema }
         ensures counts { (result.forks ≡ self.forks) × (result.short ≡ self.short) × (result.dropped ≡ self.dropped) × (result.refused.items ≡ self.untold) }
         ensures account { IsAccountOf self }
         ensures held { (l : Link) → Holds self.store.links l → WasSent self.feed.returned l }

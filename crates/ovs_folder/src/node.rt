@@ -11,7 +11,8 @@ ghost use Rattle.ovs_links.specs.declared.link.Link.{Link};
 ghost use Rattle.ovs_views.specs.Published.{IsNodeChain, all_with};
 ghost use Rattle.ovs_links.specs.Absorbing.{StepsGoOn, last_chain};
 ghost use Rattle.ovs_links.specs.StepChains.{start_of_steps};
-ghost use Rattle.ovs_folder.specs.InStep.{HasShown, IsAtRest, IsInStep, IsOneChain};
+ghost use Rattle.ovs_folder.specs.InStep.{HasShown, IsInStep, IsOneChain};
+ghost use Rattle.ovs_folder.specs.Nodes.{NodeAtRest, NodeInStep};
 ghost use Rattle.ovs_folder.specs.Ledger.{IsAccountOf, KeepsPruning, TakesOne, TellsMore, WasSent, steps_in};
 
 use crate::intake::{Closed, Intake};
@@ -97,10 +98,10 @@ impl<K: NodeName, Q: FeedName, R: Wait + Drop> Node<K, Q, Handle<K, R>> {
     // Takes what was kept, settles and publishes, and drops old links then.
     #[tactic(auto, using(ovs_links::proofs::AbsorbingLemmas::goes_on))]
     fn work_off(&mut self) -> Result<(), NoMemory>
-        requires in_step { IsInStep (published self.old.publisher.handle) (pending self.old.publisher.handle) self.old.publisher.front self.old.publisher.kept (steps_in self.old.intake.store) }
-        ensures in_step { IsInStep (published self.new.publisher.handle) (pending self.new.publisher.handle) self.new.publisher.front self.new.publisher.kept (steps_in self.new.intake.store) }
+        requires in_step { NodeInStep self.old }
+        ensures in_step { NodeInStep self.new }
         ensures feed { self.new.intake.feed ≡ self.old.intake.feed }
-        ensures rest { OnOk result (IsAtRest self.new.intake self.new.settled (published self.new.publisher.handle)) }
+        ensures rest { OnOk result (NodeAtRest self.new) }
         ensures told { TellsMore self.old.intake self.new.intake }
         ensures pruning { KeepsPruning self.old.intake self.new.intake }
     {
@@ -118,10 +119,10 @@ impl<K: NodeName, Q: FeedName, R: Wait + Drop> Node<K, Q, Handle<K, R>> {
         rt: &W,
         board: &Mutex<Board<K>>,
     ) -> Result<(), NoMemory>
-        requires in_step { IsInStep (published self.old.publisher.handle) (pending self.old.publisher.handle) self.old.publisher.front self.old.publisher.kept (steps_in self.old.intake.store) }
-        ensures in_step { IsInStep (published self.new.publisher.handle) (pending self.new.publisher.handle) self.new.publisher.front self.new.publisher.kept (steps_in self.new.intake.store) }
+        requires in_step { NodeInStep self.old }
+        ensures in_step { NodeInStep self.new }
         ensures feed { self.new.intake.feed ≡ self.old.intake.feed }
-        ensures rest { OnOk result (IsAtRest self.new.intake self.new.settled (published self.new.publisher.handle)) }
+        ensures rest { OnOk result (NodeAtRest self.new) }
         ensures told { TellsMore self.old.intake self.new.intake }
         ensures pruning { KeepsPruning self.old.intake self.new.intake }
     {
@@ -141,9 +142,9 @@ impl<K: NodeName, Q: FeedName, R: Wait + Drop> Node<K, Q, Handle<K, R>> {
         queue: &FeedQueue<NodeLink<K>, Q>,
         board: &Mutex<Board<K>>,
     ) -> Result<bool, NoMemory>
-        requires in_step { IsInStep (published self.old.publisher.handle) (pending self.old.publisher.handle) self.old.publisher.front self.old.publisher.kept (steps_in self.old.intake.store) }
-        ensures in_step { IsInStep (published self.new.publisher.handle) (pending self.new.publisher.handle) self.new.publisher.front self.new.publisher.kept (steps_in self.new.intake.store) }
-        ensures rest { OnOk result (IsAtRest self.new.intake self.new.settled (published self.new.publisher.handle)) }
+        requires in_step { NodeInStep self.old }
+        ensures in_step { NodeInStep self.new }
+        ensures rest { OnOk result (NodeAtRest self.new) }
         ensures once { (self.new.intake.feed ≡ self.old.intake.feed) ⊎ TakesOne self.old.intake.feed self.new.intake.feed }
         ensures popped { result ≡ Ok true → TakesOne self.old.intake.feed self.new.intake.feed }
         ensures drained { result ≡ Ok false → (self.new.intake.feed ≡ self.old.intake.feed) × IsDrained self.old.intake.feed }
@@ -176,8 +177,9 @@ impl<K: NodeName, Q: FeedName, R: Wait + Drop> Node<K, Q, Handle<K, R>> {
     pub fn finish(self) -> Report<K, Handle<K, R>>
         requires back { length self.intake.feed.returned ≡ self.intake.feed.ends }
         requires drained { IsDrained self.intake.feed }
-        requires rest { IsAtRest self.intake self.settled (published self.publisher.handle) }
+        requires rest { NodeAtRest self }
         ensures store { (result.store ≡ self.intake.store) × (result.store.folded ≡ chain_of result.store) }
+        ensures schema { result.store.schema ≡ K.schema }
         ensures settled { result.settled ≡ settled_of result.store }
         // A view that learns what is told answers from all of the chain, and reads on while the publisher lives.
         ensures told { (last_chain result.told ≡ steps_in result.store) × (result.told ≡ published result.publisher.handle) }

@@ -1,9 +1,8 @@
 //! How a node is made.
 
 ghost use Rattle.std.specs.Prelude.{◌≡◌, ◌≢◌, ◌≤◌, ◌↔◌, [], None, false, IfErr, IfOk, MatchResult, OnOk, vec_len};
-ghost use Rattle.left_right.specs.Handles.{published, pending};
-ghost use Rattle.ovs_folder.specs.InStep.{IsInStep};
-ghost use Rattle.ovs_folder.specs.Ledger.{AreCounts, IsFresh, fresh_ends, steps_in};
+ghost use Rattle.ovs_folder.specs.Nodes.{NodeInStep, OpenNodeInStep};
+ghost use Rattle.ovs_folder.specs.Ledger.{AreCounts, IsFresh, fresh_ends};
 
 use crate::intake::Intake;
 use crate::node::Node;
@@ -115,7 +114,7 @@ impl<K: NodeName, R: Wait + Drop> OpenNode<K, Handle<K, R>> {
         ensures count { MatchResult result (λ _. AreCounts upstreams views) (λ e. (e ≡ NodeError.BadCount) ↔ ¬ (AreCounts upstreams views)) }
         ensures counts { IfOk result (λ n. (n.upstreams ≡ upstreams) × (vec_len n.views ≡ views)) }
         ensures store { IfOk result (λ n. IsFresh K.schema n.store) }
-        ensures publisher { IfOk result (λ n. IsInStep (published n.publisher.handle) (pending n.publisher.handle) n.publisher.front n.publisher.kept []) }
+        ensures publisher { IfOk result OpenNodeInStep }
         ensures told { IfOk result (λ n. n.told ≡ []) }
     {
         if upstreams == 0 || upstreams > MAX_UPSTREAMS || views == 0 || views > MAX_VIEWS {
@@ -139,7 +138,7 @@ impl<K: NodeName, R: Wait + Drop> OpenNode<K, Handle<K, R>> {
         ensures error { IfErr result (λ e. e ≢ NodeError.BadCount) }
         ensures counts { IfOk result (λ n. (n.upstreams ≡ upstreams) × (vec_len n.views ≡ views)) }
         ensures store { IfOk result (λ n. IsFresh K.schema n.store) }
-        ensures publisher { IfOk result (λ n. IsInStep (published n.publisher.handle) (pending n.publisher.handle) n.publisher.front n.publisher.kept []) }
+        ensures publisher { IfOk result OpenNodeInStep }
         ensures told { IfOk result (λ n. n.told ≡ []) }
     {
         let (book, told) = opened.named::<StepHistory<K>>();
@@ -169,8 +168,8 @@ impl<K: NodeName, R: Wait + Drop> OpenNode<K, Handle<K, R>> {
         requires table { self.feed.items.table.shared.table_id ≡ Q.table }
         requires upstreams { self.upstreams ≤ 4 }
         requires store { IsFresh K.schema self.store }
-        requires publisher { IsInStep (published self.publisher.handle) (pending self.publisher.handle) self.publisher.front self.publisher.kept [] }
-        ensures in_step { IfOk result (λ p. IsInStep (published p.node.publisher.handle) (pending p.node.publisher.handle) p.node.publisher.front p.node.publisher.kept (steps_in p.node.intake.store)) }
+        requires publisher { OpenNodeInStep self }
+        ensures in_step { IfOk result (λ p. NodeInStep p.node) }
         ensures intake { IfOk result (λ p. p.node.intake ≡ record { store = self.store; feed = record { taken = []; ends = self.upstreams; returned = [] }; kept = None; forks = 0; short = 0; dropped = 0; prunes = false; untold = [] }) }
         ensures ends { IfOk result (λ p. p.ends.items ≡ fresh_ends self.upstreams) }
         ensures views { IfOk result (λ p. p.views.items ≡ self.views.items) }

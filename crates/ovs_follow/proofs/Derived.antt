@@ -30,6 +30,7 @@ use Rattle.ovs_follow.specs.Deriving.{AreRead, AreDerived, IsFirst, SendsFirst, 
 use Rattle.ovs_follow.specs.Telling.{TellsFirst, derived_calls, told, told_after}
 use Rattle.ovs_follow.specs.declared.side_call.SideCall.{SideCall}
 use Rattle.ovs_follow.specs.declared.side_call.SideCall.TheVariants as calls
+use Rattle.ovs_follow.specs.declared.input_fault.InputFault.{InputFault}
 use Rattle.ovs_follow.specs.Followed.{HasFollowed}
 use Rattle.ovs_follow.proofs.Decided.{says_or_none}
 
@@ -274,8 +275,8 @@ module _ (began : FollowingValue) (limit : ℕ) (bytes : List ℕ) (output writt
 
 -- ---- a session from its beginning to its end
 
-module _ (refuses : SourceMessage → Type 0) (began : FollowingValue) (limit : ℕ) (unread output written : Option (List ℕ)) (ended : Ended) (counts : Counts) (sent : List Link) (made : List SideCall) where
-  pub first_of : (input : Option (List ℕ)) → HasFollowed refuses began limit input unread output written ended counts sent made
+module _ (refuses : SourceMessage → Type 0) (began : FollowingValue) (limit : ℕ) (unread output written : Option (List ℕ)) (ended : Ended) (counts : Counts) (sent : List Link) (made : List SideCall) (fault : Option InputFault) where
+  pub first_of : (input : Option (List ℕ)) → HasFollowed refuses began limit input unread output written ended counts sent made fault
       → IfSome input (λ bytes. SendsFirst began.up bytes began.sent sent)
   first_of None f = tt
   first_of (Some bytes) f =
@@ -283,7 +284,7 @@ module _ (refuses : SourceMessage → Type 0) (began : FollowingValue) (limit : 
       let first = sends_first began limit bytes output written f.now d.0 d.1 unread f.moved in
       record { links = d.0; derived = d.1; first = first.0; rest = first.1; whole = first.2; sent = f.sends ∙ first.3 }
 
-  pub all_of : (input : Option (List ℕ)) → HasFollowed refuses began limit input unread output written ended counts sent made → ended ≡ Closed
+  pub all_of : (input : Option (List ℕ)) → HasFollowed refuses began limit input unread output written ended counts sent made fault → ended ≡ Closed
       → IfSome input (λ bytes. SendsAll began.up bytes began.sent sent)
   all_of None f closed = tt
   all_of (Some bytes) f closed =
@@ -291,7 +292,7 @@ module _ (refuses : SourceMessage → Type 0) (began : FollowingValue) (limit : 
       let done = f.closed closed in
       record { links = d.0; derived = d.1; sent = f.sends ∙ sends_all began limit bytes output written f.now d.0 d.1 unread f.moved done.0 done.1 }
 
-  pub told_of : (input : Option (List ℕ)) → began.made ≡ [] → (f : HasFollowed refuses began limit input unread output written ended counts sent made)
+  pub told_of : (input : Option (List ℕ)) → began.made ≡ [] → (f : HasFollowed refuses began limit input unread output written ended counts sent made fault)
       → IfSome input (λ bytes. TellsFirst began.up bytes made)
   told_of None none f = tt
   told_of (Some bytes) none f =

@@ -1,4 +1,5 @@
 pub mod Decided
 pub mod Derived
+pub mod Faults
 pub mod Passed
 pub mod OneLink

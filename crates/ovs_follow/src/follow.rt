@@ -1,17 +1,20 @@
 //! A session with an upstream from one end to the other.
 
-ghost use Rattle.std.specs.Prelude.{◌≡◌, ◌≤◌, [], IfSome};
+ghost use Rattle.std.specs.Prelude.{◌≡◌, ◌≤◌, [], IfSome, None};
 ghost use Rattle.std.specs.Io.KnownBytes.{IsAtEnd};
 ghost use Rattle.ovs_links.specs.Sets.{IsOfTables};
 ghost use Rattle.ovs_links.specs.declared.link.Link.{Link};
 ghost use Rattle.ovs_upstream.specs.Hearing.{opening};
 ghost use Rattle.ovs_follow.specs.Following.{begun};
 ghost use Rattle.ovs_follow.specs.Deriving.{SendsFirst, SendsAll};
+ghost use Rattle.ovs_follow.specs.Faults.{IsFaultIn};
 ghost use Rattle.ovs_follow.specs.Followed.{HasFollowed, FaultsOnly};
 ghost use Rattle.ovs_follow.specs.Telling.{TellsFirst};
 
 use crate::follower::Follower;
 use crate::following::Following;
+use crate::hearing::fault_of_text;
+use crate::input_fault::InputFault;
 use crate::link_sink::LinkSink;
 use crate::side_call::SideCall;
 use crate::source_side::SourceSide;
@@ -35,6 +38,9 @@ pub struct Followed<S: LinkSink, D: SourceSide + Drop> {
     pub counts: Counts,
     /// Why it ended.
     pub ended: Ended,
+    /// What was wrong with what the upstream said, where it ended with `BadInput`; `None` also where there was no memory to look at it
+    /// again.
+    pub fault: Option<InputFault>,
 }
 
 // The same without the side of the source.
@@ -44,6 +50,25 @@ struct Served<S: LinkSink> {
     made: GhostList<SideCall>,
     counts: Counts,
     ended: Ended,
+    fault: Option<InputFault>,
+}
+
+// What was wrong with what the upstream said, where a session ended for that.
+#[tactic(auto, using(crate::proofs::Faults::fault_of_held))]
+fn fault_of<S: LinkSink>(
+    alloc: Global,
+    session: &Session<Following<S>>,
+    ended: Ended,
+) -> Option<InputFault>
+    ensures fault { IfSome result (λ fault. (ended ≡ Ended.BadInput) × IsFaultIn session.now fault) }
+{
+    if ended != Ended::BadInput {
+        return None;
+    }
+    match session.held() {
+        Some(text) => fault_of_text(alloc, session.core().up(), text),
+        None => Some(InputFault::Stream(session.fault()?)),
+    }
 }
 
 // Serves a session that hasn't begun.
@@ -57,19 +82,21 @@ fn serve_new<S: LinkSink, D: SourceSide + Drop, R: Read, W: Write>(
     most_turns: u32,
 ) -> Served<S>
     ensures followed { HasFollowed D.refuses following limits.most_unsent (R.remaining reader.old.device) (R.remaining reader.new.device)
-        (W.contents writer.old.device) (W.contents writer.new.device) result.ended result.counts (S.sent result.sink) result.made }
+        (W.contents writer.old.device) (W.contents writer.new.device) result.ended result.counts (S.sent result.sink) result.made result.fault }
     ensures faults { FaultsOnly result.ended reader.old.failures reader.new.failures writer.old.failures writer.new.failures }
     ensures spent { result.counts.turns ≤ most_turns }
 {
     let mut session = Session::new(alloc, following);
     let ended = serve(&mut session, follower, reader, writer, limits, most_turns);
     let counts = session.counts();
+    let fault = fault_of(alloc, &session, ended);
     let (sink, made) = session.into_core().into_parts();
     Served {
         sink,
         made,
         counts,
         ended,
+        fault,
     }
 }
 
@@ -79,6 +106,7 @@ fn unserved<S: LinkSink>(sink: S) -> Served<S>
     ensures made { result.made ≡ [] }
     ensures counts { result.counts ≡ record { turns = 0; messages = 0; bytes_out = 0 } }
     ensures ended { result.ended ≡ Ended.NoMemory }
+    ensures fault { result.fault ≡ None }
 {
     Served {
         sink,
@@ -89,6 +117,7 @@ fn unserved<S: LinkSink>(sink: S) -> Served<S>
             bytes_out: 0,
         },
         ended: Ended::NoMemory,
+        fault: None,
     }
 }
 
@@ -106,7 +135,7 @@ fn serve_one<S: LinkSink, D: SourceSide + Drop, R: Read, W: Write>(
 ) -> Served<S>
     requires takes { (l : Link) → IsOfTables schema.now.description.tables l → S.takes l }
     ensures followed { HasFollowed D.refuses (begun schema.now asked (S.sent sink)) limits.most_unsent (R.remaining reader.old.device) (R.remaining reader.new.device)
-        (W.contents writer.old.device) (W.contents writer.new.device) result.ended result.counts (S.sent result.sink) result.made }
+        (W.contents writer.old.device) (W.contents writer.new.device) result.ended result.counts (S.sent result.sink) result.made result.fault }
     ensures faults { FaultsOnly result.ended reader.old.failures reader.new.failures writer.old.failures writer.new.failures }
     ensures spent { result.counts.turns ≤ most_turns }
 {
@@ -130,7 +159,7 @@ fn serve_one<S: LinkSink, D: SourceSide + Drop, R: Read, W: Write>(
 ///
 /// - `Closed`: the reader is at its end, all that was read is heard, and all that was said is written.
 /// - `BadInput`: the upstream's bytes have a fault, or a message is none, or is refused by the session (`UpError` of
-///   `ovs_upstream`), or the side of the source refuses a reply.
+///   `ovs_upstream`), or the side of the source refuses a reply; `fault` says which.
 /// - `ReadFault`, `WriteFault`: the last call of the device failed, and was counted as a failure.
 /// - `TurnsSpent`, `NoMemory`.
 pub fn follow_upstream<S: LinkSink, D: SourceSide + Drop, R: Read, W: Write>(
@@ -146,7 +175,7 @@ pub fn follow_upstream<S: LinkSink, D: SourceSide + Drop, R: Read, W: Write>(
 ) -> Followed<S, D>
     requires takes { (l : Link) → IsOfTables schema.now.description.tables l → S.takes l }
     ensures followed { HasFollowed D.refuses (begun schema.now asked (S.sent sink)) limits.most_unsent (R.remaining reader.old.device) (R.remaining reader.new.device)
-        (W.contents writer.old.device) (W.contents writer.new.device) result.ended result.counts (S.sent result.sink) result.made }
+        (W.contents writer.old.device) (W.contents writer.new.device) result.ended result.counts (S.sent result.sink) result.made result.fault }
     ensures sent { IfSome (R.remaining reader.old.device) (λ bytes. SendsFirst (opening schema.now asked) bytes (S.sent sink) (S.sent result.sink)) }
     ensures closed { result.ended ≡ Ended.Closed → IsAtEnd (R.remaining reader.new.device)
         × IfSome (R.remaining reader.old.device) (λ bytes. SendsAll (opening schema.now asked) bytes (S.sent sink) (S.sent result.sink)) }
@@ -175,5 +204,6 @@ pub fn follow_upstream<S: LinkSink, D: SourceSide + Drop, R: Read, W: Write>(
         made: served.made,
         counts: served.counts,
         ended: served.ended,
+        fault: served.fault,
     }
 }

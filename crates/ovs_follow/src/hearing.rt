@@ -1,12 +1,14 @@
 //! What the text of a message comes to.
 
-ghost use Rattle.std.specs.Prelude.{◌≡◌, ◌≤◌, Ok, Err, IfOk, length};
+ghost use Rattle.std.specs.Prelude.{◌≡◌, ◌≤◌, ℕ, List, Ok, Err, IfOk, IfSome, length};
 ghost use Rattle.ovs_wire.specs.Message.{Says};
 ghost use Rattle.ovs_links.specs.Sets.{AllOf, IsOfTables};
 ghost use Rattle.ovs_upstream.specs.Hearing.{hears, links_in};
 ghost use Rattle.ovs_upstream.specs.declared.error.UpError.{UpError};
 ghost use Rattle.ovs_follow.specs.Following.{IsHeard, IsUnheard, SaysNone};
+ghost use Rattle.ovs_follow.specs.Faults.{IsFaultOf, fault_of_heard};
 
+use crate::input_fault::InputFault;
 use ovs_session::Refusal;
 use ovs_upstream::{Heard, UpError, UpSession};
 use ovs_wire::{Message, MessageError};
@@ -55,5 +57,35 @@ pub(crate) fn hear(alloc: Global, up: &UpSession, text: &[u8]) -> Result<Heard, 
     match read(alloc, text) {
         Ok(message) => hear_message(alloc, up, message),
         Err(refusal) => Err(refusal),
+    }
+}
+
+// What is wrong with a message that came to this, where it was refused.
+fn fault_of_heard(heard: &Result<Heard, UpError>) -> Option<InputFault>
+    ensures value { result ≡ fault_of_heard heard.now }
+{
+    match heard {
+        Ok(_) => Some(InputFault::Reply),
+        Err(UpError::NoMemory) => None,
+        Err(error) => Some(InputFault::Message(*error)),
+    }
+}
+
+// What is wrong with a message that the session, or else the side of the source, refused. `None` where memory ran out.
+fn fault_of_message(alloc: Global, up: &UpSession, message: Message) -> Option<InputFault>
+    ensures fault { (text : List ℕ) → Says text message → IfSome result (IsFaultOf up.now text) }
+{
+    let heard = up.hear(alloc, message);
+    fault_of_heard(&heard)
+}
+
+/// What is wrong with a text that was refused. `None` where memory ran out.
+pub(crate) fn fault_of_text(alloc: Global, up: &UpSession, text: &[u8]) -> Option<InputFault>
+    ensures fault { IfSome result (IsFaultOf up.now text.now) }
+{
+    match read(alloc, text) {
+        Ok(message) => fault_of_message(alloc, up, message),
+        Err(Refusal::BadInput) => Some(InputFault::NoMessage),
+        Err(_) => None,
     }
 }

@@ -1,14 +1,17 @@
 //! Why a line has no answer.
 
+use ovs_engine::NotRun;
 use ovs_node::{Gone, NodeError, ViewError};
+use ovs_tier::TierError;
 use ovs_types::NoMemory;
 use std::alloc::{AllocError, AllocFailed};
+use std::io;
 
 #[derive(Clone, Copy, Debug, PartialEq, Eq)]
 pub(crate) enum Fault {
     /// The line asks for nothing that is known here.
     Malformed,
-    /// Not 1 to 4 ends and 1 to 12 views.
+    /// A node isn't made of so many parts.
     BadCount,
     /// A view has no place, or nothing to read.
     NoView,
@@ -16,6 +19,14 @@ pub(crate) enum Fault {
     Unsent,
     /// An end didn't come back, or what it sent wasn't taken.
     NotDrained,
+    /// The system refuses what a node over sockets needs.
+    System,
+    /// A client's connection failed, or a node closed it.
+    Disconnected,
+    /// What a node answered isn't of the protocol.
+    Garbled,
+    /// What a client waited for was never shown.
+    NotShown,
     /// Memory ran out.
     NoMemory,
 }
@@ -28,6 +39,10 @@ impl Fault {
             Fault::NoView => "no view",
             Fault::Unsent => "not sent",
             Fault::NotDrained => "not drained",
+            Fault::System => "no sockets",
+            Fault::Disconnected => "no connection",
+            Fault::Garbled => "not of the protocol",
+            Fault::NotShown => "not shown",
             Fault::NoMemory => "no memory",
         }
     }
@@ -51,6 +66,15 @@ impl<T: Drop> From<AllocFailed<T>> for Fault {
     }
 }
 
+impl From<NotRun> for Fault {
+    fn from(error: NotRun) -> Fault {
+        match error {
+            NotRun::NoMemory => Fault::NoMemory,
+            NotRun::NotBack => Fault::NotDrained,
+        }
+    }
+}
+
 impl From<NodeError> for Fault {
     fn from(error: NodeError) -> Fault {
         match error {
@@ -58,6 +82,23 @@ impl From<NodeError> for Fault {
             NodeError::NoPlace => Fault::NoView,
             NodeError::NoMemory => Fault::NoMemory,
         }
+    }
+}
+
+impl From<TierError> for Fault {
+    fn from(error: TierError) -> Fault {
+        match error {
+            TierError::Listening(_) | TierError::System(_) => Fault::System,
+            TierError::Node(error) => Fault::from(error),
+            TierError::NotBack => Fault::NotDrained,
+            TierError::NoMemory => Fault::NoMemory,
+        }
+    }
+}
+
+impl From<io::Error> for Fault {
+    fn from(_error: io::Error) -> Fault {
+        Fault::Disconnected
     }
 }
 

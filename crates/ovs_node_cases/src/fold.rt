@@ -1,11 +1,9 @@
-//! What the folder's thread does.
+//! What the folder's thread does, and the end of a node.
 
-ghost use Rattle.left_right.specs.Handles.{published, pending};
-ghost use Rattle.ovs_folder.specs.InStep.{IsInStep};
-ghost use Rattle.ovs_folder.specs.Ledger.{steps_in};
+ghost use Rattle.ovs_folder.specs.Nodes.{NodeInStep};
 
 use crate::fault::Fault;
-use crate::jobs::Sent;
+use crate::jobs::{Back, Done};
 use ovs_node::{
     Board, FeedEnd, FeedName, FeedQueue, Handle, Node, NodeLink, NodeName, Report, View,
 };
@@ -21,8 +19,8 @@ pub(crate) fn fold_all<K: NodeName, Q: FeedName, H: Wait + Drop, R: Wait>(
     sending: &AtomicU64,
     node: &mut Node<K, Q, Handle<K, H>>,
 ) -> Result<(), NoMemory>
-    requires in_step { IsInStep (published node.old.publisher.handle) (pending node.old.publisher.handle) node.old.publisher.front node.old.publisher.kept (steps_in node.old.intake.store) }
-    ensures in_step { IsInStep (published node.new.publisher.handle) (pending node.new.publisher.handle) node.new.publisher.front node.new.publisher.kept (steps_in node.new.intake.store) }
+    requires in_step { NodeInStep node.old }
+    ensures in_step { NodeInStep node.new }
 {
     for _ in rt.forever() {
         let is_last = sending.load(Ordering::SeqCst) == 0;
@@ -37,18 +35,18 @@ pub(crate) fn fold_all<K: NodeName, Q: FeedName, H: Wait + Drop, R: Wait>(
     Ok(())
 }
 
-// Takes the ends back in the order of their numbers; the views of their threads go to the others.
+// Takes back what the threads had: the ends in the order of their numbers, and the views.
 fn take_back<K: NodeName, Q: FeedName, H: Wait + Drop>(
     queue: &FeedQueue<NodeLink<K>, Q>,
     node: &mut Node<K, Q, Handle<K, H>>,
-    sent: Vec<Sent<K, Q>>,
+    backs: Vec<Back<K, Q>>,
     views: &mut Vec<View<K>>,
 ) -> Result<(), Fault>
-    requires in_step { IsInStep (published node.old.publisher.handle) (pending node.old.publisher.handle) node.old.publisher.front node.old.publisher.kept (steps_in node.old.intake.store) }
-    ensures in_step { IsInStep (published node.new.publisher.handle) (pending node.new.publisher.handle) node.new.publisher.front node.new.publisher.kept (steps_in node.new.intake.store) }
+    requires in_step { NodeInStep node.old }
+    ensures in_step { NodeInStep node.new }
 {
-    for one in sent {
-        take_one_back(queue, node, one, views)?;
+    for back in backs {
+        take_one_back(queue, node, back, views)?;
     }
     Ok(())
 }
@@ -56,16 +54,18 @@ fn take_back<K: NodeName, Q: FeedName, H: Wait + Drop>(
 fn take_one_back<K: NodeName, Q: FeedName, H: Wait + Drop>(
     queue: &FeedQueue<NodeLink<K>, Q>,
     node: &mut Node<K, Q, Handle<K, H>>,
-    sent: Sent<K, Q>,
+    back: Back<K, Q>,
     views: &mut Vec<View<K>>,
 ) -> Result<(), Fault>
-    requires in_step { IsInStep (published node.old.publisher.handle) (pending node.old.publisher.handle) node.old.publisher.front node.old.publisher.kept (steps_in node.old.intake.store) }
-    ensures in_step { IsInStep (published node.new.publisher.handle) (pending node.new.publisher.handle) node.new.publisher.front node.new.publisher.kept (steps_in node.new.intake.store) }
+    requires in_step { NodeInStep node.old }
+    ensures in_step { NodeInStep node.new }
 {
-    let (end, handle, known, is_whole) = sent;
-    let is_back = is_joined(queue, node, end);
+    let (done, handle, known) = back;
     views.push(View::new(handle, known))?;
-    match (is_back, is_whole) {
+    let Done::Sent(end, is_whole) = done else {
+        return Ok(());
+    };
+    match (is_joined(queue, node, end), is_whole) {
         (true, true) => Ok(()),
         (true, false) => Err(Fault::Unsent),
         (false, _) => Err(Fault::NotDrained),
@@ -78,25 +78,25 @@ fn is_joined<K: NodeName, Q: FeedName, H: Wait + Drop>(
     node: &mut Node<K, Q, Handle<K, H>>,
     end: FeedEnd<NodeLink<K>, Q>,
 ) -> bool
-    requires in_step { IsInStep (published node.old.publisher.handle) (pending node.old.publisher.handle) node.old.publisher.front node.old.publisher.kept (steps_in node.old.intake.store) }
-    ensures in_step { IsInStep (published node.new.publisher.handle) (pending node.new.publisher.handle) node.new.publisher.front node.new.publisher.kept (steps_in node.new.intake.store) }
+    requires in_step { NodeInStep node.old }
+    ensures in_step { NodeInStep node.new }
 {
     node.join(queue, end).is_ok()
 }
 
-/// Takes the ends back, and ends the node.
+/// Takes back what the threads had, and ends the node.
 pub(crate) fn finished<K: NodeName, Q: FeedName, H: Wait + Drop, R: Wait>(
     rt: &R,
     queue: &FeedQueue<NodeLink<K>, Q>,
     board: &Mutex<Board<K>>,
     node: Node<K, Q, Handle<K, H>>,
-    sent: Vec<Sent<K, Q>>,
+    backs: Vec<Back<K, Q>>,
     views: &mut Vec<View<K>>,
 ) -> Result<Report<K, Handle<K, H>>, Fault>
-    requires in_step { IsInStep (published node.publisher.handle) (pending node.publisher.handle) node.publisher.front node.publisher.kept (steps_in node.intake.store) }
+    requires in_step { NodeInStep node }
 {
     let mut node = node;
-    take_back(queue, &mut node, sent, views)?;
+    take_back(queue, &mut node, backs, views)?;
     if node.fold_next(rt, queue, board)? || !node.is_back() {
         return Err(Fault::NotDrained);
     }

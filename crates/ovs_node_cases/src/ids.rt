@@ -11,15 +11,22 @@ const LETTERS: [(&str, &str); 4] = [
     ("d", "dddddddd-dddd-4ddd-8ddd-dddddddddddd"),
 ];
 
-/// The id that a letter stands for; `0` is the start.
-pub(crate) fn commit(letter: &str) -> Result<TxnId, Fault> {
+const START: &str = "00000000-0000-0000-0000-000000000000";
+
+/// How the id is written that a letter stands for; `0` is the start.
+pub(crate) fn text_of(letter: &str) -> Result<&'static str, Fault> {
     if letter == "0" {
-        return Ok(TxnId::zero());
+        return Ok(START);
     }
-    let Some((_, text)) = LETTERS.iter().find(|pair| pair.0 == letter) else {
-        return Err(Fault::Malformed);
-    };
-    TxnId::read(text).map_err(|_| Fault::Malformed)
+    match LETTERS.iter().find(|pair| pair.0 == letter) {
+        Some((_, text)) => Ok(*text),
+        None => Err(Fault::Malformed),
+    }
+}
+
+/// The id that a letter stands for.
+pub(crate) fn commit(letter: &str) -> Result<TxnId, Fault> {
+    TxnId::read(text_of(letter)?).map_err(|_| Fault::Malformed)
 }
 
 /// The letter of an id, `0` for the start and `?` where it has none.
@@ -33,4 +40,23 @@ pub(crate) fn letter(id: TxnId) -> &'static str {
         }
     }
     "?"
+}
+
+/// The number of a letter's commit, from 1 on.
+pub(crate) fn number_of(letter: &str) -> Result<u64, Fault> {
+    match LETTERS.iter().position(|pair| pair.0 == letter) {
+        Some(place) => Ok(place as u64 + 1),
+        None => Err(Fault::Malformed),
+    }
+}
+
+/// The number of the last commit whose id stands in a text, 0 where none does.
+pub(crate) fn last_number_in(text: &str) -> u64 {
+    let mut last = 0;
+    for (place, (_, id)) in LETTERS.iter().enumerate() {
+        if text.contains(*id) {
+            last = place as u64 + 1;
+        }
+    }
+    last
 }

@@ -1,8 +1,9 @@
 //! What the threads beside the folder do. What crosses into a thread and back is told in tuples of what it is made of.
 
-use crate::beside::Work;
+use crate::sendings::Sending;
 use left_right::ReadHandle;
 use ovs_node::{Board, FeedEnd, FeedName, FeedQueue, Front, NodeLink, NodeName, View, teach};
+use ovs_threads::Work;
 use ovs_types::TxnId;
 use ovs_views::Shown;
 use std::sync::atomic::{AtomicU64, Ordering};
@@ -12,28 +13,29 @@ use std::thread;
 // How often an end looks at its view for what it waits for.
 const TURNS: u64 = 1_000_000;
 
-/// An end, the parts of the view with which its thread waits, the links that it is to send, and the head for which it waits
-/// before it sends the link of the same number.
-pub(crate) type Sender<K, Q> = (
-    FeedEnd<NodeLink<K>, Q>,
-    ReadHandle<Shown<K>>,
-    Front<K>,
-    (Vec<NodeLink<K>>, Vec<Option<TxnId>>),
-);
+/// What a thread is to do, with a view.
+#[derive(Drop)]
+pub(crate) enum Task<K: NodeName, Q: FeedName> {
+    /// To send these links by an end of the feed, in order.
+    Send(FeedEnd<NodeLink<K>, Q>, Vec<Sending<K>>),
+    /// To ask for the head again and again, until no thread sends any more.
+    Read,
+}
 
-/// An end that is back with the parts of its view, and whether all was sent.
-pub(crate) type Sent<K, Q> = (
-    FeedEnd<NodeLink<K>, Q>,
-    ReadHandle<Shown<K>>,
-    Front<K>,
-    bool,
-);
+/// What a thread has done.
+#[derive(Drop)]
+pub(crate) enum Done<K: NodeName, Q: FeedName> {
+    /// Whether all was sent by this end.
+    Sent(FeedEnd<NodeLink<K>, Q>, bool),
+    /// How often it was answered.
+    Read(u64),
+}
 
-/// The parts of a view that reads.
-pub(crate) type Reader<K> = (ReadHandle<Shown<K>>, Front<K>);
+/// A task with the parts of the view by which it reads.
+pub(crate) type Job<K, Q> = (Task<K, Q>, ReadHandle<Shown<K>>, Front<K>);
 
-/// The parts of a view that is back, and how often it was answered.
-pub(crate) type Seen<K> = (ReadHandle<Shown<K>>, Front<K>, u64);
+/// What was done, with the parts of the view.
+pub(crate) type Back<K, Q> = (Done<K, Q>, ReadHandle<Shown<K>>, Front<K>);
 
 // Has the view taught by the board until its head is this.
 fn wait_for<K: NodeName, R: Wait>(
@@ -52,9 +54,9 @@ fn wait_for<K: NodeName, R: Wait>(
     false
 }
 
-/// What the threads of the ends share.
+/// What the threads share.
 #[derive(Drop)]
-pub(crate) struct Sends<'a, K: NodeName, Q: FeedName, R> {
+pub(crate) struct Jobs<'a, K: NodeName, Q: FeedName, R> {
     pub(crate) rt: &'a R,
     pub(crate) queue: &'a FeedQueue<NodeLink<K>, Q>,
     pub(crate) board: &'a Mutex<Board<K>>,
@@ -62,15 +64,15 @@ pub(crate) struct Sends<'a, K: NodeName, Q: FeedName, R> {
     pub(crate) sending: &'a AtomicU64,
 }
 
-impl<'a, K: NodeName, Q: FeedName, R: Wait> Sends<'a, K, Q, R> {
+impl<'a, K: NodeName, Q: FeedName, R: Wait> Jobs<'a, K, Q, R> {
     // Waits for what the link waits for, and sends it.
     fn send_one(
         &self,
         end: &mut FeedEnd<NodeLink<K>, Q>,
         view: &mut View<K>,
-        link: NodeLink<K>,
-        after: Option<TxnId>,
+        sending: Sending<K>,
     ) -> bool {
+        let Sending { after, link } = sending;
         if let Some(id) = after {
             if !wait_for(self.rt, self.board, view, id) {
                 return false;
@@ -85,61 +87,63 @@ impl<'a, K: NodeName, Q: FeedName, R: Wait> Sends<'a, K, Q, R> {
         &self,
         end: &mut FeedEnd<NodeLink<K>, Q>,
         view: &mut View<K>,
-        links: Vec<NodeLink<K>>,
-        afters: Vec<Option<TxnId>>,
+        sendings: Vec<Sending<K>>,
     ) -> bool {
         let mut is_whole = true;
-        for (link, after) in links.into_iter().zip(afters) {
-            is_whole = is_whole && self.send_one(end, view, link, after);
+        for sending in sendings {
+            is_whole = is_whole && self.send_one(end, view, sending);
         }
         is_whole
     }
-}
 
-impl<'a, K: NodeName, Q: FeedName, R: Wait> Work<Sender<K, Q>, Sent<K, Q>> for Sends<'a, K, Q, R> {
-    // Rings at last, when one thread fewer sends.
-    fn work(&self, sender: Sender<K, Q>) -> Sent<K, Q> {
-        let (end, handle, known, (links, afters)) = sender;
-        let mut end = end;
-        let mut view = View::new(handle, known);
-        let is_whole = self.send_all(&mut end, &mut view, links, afters);
+    // One thread fewer sends, which the folder is to see.
+    fn leave(&self) {
         self.sending.fetch_sub(1, Ordering::SeqCst);
         self.queue.ring();
-        let (handle, known) = view.into_parts();
-        (end, handle, known, is_whole)
+    }
+
+    // Asks for the head again and again, until no thread sends any more, and gives how often it was told.
+    fn read_on(&self, view: &mut View<K>) -> u64 {
+        let mut answers = 0u64;
+        for _ in self.rt.forever() {
+            if self.sending.load(Ordering::SeqCst) == 0 {
+                break;
+            }
+            if view.head().is_ok() {
+                answers = answers.saturating_add(1);
+            }
+            // A view that loses its processor while it reads holds the folder up for a whole turn of the scheduler.
+            thread::yield_now();
+        }
+        answers
     }
 }
 
-/// What the threads of the other views share.
-#[derive(Drop)]
-pub(crate) struct Reads<'a, R> {
-    pub(crate) rt: &'a R,
-    // How many ends still send.
-    pub(crate) sending: &'a AtomicU64,
-}
-
-// Asks for the head again and again, until no thread sends any more, and gives how often it was told.
-fn read_on<K: NodeName, R: Wait>(rt: &R, sending: &AtomicU64, view: &mut View<K>) -> u64 {
-    let mut answers = 0u64;
-    for _ in rt.forever() {
-        if sending.load(Ordering::SeqCst) == 0 {
-            break;
-        }
-        if view.head().is_ok() {
-            answers = answers.saturating_add(1);
-        }
-        // A view that loses its processor while it reads holds the folder up for a whole turn of the scheduler.
-        thread::yield_now();
-    }
-    answers
-}
-
-impl<'a, K: NodeName, R: Wait> Work<Reader<K>, Seen<K>> for Reads<'a, R> {
-    fn work(&self, reader: Reader<K>) -> Seen<K> {
-        let (handle, known) = reader;
+impl<'a, K: NodeName, Q: FeedName, R: Wait> Work<Job<K, Q>, Back<K, Q>> for Jobs<'a, K, Q, R> {
+    fn work(&self, job: Job<K, Q>) -> Back<K, Q> {
+        let (task, handle, known) = job;
         let mut view = View::new(handle, known);
-        let answers = read_on(self.rt, self.sending, &mut view);
+        let done = match task {
+            Task::Send(mut end, sendings) => {
+                let is_whole = self.send_all(&mut end, &mut view, sendings);
+                self.leave();
+                Done::Sent(end, is_whole)
+            }
+            Task::Read => Done::Read(self.read_on(&mut view)),
+        };
         let (handle, known) = view.into_parts();
-        (handle, known, answers)
+        (done, handle, known)
+    }
+
+    fn refuse(&self, job: Job<K, Q>) -> Back<K, Q> {
+        let (task, handle, known) = job;
+        let done = match task {
+            Task::Send(end, _) => {
+                self.leave();
+                Done::Sent(end, false)
+            }
+            Task::Read => Done::Read(0),
+        };
+        (done, handle, known)
     }
 }

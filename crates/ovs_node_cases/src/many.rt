@@ -3,11 +3,10 @@
 ghost use Rattle.std.specs.Prelude.{◌≡◌, IfOk};
 ghost use Rattle.ovs_links.specs.Sets.{IsOfTables};
 ghost use Rattle.ovs_links.specs.Store.{tables_of};
-ghost use Rattle.ovs_rows.specs.Change.{IsChangeOf};
 
 use crate::fault::Fault;
+use crate::links::read_link;
 use ovs_links::{Link, LinkStore};
-use ovs_rows::Change;
 use ovs_types::{Schema, TxnId};
 use serde_json::Value;
 use std::alloc::Global;
@@ -24,33 +23,21 @@ fn id_after(commits: u64) -> TxnId {
 }
 
 // The change of the commit that comes after so many: the first inserts the row, each later one names it anew.
-fn change_after(alloc: Global, schema: &Schema, commits: u64) -> Result<Change, Fault>
-    ensures tables { IfOk result (IsChangeOf schema.now.description.tables) }
-{
+fn change_after(alloc: Global, commits: u64) -> Result<Value, Fault> {
     let verb = if commits == 0 { "insert" } else { "modify" };
     let text = format!(in alloc;
         "{{\"Port\":{{\"{ROW}\":{{\"{verb}\":{{\"name\":\"p{commits}\"}}}}}}}}"
     )?;
-    let json = Value::from_str(alloc, text.as_str())?;
-    match Change::read(alloc, &json, schema) {
-        Ok(change) => Ok(change),
-        Err(_) => Err(Fault::Malformed),
-    }
+    Ok(Value::from_str(alloc, text.as_str())?)
 }
 
 /// The link that comes after so many commits.
 pub(crate) fn link_after(alloc: Global, schema: &Schema, commits: u64) -> Result<Link, Fault>
     ensures tables { IfOk result (IsOfTables schema.now.description.tables) }
 {
-    let change = change_after(alloc, schema, commits)?;
-    match Link::new(
-        id_after(commits),
-        id_after(commits.saturating_add(1)),
-        change,
-    ) {
-        Ok(link) => Ok(link),
-        Err(_) => Err(Fault::Malformed),
-    }
+    let (prev, id) = (id_after(commits), id_after(commits.saturating_add(1)));
+    let change = change_after(alloc, commits)?;
+    read_link(alloc, schema, prev, id, &change)
 }
 
 /// Makes so many links, and does nothing with them.

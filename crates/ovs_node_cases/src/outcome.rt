@@ -1,19 +1,16 @@
-//! What became of what the ends sent, as text.
+//! What became of a node, as text.
 
 use crate::fault::Fault;
 use crate::ids::letter;
 use ovs_links::Settled;
-use ovs_node::{NodeName, Report, Told, View};
+use ovs_node::{Board, NodeName, Report, Told, View, teach};
+use ovs_query::Select;
 use ovs_types::TxnId;
 use std::alloc::Global;
+use std::sync::{Mutex, Wait};
 
-/// The head of the store, its links, what was refused, whether the chain is whole; and, for each view that is taught what was
-/// told, its head, and how many steps it tells after the first and after the second.
-pub(crate) fn told<K: NodeName, H>(
-    alloc: Global,
-    report: &Report<K, H>,
-    views: Vec<View<K>>,
-) -> Result<String, Fault> {
+// The head of the store, its links, what was refused, and whether the chain is whole.
+fn ended<K: NodeName, H>(alloc: Global, report: &Report<K, H>) -> Result<String, Fault> {
     let store = &report.store;
     let (head, links, chain) = (letter(store.head()), store.len(), store.chain_len());
     let (forks, short) = (report.forks, report.short);
@@ -21,14 +18,39 @@ pub(crate) fn told<K: NodeName, H>(
         Settled::Done => "done",
         Settled::Stuck(_) => "stuck",
     };
-    let mut told = format!(in alloc;
+    Ok(format!(in alloc;
         "head {head} links {links} chain {chain} forks {forks} short {short} {settled}"
-    )?;
+    )?)
+}
+
+// How many steps of a chain from the id 0 a view tells after the first n.
+fn told_after<K: NodeName>(alloc: Global, view: &mut View<K>, n: usize) -> Result<usize, Fault> {
+    let (_start, steps) = view.changes_since(alloc, TxnId::zero(), n)?;
+    Ok(steps.len())
+}
+
+/// How the node ended; and, for each view that is taught what was told, its head, and how many steps it tells after the first
+/// and after the second.
+pub(crate) fn told<K: NodeName, H>(
+    alloc: Global,
+    report: &Report<K, H>,
+    views: Vec<View<K>>,
+) -> Result<String, Fault> {
+    let mut told = ended(alloc, report)?;
     for view in views {
         let seen = seen_by(alloc, &report.told, view)?;
         told.push_str(seen.as_str())?;
     }
     Ok(told)
+}
+
+fn seen_by<K: NodeName>(alloc: Global, told: &Told<K>, view: View<K>) -> Result<String, Fault> {
+    let mut view = view;
+    view.learn(told);
+    let head = letter(view.head()?);
+    let after_first = told_after(alloc, &mut view, 1)?;
+    let after_second = told_after(alloc, &mut view, 2)?;
+    Ok(format!(in alloc; " | {head} {after_first} {after_second}")?)
 }
 
 /// How long the chain is, and how often views answered while links were sent.
@@ -41,17 +63,62 @@ pub(crate) fn measured<K: NodeName, H>(
     Ok(format!(in alloc; "chain {chain} answers {answers}")?)
 }
 
-// How many steps of a chain from the id 0 a view tells after the first n.
-fn told_after<K: NodeName>(alloc: Global, view: &mut View<K>, n: usize) -> Result<usize, Fault> {
-    let (_start, steps) = view.changes_since(alloc, TxnId::zero(), n)?;
-    Ok(steps.len())
+/// What a view that was kept back is asked.
+#[derive(Drop)]
+pub(crate) enum Question {
+    /// For the rows that a select shows.
+    Rows(Select),
+    /// How many steps it tells after the first n.
+    Steps(usize),
 }
 
-fn seen_by<K: NodeName>(alloc: Global, told: &Told<K>, view: View<K>) -> Result<String, Fault> {
+// What a view answers.
+fn answer_of<K: NodeName>(
+    alloc: Global,
+    view: &mut View<K>,
+    question: &Question,
+) -> Result<String, Fault> {
+    match question {
+        Question::Rows(select) => Ok(view.select(alloc, select)?.to_string(alloc)?),
+        Question::Steps(n) => {
+            let steps = told_after(alloc, view, *n)?;
+            Ok(format!(in alloc; "{steps}")?)
+        }
+    }
+}
+
+// What a view answers once the board has taught it.
+fn answers_of<K: NodeName, R: Wait>(
+    rt: &R,
+    alloc: Global,
+    board: &Mutex<Board<K>>,
+    view: View<K>,
+    questions: &[Question],
+) -> Result<String, Fault> {
     let mut view = view;
-    view.learn(told);
-    let head = letter(view.head()?);
-    let after_first = told_after(alloc, &mut view, 1)?;
-    let after_second = told_after(alloc, &mut view, 2)?;
-    Ok(format!(in alloc; " | {head} {after_first} {after_second}")?)
+    teach(rt, board, &mut view);
+    let mut answers = String::from_str(alloc, " |")?;
+    for question in questions {
+        let answer = answer_of(alloc, &mut view, question)?;
+        answers.push_str(" ")?;
+        answers.push_str(answer.as_str())?;
+    }
+    Ok(answers)
+}
+
+/// How the node ended; and what each of these views answers, which the board teaches one after another.
+pub(crate) fn shown<K: NodeName, H, R: Wait>(
+    rt: &R,
+    alloc: Global,
+    board: &Mutex<Board<K>>,
+    report: &Report<K, H>,
+    views: Vec<View<K>>,
+    questions: &[Vec<Question>],
+) -> Result<String, Fault> {
+    let mut shown = ended(alloc, report)?;
+    for (view, questions) in views.into_iter().zip(questions) {
+        let answers = answers_of(rt, alloc, board, view, questions.as_slice())?;
+        shown.push_str(answers.as_str())?;
+    }
+    Ok(shown)
 }

@@ -11,10 +11,6 @@ use Rattle.ovs_authority.specs.declared.ask.Ask.{Ask}
 use Rattle.ovs_authority.specs.declared.ask.Verb.{Verb}
 use Rattle.ovs_authority.specs.declared.ask.Verb.TheVariants as verbs
 use Rattle.ovs_json.specs.declared.no_memory.NoMemory.{NoMemory}
-use Rattle.ovs_types.specs.Schema.{SchemaValue}
-use Rattle.ovs_links.specs.Sets.{IsOfTables}
-use Rattle.ovs_links.specs.Store.{tables_of}
-use Rattle.ovs_links.specs.declared.link.Link.{Link}
 use Rattle.ovs_links.specs.declared.step.Step.{Step}
 use Rattle.ovs_source.specs.SourceDesk.{Desk, owing_of}
 use Rattle.ovs_views.specs.Published.{is_shown}
@@ -99,12 +95,3 @@ pub given_some : (who : ℕ) (known now : List SourceStep) (o : Option Message) 
     → IfSome o (λ m. IsGiven (λ s. EndsWith s known now) who (Some m))
 given_some who known now None ends = tt
 given_some who known now (Some m) ends = ends
-
--- ---- links
-
--- a link that is taken out ends a run of the desk, and is of the tables of its schema
-pub taken : (start : Desk) (schema : SchemaValue) → start.source.schema ≡ schema → (before after : RecordedValue) (o : Option Link) → IsStep start (steps.TookLink o) before after
-    → IfSome o (IsOfTables (tables_of start.source)) → IfSome o (λ l. EndsRun start (steps.TookLink (Some l)) × IsOfTables schema.description.tables l)
-taken start schema same before after None is of = tt
-taken start schema same before after (Some l) is of =
-    (ends_run start (steps.TookLink (Some l)) before after is, subst (λ (x : SchemaValue). IsOfTables x.description.tables l) same of)

@@ -1,2 +1,2 @@
 pub mod LastSteps
-pub mod SentLinks
+pub mod Reports

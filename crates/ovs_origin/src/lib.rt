@@ -5,13 +5,11 @@
 mod locked_source;
 mod origin_desk;
 mod sending;
-mod source_crew;
 mod source_line;
 mod source_threads;
 
 pub use locked_source::LockedSource;
 pub use origin_desk::OriginDesk;
 pub use sending::{SourceFollowed, follow_source};
-pub use source_crew::{SourceCrew, SourceParts};
 pub use source_line::{SourceLine, SourceSent};
-pub use source_threads::{NotRunSource, RanSource, SharedSource, run_source};
+pub use source_threads::run_source;

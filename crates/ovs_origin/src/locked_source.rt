@@ -1,11 +1,12 @@
 //! A source's desk behind a lock.
 
-ghost use Rattle.std.specs.Prelude.{◌≡◌, Some, None, Ok, true, false, IfOk, IfSome};
+ghost use Rattle.std.specs.Prelude.{◌≡◌, ◌++◌, ◌∷◌, [], Some, None, Ok, true, false, IfOk, IfSome, MatchOption};
 ghost use mathlib.Core.List.{IsPrefix};
 ghost use Rattle.std.specs.Coded.{Coded-set};
 ghost use Rattle.std.specs.Option.{ForSome};
 ghost use Rattle.ovs_links.specs.Sets.{IsOfTables};
 ghost use Rattle.ovs_recorded_source.specs.Steps.{EndsRun, EndsWith, IsAsked, IsGiven};
+ghost use Rattle.ovs_recorded_source.specs.Taking.{AreTaken};
 ghost use Rattle.ovs_recorded_source.specs.Waiting.{next_standing};
 ghost use Rattle.ovs_recorded_source.specs.declared.step.SourceStep.TheVariants as steps;
 ghost use Rattle.ovs_types.specs.contracts.schema.Schema as schema;
@@ -20,7 +21,7 @@ use ovs_engine::{DeskLock, KnownDesk};
 use ovs_hall::Bell;
 use ovs_json::NoMemory;
 use ovs_links::Link;
-use ovs_recorded_source::{RecordedSource, SourceFront, SourceName};
+use ovs_recorded_source::{RecordedSource, SourceFront, SourceName, TakenLinks};
 use ovs_views::{Gone, NodeName, View, ViewError, ViewSession};
 use ovs_wire::Message;
 use std::alloc::Global;
@@ -215,17 +216,28 @@ impl<'a, K: NodeName, N: SourceName, R: Wait> Bell for LockedSource<'a, K, N, R>
     }
 }
 
-impl<'a, K: NodeName, N: SourceName, R: Wait> OriginDesk<K> for LockedSource<'a, K, N, R> {
-    ghost gives = { λ l. EndsRun N.start (steps.TookLink (Some l)) };
+impl<'a, K: NodeName, N: SourceName, R: Wait> OriginDesk<K, TakenLinks<N>>
+    for LockedSource<'a, K, N, R> {
+    ghost use Rattle.ovs_origin.specs.NoneTaken.{none_taken};
 
-    fn next_link(&self, known: &mut SourceFront<N>) -> Option<Link>
-        ensures given { IfSome result (λ l. EndsRun N.start (steps.TookLink (Some l)) × IsOfTables K.schema.description.tables l) }
-        ensures ends { EndsWith (steps.TookLink result) known.old known.new }
+    ghost links = { λ taken. taken };
+
+    ghost gives = { λ ls. AreTaken N.start K.schema.description.tables ls };
+
+    fn next_link(&self, taken: &mut TakenLinks<N>) -> Option<Link>
+        ensures next { MatchOption result (taken.new ≡ taken.old) (λ l. taken.new ≡ taken.old ++ l ∷ []) }
+        ensures given { AreTaken N.start K.schema.description.tables taken.new }
+        ensures tables { IfSome result (IsOfTables K.schema.description.tables) }
     {
-        self.desk.lock(self.rt).next_link(self.rt, known)
+        let mut desk = self.desk.lock(self.rt);
+        taken.take(self.rt, &mut *desk)
     }
 
     fn wait(&self) {
         self.bell.park(self.rt);
     }
+
+    ghost gives_none = { none_taken N.start K.schema.description.tables };
+
+    ghost gives_first = { λ ls taken. taken.first };
 }

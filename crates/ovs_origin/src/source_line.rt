@@ -1,61 +1,114 @@
 //! What the thread of a source's desk sends with.
 
-ghost use Rattle.std.specs.Prelude.{◌≡◌, []};
-ghost use Rattle.ovs_links.specs.Sets.{AllOf};
+ghost use Rattle.std.specs.Prelude.{◌≡◌, [], IfOk, OnOk};
+ghost use Rattle.std.specs.Coded.{Coded-set, coded_list};
+ghost use Rattle.ovs_links.specs.contracts.link.Link as link;
+ghost use Rattle.ovs_session.specs.declared.ended.Ended.{Ended};
 
 use crate::origin_desk::OriginDesk;
+use ovs_engine::{NotRun, Sender};
 use ovs_feed::{FeedEnd, FeedName};
 use ovs_folder::NodeLink;
 use ovs_session::Ended;
 use ovs_views::NodeName;
 use std::marker::PhantomData;
 
-/// An end of a node's feed, to which nothing was sent but links that the source's desk may give.
+/// An end of a node's feed to which nothing was sent, and what the links are taken out of the source's desk with.
 #[derive(Drop)]
-pub struct SourceLine<K: NodeName, Q: FeedName, L: OriginDesk<K>> {
+pub struct SourceLine<K: NodeName, Q: FeedName, T: Drop, L: OriginDesk<K, T>> {
     end: FeedEnd<NodeLink<K>, Q>,
+    taken: T,
     of: PhantomData<L>,
-    ghost admitted: { ∥ AllOf L.gives end.1 ∥₁ },
+    ghost unsent: { end.1 ≡ [] } by { Coded-set (coded_list link.the_row.coded) end.1 [] },
+    ghost untaken: { L.links taken ≡ [] } by { Coded-set (coded_list link.the_row.coded) (L.links taken) [] },
 }
 
-/// What is left of it once nothing more is sent.
+/// What is left of it once nothing more is sent: what was sent is all that was taken out of the source's desk, in order.
 #[derive(Drop)]
-pub struct SourceSent<K: NodeName, Q: FeedName, L: OriginDesk<K>> {
-    /// What the links were sent with.
-    pub line: SourceLine<K, Q, L>,
-    /// `Closed` where its thread came to its end, and `NoMemory` where there was no memory for one, so that none was sent.
-    pub ended: Ended,
+pub struct SourceSent<K: NodeName, Q: FeedName, T: Drop, L: OriginDesk<K, T>> {
+    end: FeedEnd<NodeLink<K>, Q>,
+    // `Closed` where its thread came to its end, and `NoMemory` where there was no memory for one, so that none was sent.
+    ended: Ended,
+    of: PhantomData<L>,
+    by: PhantomData<T>,
+    ghost given: { ∥ L.gives end.1 ∥₁ },
 }
 
-impl<K: NodeName, Q: FeedName, L: OriginDesk<K>> SourceLine<K, Q, L> {
-    /// An end to which nothing was sent.
-    pub fn new(end: FeedEnd<NodeLink<K>, Q>) -> SourceLine<K, Q, L>
+impl<K: NodeName, Q: FeedName, T: Drop, L: OriginDesk<K, T>> SourceLine<K, Q, T, L> {
+    /// An end to which nothing was sent, and a desk that nothing was taken out of.
+    pub fn new(end: FeedEnd<NodeLink<K>, Q>, taken: T) -> SourceLine<K, Q, T, L>
         requires unsent { end.1 ≡ [] }
+        requires untaken { L.links taken ≡ [] }
         ensures end { result.end ≡ end }
     {
         SourceLine {
             end,
+            taken,
             of: PhantomData,
         }
     }
 
-    /// An end to which nothing else was sent.
-    pub(crate) fn again(end: FeedEnd<NodeLink<K>, Q>) -> SourceLine<K, Q, L>
-        requires admitted { ∥ AllOf L.gives end.1 ∥₁ }
+    /// The end, and what the links are taken out with.
+    pub(crate) fn into_parts(self) -> (FeedEnd<NodeLink<K>, Q>, T)
+        ensures end { result.0 ≡ self.end }
+        ensures unsent { result.0.1 ≡ [] }
+        ensures untaken { L.links result.1 ≡ [] }
+    {
+        let SourceLine { end, taken, of: _ } = self;
+        (end, taken)
+    }
+
+    /// What is left where there is no thread for it.
+    pub(crate) fn into_refused(self) -> SourceSent<K, Q, T, L>
+        ensures ended { result.ended ≡ Ended.NoMemory }
+    {
+        let SourceLine {
+            end,
+            taken: _,
+            of: _,
+        } = self;
+        SourceSent {
+            end,
+            ended: Ended::NoMemory,
+            of: PhantomData,
+            by: PhantomData,
+        }
+    }
+}
+
+impl<K: NodeName, Q: FeedName, T: Drop, L: OriginDesk<K, T>> SourceSent<K, Q, T, L> {
+    /// All was sent that the desk gave.
+    pub(crate) fn new(end: FeedEnd<NodeLink<K>, Q>) -> SourceSent<K, Q, T, L>
+        requires given { ∥ L.gives end.1 ∥₁ }
         ensures end { result.end ≡ end }
     {
-        SourceLine {
+        SourceSent {
             end,
+            ended: Ended::Closed,
             of: PhantomData,
+            by: PhantomData,
         }
     }
+}
 
-    /// The end.
-    pub fn into_end(self) -> FeedEnd<NodeLink<K>, Q>
-        ensures end { result ≡ self.end }
-        ensures admitted { ∥ AllOf L.gives result.1 ∥₁ }
+impl<K: NodeName, Q: FeedName, T: Drop, L: OriginDesk<K, T>> Sender<K, Q>
+    for SourceSent<K, Q, T, L> {
+    ghost sends = { λ ls. L.gives ls };
+
+    // Where there was no thread nothing was sent, though the desk may have made links.
+    fn take_end(self) -> Result<FeedEnd<NodeLink<K>, Q>, NotRun>
+        ensures sent { IfOk result (λ end. ∥ L.gives end.1 ∥₁) }
+        ensures whole { OnOk result (self.ended ≡ Ended.Closed) }
     {
-        let SourceLine { end, of: _ } = self;
-        end
+        let SourceSent {
+            end,
+            ended,
+            of: _,
+            by: _,
+        } = self;
+        match ended {
+            Ended::Closed => Ok(end),
+            _ => Err(NotRun::NoMemory),
+        }
     }
 }

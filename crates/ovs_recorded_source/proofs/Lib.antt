@@ -5,3 +5,4 @@ pub mod Listing
 pub mod Making
 pub mod Recording
 pub mod Sending
+pub mod Taking

@@ -15,6 +15,8 @@ use Rattle.ovs_recorded_source.specs.contracts.holding_desk.HoldingDesk as holdi
 use Rattle.ovs_recorded_source.specs.contracts.holding_desk.HoldingDesk.TheInside as holding_desk_inside
 use Rattle.ovs_recorded_source.specs.contracts.recorded_source.RecordedSource as recorded_source
 use Rattle.ovs_recorded_source.specs.contracts.recorded_source.RecordedSource.TheInside as recorded_source_inside
+use Rattle.ovs_recorded_source.specs.contracts.taken_links.TakenLinks as taken_links
+use Rattle.ovs_recorded_source.specs.contracts.taken_links.TakenLinks.TheInside as taken_links_inside
 use Rattle.ovs_recorded_source.specs.contracts.waiting.WaitingReplies as waiting_replies
 use Rattle.ovs_recorded_source.specs.declared.name.SourceName.{Ghosts}
 
@@ -30,4 +32,11 @@ recorded_source_sends N name desk = view_send _ _ _ _ _ (inside_sends desk)
   where
     inside_sends : IsSend holding_desk.the_row → IsSend (recorded_source_inside.the_row N name)
     inside_sends desk = declared_send (recorded_source_inside.the_type N name)
-        (desk, (search (book.the_send, sendable, heap.crosses) depth 20, (search (front.the_send, sendable, heap.crosses, as_row_send) depth 20, tt)))
+        (desk, (search (book.the_send, sendable, heap.crosses) depth 20, (search (front.the_send, sendable, heap.crosses, as_row_send) depth 20, (search (sendable, as_row_send) depth 20, tt))))
+
+pub taken_links_send : (N : RattleType) (name : Ghosts N.Denot) → IsSend (taken_links.the_row N name)
+taken_links_send N name = view_send _ _ _ _ _ inside_sends
+  where
+    inside_sends : IsSend (taken_links_inside.the_row N name)
+    inside_sends = declared_send (taken_links_inside.the_type N name)
+        (search (front.the_send, sendable, heap.crosses, as_row_send) depth 20, (search (sendable, as_row_send) depth 20, tt))

@@ -1,4 +1,5 @@
 pub mod Accounts
 pub mod Nobody
 pub mod Steps
+pub mod Taking
 pub mod Waiting

@@ -5,6 +5,7 @@ ghost use Rattle.ovs_authority.specs.Answers.{reply_of};
 ghost use Rattle.ovs_links.specs.Sets.{IsOfTables};
 ghost use Rattle.ovs_links.specs.Store.{tables_of};
 ghost use Rattle.ovs_source.specs.Replying.{RepliesTo};
+ghost use Rattle.ovs_source.specs.SourceDesk.{KeepsTaken};
 ghost use Rattle.ovs_recorded_source.specs.Steps.{Asks, Begins, Collects, Ends, Gives, Takes, IsTransaction, first_link, given_at_once, link_behind};
 ghost use Rattle.ovs_recorded_source.specs.Waiting.{next_standing, replies_at};
 
@@ -62,6 +63,7 @@ fn answer_of(
 ) -> Result<(Answer, Id), NoMemory>
     ensures answer { IfOk result (λ r. RepliesTo desk.old who ask.verb r.0 desk.new) }
     ensures id { IfOk result (λ r. r.1 ≡ ask.id) }
+    ensures taken { KeepsTaken desk.old desk.new }
     ensures unchanged { OnErr result (desk.new ≡ desk.old) }
 {
     match desk.ask(alloc, who, ask)? {
@@ -86,6 +88,7 @@ impl HoldingDesk {
         requires transaction { IsTransaction ask.verb }
         ensures asked { IfOk result (λ r. Asks who ask self.old (reply_of r.answer.value ask.id) (link_behind self.old.desk.made self.new.desk.made) self.new) }
         ensures at_once { IfOk result (λ r. r.at_once ≡ given_at_once ask.verb (reply_of r.answer.value ask.id)) }
+        ensures taken { KeepsTaken self.old.desk self.new.desk }
         ensures unchanged { OnErr result (self.new ≡ self.old) }
     {
         self.waiting.make_room(alloc, who)?;
@@ -115,6 +118,7 @@ impl HoldingDesk {
         requires no_transaction { IsTransaction ask.verb → ⊥ }
         ensures asked { IfOk result (λ r. Asks who ask self.old (reply_of r.answer.value ask.id) (link_behind self.old.desk.made self.new.desk.made) self.new) }
         ensures at_once { IfOk result (λ r. r.at_once ≡ given_at_once ask.verb (reply_of r.answer.value ask.id)) }
+        ensures taken { KeepsTaken self.old.desk self.new.desk }
         ensures unchanged { OnErr result (self.new ≡ self.old) }
     {
         let (answer, id) = answer_of(&mut self.desk, alloc, who, ask)?;
@@ -129,6 +133,7 @@ impl HoldingDesk {
     pub(crate) fn ask(&mut self, alloc: Global, who: u64, ask: Ask) -> Result<Replied, NoMemory>
         ensures asked { IfOk result (λ r. Asks who ask self.old (reply_of r.answer.value ask.id) (link_behind self.old.desk.made self.new.desk.made) self.new) }
         ensures at_once { IfOk result (λ r. r.at_once ≡ given_at_once ask.verb (reply_of r.answer.value ask.id)) }
+        ensures taken { KeepsTaken self.old.desk self.new.desk }
         ensures unchanged { OnErr result (self.new ≡ self.old) }
     {
         match ask.verb {
@@ -186,6 +191,7 @@ impl HoldingDesk {
     /// Begins a new epoch, if that is due. Whether it began; where it is refused the next call tries again.
     pub(crate) fn begin_epoch(&mut self, alloc: Global) -> bool
         ensures begun { result ≡ true → Begins self.old (first_link self.old.desk) self.new }
+        ensures taken { KeepsTaken self.old.desk self.new.desk }
         ensures unchanged { result ≡ false → self.new ≡ self.old }
     {
         self.desk.trim_if_due(alloc) == Ok(true)

@@ -10,6 +10,7 @@ mod name;
 mod recorded_source;
 mod recorder;
 mod step;
+mod taken_links;
 mod waiting;
 
 pub use crossing::holding_desk_sends;
@@ -17,3 +18,4 @@ pub use laws::every_run_of_a_source;
 pub use name::{SourceFront, SourceHistory, SourceName};
 pub use recorded_source::RecordedSource;
 pub use step::SourceStep;
+pub use taken_links::TakenLinks;

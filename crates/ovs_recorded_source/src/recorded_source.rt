@@ -4,7 +4,9 @@ ghost use Rattle.std.specs.Prelude.{◌≡◌, [], true, false, IfOk, IfNone, If
 ghost use mathlib.Core.List.{IsPrefix};
 ghost use Rattle.ovs_links.specs.Sets.{IsOfTables};
 ghost use Rattle.ovs_links.specs.Store.{tables_of};
+ghost use Rattle.ovs_source.specs.SourceDesk.{AreBehind, AreFirst};
 ghost use Rattle.ovs_recorded_source.specs.Steps.{DoesAll, EndsWith, IsAsked, IsGiven, IsStep, begun, first_link};
+ghost use Rattle.ovs_recorded_source.specs.Taking.{links_taken, taken_count};
 ghost use Rattle.ovs_recorded_source.specs.Waiting.{next_standing, replies_at};
 ghost use Rattle.ovs_recorded_source.specs.declared.step.SourceStep.TheVariants as steps;
 
@@ -26,18 +28,22 @@ use std::snapshot::Snapshot;
 use std::sync::Wait;
 
 /// A source's desk and its replies that wait, with the list of all steps that were made on it. A contract sees it as these; that
-/// these steps, one after another, make this state of what the desk began with is an invariant of its type.
+/// these steps, one after another, make this state of what the desk began with is an invariant of its type, and so is that the links
+/// which they took out are, in their order, the first of the source's history.
 #[derive(Drop)]
 pub struct RecordedSource<N: SourceName> {
     desk: HoldingDesk,
     book: Book<SourceStep, SourceHistory<N>>,
     front: SourceFront<N>,
+    // How many links were taken out; it stays at its last value.
+    taken: u64,
 }
 
 impl<N: SourceName> Model for RecordedSource<N> {
-    ghost use Rattle.std.specs.Prelude.{List, refl};
+    ghost use Rattle.std.specs.Prelude.{◌≡◌, List, refl};
     ghost use Rattle.std.specs.Coded.{code_by, coded×, coded_list};
-    ghost use Rattle.ovs_recorded_source.specs.Steps.{DoesAll, RecordedValue, SourceState, begun};
+    ghost use Rattle.ovs_recorded_source.specs.Steps.{RecordedValue, SourceState};
+    ghost use Rattle.ovs_recorded_source.specs.Taking.{IsRecord, taken_count};
     ghost use Rattle.ovs_recorded_source.specs.contracts.holding_desk.HoldingDesk as desk_row;
     ghost use Rattle.ovs_recorded_source.specs.contracts.step.SourceStep as step_row;
     ghost use Rattle.ovs_recorded_source.specs.declared.step.SourceStep.{SourceStep};
@@ -50,7 +56,7 @@ impl<N: SourceName> Model for RecordedSource<N> {
 
     ghost view = { λ r. record { steps = r.front; state = r.desk } };
 
-    ghost invariant = { λ r. DoesAll (begun N.start) r.front r.desk };
+    ghost invariant = { λ r. IsRecord N.start r.front r.desk × (r.taken ≡ taken_count r.front) };
 }
 
 impl<N: SourceName> RecordedSource<N> {
@@ -61,6 +67,7 @@ impl<N: SourceName> RecordedSource<N> {
         opened: Opened<SourceStep>,
     ) -> (RecordedSource<N>, SourceFront<N>)
         requires start { desk ≡ N.start }
+        requires none_taken { AreBehind [] N.start }
         requires book { opened.seen.book ≡ N.book }
         ensures new { result.0 ≡ record { steps = []; state = begun N.start } }
         ensures none { result.1 ≡ [] }
@@ -68,7 +75,13 @@ impl<N: SourceName> RecordedSource<N> {
         let (book, front) = opened.named::<SourceHistory<N>>();
         let known = front.again();
         let desk = HoldingDesk::new(alloc, desk);
-        (RecordedSource { desk, book, front }, known)
+        let recorded = RecordedSource {
+            desk,
+            book,
+            front,
+            taken: 0,
+        };
+        (recorded, known)
     }
 
     /// All steps that were made, for one caller more to know.
@@ -221,12 +234,20 @@ impl<N: SourceName> RecordedSource<N> {
         );
     }
 
+    /// How many links were taken out, of so many as can be counted.
+    pub(crate) fn taken(&self) -> u64
+        ensures value { result ≡ taken_count self.now.steps }
+    {
+        self.taken
+    }
+
     /// Takes out the first link of those that were made and weren't taken out, if there is one.
-    pub fn next_link<R: Wait>(&mut self, rt: &R, known: &mut SourceFront<N>) -> Option<Link>
+    pub(crate) fn next_link<R: Wait>(&mut self, rt: &R, known: &mut SourceFront<N>) -> Option<Link>
         ensures taken { IsStep N.start (steps.TookLink result) self.old self.new }
         ensures told { known.new ≡ self.new.steps }
         ensures ends { EndsWith (steps.TookLink result) known.old known.new }
         ensures tables { IfSome result (IsOfTables (tables_of N.start.source)) }
+        ensures first { AreFirst (tables_of N.start.source) (links_taken self.new.steps) }
     {
         let before = Snapshot::of(&self.desk);
         let link = self.desk.next_link();
@@ -240,6 +261,9 @@ impl<N: SourceName> RecordedSource<N> {
             &before,
             &self.desk,
         );
+        if entry.link.is_some() {
+            self.taken = self.taken.saturating_add(1);
+        }
         entry.link
     }
 

@@ -2,7 +2,9 @@
 
 ghost use Rattle.std.specs.Prelude.{◌≡◌, ◌++◌, ◌∷◌, [], true, false};
 ghost use mathlib.Core.List.{IsPrefix};
-ghost use Rattle.ovs_recorded_source.specs.Steps.{Does, DoesAll, AreSteps, EndsWith, IsStep, begun};
+ghost use Rattle.ovs_recorded_source.specs.Accounts.{link_taken};
+ghost use Rattle.ovs_recorded_source.specs.Steps.{Does, AreSteps, EndsWith, IsStep};
+ghost use Rattle.ovs_recorded_source.specs.Taking.{IsRecord, LeavesInOrder, links_taken};
 
 use crate::holding_desk::HoldingDesk;
 use crate::name::{SourceFront, SourceHistory, SourceName};
@@ -66,9 +68,11 @@ pub(crate) fn record_step<N: SourceName, X, M: EntryFrom<X, SourceStep>, R: Wait
     before: &Snapshot<HoldingDesk>,
     desk: &HoldingDesk,
 )
-    requires made { DoesAll (begun N.start) front.old before.now.value }
+    requires made { IsRecord N.start front.old before.now.value }
     requires does { Does (M.entry about.now) before.now.value desk.now }
-    ensures made { DoesAll (begun N.start) front.new desk.now }
+    requires keeps { LeavesInOrder (M.entry about.now) before.now.value desk.now }
+    ensures made { IsRecord N.start front.new desk.now }
+    ensures taken { links_taken front.new ≡ links_taken front.old ++ link_taken (M.entry about.now) }
     ensures step { IsStep N.start (M.entry about.now) (record { steps = front.old; state = before.now.value }) (record { steps = front.new; state = desk.now }) }
     ensures told { known.new ≡ front.new }
     ensures ends { EndsWith (M.entry about.now) known.old known.new }

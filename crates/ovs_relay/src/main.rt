@@ -1,11 +1,13 @@
 //! A relay tier for OVSDB: the program and its commands.
 #![tactic(auto)]
 
+mod backlog;
 mod log_lines;
 mod nodes;
 mod noting;
 mod saying;
 mod schema_file;
+mod timed;
 
 use nodes::{run_relay, run_source};
 use ovs_command::{Complaint, Task, command};

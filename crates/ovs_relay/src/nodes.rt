@@ -1,5 +1,6 @@
 //! The commands `source` and `relay`.
 
+use crate::backlog::Backlog;
 use crate::log_lines::LogLines;
 use crate::saying::{complains, fails, says};
 use crate::schema_file::schema_of_file;
@@ -13,15 +14,17 @@ use std::process::ExitCode;
 use std::rt::Runtime;
 use std::sync::Wait;
 use std::thread::Threads;
+use std::time::Clock;
 
-// How much is told while a node runs: all with `--verbose`; what ends it where that is wanted.
+// How much is told while a node runs: all with `--verbose`; what ends it where that is wanted; and that nobody sends it links any
+// more.
 fn level_of(verbose: bool, ends_on_refusal: bool) -> LevelFilter {
     if verbose {
         LevelFilter::Info
     } else if ends_on_refusal {
         LevelFilter::Warn
     } else {
-        LevelFilter::Off
+        LevelFilter::Error
     }
 }
 
@@ -49,13 +52,15 @@ fn closes<R: Print + Eprint>(
 // A source of this schema.
 fn source<
     R: Eprint
+        + Clock
         + Threads
         + Wait
         + Net<Listener = TcpListener, Stream = TcpStream>
         + Copy
         + Drop
         + Send
-        + Sync,
+        + Sync
+        + 'static,
 >(rt: R, alloc: Global, schema: &Schema, options: &SourceOptions) -> Result<Closing, TierError> {
     let plan = SourcePlan {
         listen: options.listen,
@@ -64,20 +69,26 @@ fn source<
         trim_every: options.trim_every,
         accepts: options.accepts,
     };
-    let rt = Logged::new(rt, level_of(options.verbose, false), LogLines(rt));
-    SourceNode::open(rt, alloc, plan)?.run(schema)
+    let backlog = Backlog::begin(rt, alloc)?;
+    let level = level_of(options.verbose, false);
+    let logged = Logged::new(rt, level, LogLines::new(rt, alloc, &*backlog));
+    let ran = SourceNode::open(logged, alloc, plan)?.run(schema);
+    backlog.finish(&rt);
+    ran
 }
 
 // A relay of a database of this schema.
 fn relay<
     R: Eprint
+        + Clock
         + Threads
         + Wait
         + Net<Listener = TcpListener, Stream = TcpStream>
         + Copy
         + Drop
         + Send
-        + Sync,
+        + Sync
+        + 'static,
 >(rt: R, alloc: Global, schema: &Schema, options: &RelayOptions) -> Result<Closing, TierError> {
     let plan = RelayPlan {
         listen: options.listen,
@@ -87,8 +98,12 @@ fn relay<
         ends_on_refusal: options.end_on_refusal,
         prunes: options.prunes,
     };
+    let backlog = Backlog::begin(rt, alloc)?;
     let level = level_of(options.verbose, options.end_on_refusal);
-    Relay::open(Logged::new(rt, level, LogLines(rt)), alloc, plan)?.run(schema)
+    let logged = Logged::new(rt, level, LogLines::new(rt, alloc, &*backlog));
+    let ran = Relay::open(logged, alloc, plan)?.run(schema);
+    backlog.finish(&rt);
+    ran
 }
 
 /// Runs a source until all its threads have come to their ends.
@@ -100,7 +115,8 @@ pub(crate) fn run_source<
         + Copy
         + Drop
         + Send
-        + Sync,
+        + Sync
+        + 'static,
 >(rt: R, alloc: Global, options: &SourceOptions) -> ExitCode {
     match schema_of_file(&rt, alloc, options.schema.as_str()) {
         Ok(schema) => closes(&rt, options.listen, source(rt, alloc, &schema, options)),
@@ -117,7 +133,8 @@ pub(crate) fn run_relay<
         + Copy
         + Drop
         + Send
-        + Sync,
+        + Sync
+        + 'static,
 >(rt: R, alloc: Global, options: &RelayOptions) -> ExitCode {
     match schema_of_file(&rt, alloc, options.schema.as_str()) {
         Ok(schema) => closes(&rt, options.listen, relay(rt, alloc, &schema, options)),

@@ -2,6 +2,7 @@
 use Rattle.std.specs.Prelude.{◌≡◌, ℕ, ◌<◌, ◌⊎◌, length, List, [], Option, Some, None, Bool, true, false, Result, Ok, Err, if◌then◌else◌}
 use Rattle.std.specs.Io.KnownBytes.{Consumes, Appends, IsAtEnd}
 use Rattle.ovs_wire.specs.Frames.{Ending, Rest, Fault}
+use Rattle.ovs_wire.specs.declared.error.FrameError.{FrameError}
 use Rattle.ovs_session.specs.declared.limits.Pace.{Pace}
 use Rattle.ovs_session.specs.declared.limits.Pace.TheVariants.{Idle}
 use Rattle.ovs_session.specs.declared.came.Came.{Came}
@@ -11,6 +12,16 @@ use Rattle.ovs_session.specs.declared.ended.Ended.TheVariants.{Closed, ReadFault
 use Rattle.ovs_session.specs.declared.ended.Refusal.{Refusal}
 use Rattle.ovs_session.specs.declared.ended.Refusal.TheVariants as refusals
 use Rattle.ovs_session.specs.Serving.{SessionValue, Served, IsBounded, IsDone, IsIdle}
+
+-- the fault that the stream has, where it has one
+abbrev pub fault_in : Ending → Option FrameError
+fault_in (Rest rest) = None
+fault_in (Fault fault) = Some fault
+
+-- the fault that a feed answered, where it answered one
+abbrev pub answered_fault : {X : Type 0} → Result X FrameError → Option FrameError
+answered_fault (Ok x) = None
+answered_fault (Err fault) = Some fault
 
 -- the stream has a fault
 abbrev pub is_fault : Ending → Bool

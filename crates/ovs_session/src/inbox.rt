@@ -1,7 +1,7 @@
 //! What was framed and is to be answered.
-ghost use Rattle.std.specs.Prelude.{◌≡◌, [], Ok, Err, is_err, IfOk, IfSome, OnOk, OnErr};
+ghost use Rattle.std.specs.Prelude.{◌≡◌, [], Ok, Err, IfOk, IfSome, OnOk, OnErr};
 ghost use Rattle.ovs_wire.specs.Framing.{IsNew, Feeds, Takes};
-ghost use Rattle.ovs_session.specs.Moving.{is_fault};
+ghost use Rattle.ovs_session.specs.Moving.{answered_fault, fault_in, is_fault};
 
 use crate::reserved::append_reserved;
 use ovs_json::NoMemory;
@@ -32,15 +32,15 @@ impl MessageBytes {
     }
 }
 
-// Whether a feed answered a fault of the stream.
-fn tells_fault(fed: Result<(), FrameError>) -> Result<bool, NoMemory>
-    ensures ok { IfOk result (λ b. (fed ≡ Err FrameError.NoMemory → ⊥) × (b ≡ is_err fed)) }
+// The fault of the stream that a feed answered, where it answered one.
+fn answered_fault(fed: Result<(), FrameError>) -> Result<Option<FrameError>, NoMemory>
+    ensures ok { IfOk result (λ fault. (fed ≡ Err FrameError.NoMemory → ⊥) × (fault ≡ answered_fault fed)) }
     ensures err { OnErr result (fed ≡ Err FrameError.NoMemory) }
 {
     match fed {
-        Ok(()) => Ok(false),
+        Ok(()) => Ok(None),
         Err(FrameError::NoMemory) => Err(NoMemory),
-        Err(_) => Ok(true),
+        Err(fault) => Ok(Some(fault)),
     }
 }
 
@@ -52,7 +52,7 @@ fn tells_fault(fed: Result<(), FrameError>) -> Result<bool, NoMemory>
 #[derive(Debug, Drop)]
 pub(crate) struct Inbox {
     framer: Framer,
-    has_fault: bool,
+    fault: Option<FrameError>,
     // no message that waits is longer
     most: usize,
     // the rest of the stream is no longer
@@ -64,14 +64,14 @@ pub(crate) struct Inbox {
 impl Model for Inbox {
     ghost use Rattle.std.specs.Prelude.{◌≡◌};
     ghost use Rattle.ovs_wire.specs.Framing.{Framing};
-    ghost use Rattle.ovs_session.specs.Moving.{is_fault};
+    ghost use Rattle.ovs_session.specs.Moving.{fault_in};
     ghost use Rattle.ovs_session.specs.Room.{HasRoom};
 
     ghost Value = { Framing };
 
     ghost view = { λ i. i.framer };
 
-    ghost invariant = { λ i. (i.has_fault ≡ is_fault i.framer.ending) × HasRoom i.framer i.most i.rest i.piece };
+    ghost invariant = { λ i. (i.fault ≡ fault_in i.framer.ending) × HasRoom i.framer i.most i.rest i.piece };
 }
 
 impl Inbox {
@@ -81,7 +81,7 @@ impl Inbox {
     {
         Inbox {
             framer: Framer::new(alloc),
-            has_fault: false,
+            fault: None,
             most: 0,
             rest: 0,
             piece: 0,
@@ -89,10 +89,18 @@ impl Inbox {
     }
 
     /// Whether the stream has a fault, behind which nothing more is framed.
+    #[tactic(auto, using(crate::proofs::Framed::some_fault))]
     pub(crate) fn has_fault(&self) -> bool
         ensures value { result ≡ is_fault self.now.ending }
     {
-        self.has_fault
+        self.fault.is_some()
+    }
+
+    /// The fault that the stream has, if it has one; never `NoMemory`.
+    pub(crate) fn fault(&self) -> Option<FrameError>
+        ensures value { result ≡ fault_in self.now.ending }
+    {
+        self.fault
     }
 
     /// Takes the next piece of the stream, where no message waits. After `NoMemory` nothing of it was taken.
@@ -101,7 +109,7 @@ impl Inbox {
         ensures fed { OnOk result (Feeds self.old piece.now self.new) }
         ensures unchanged { OnErr result (self.new ≡ self.old) }
     {
-        self.has_fault = tells_fault(self.framer.feed(piece))?;
+        self.fault = answered_fault(self.framer.feed(piece))?;
         self.most = self.rest.saturating_add(piece.len()).min(MAX_MESSAGE_BYTES);
         self.rest = self.most;
         self.piece = piece.len();

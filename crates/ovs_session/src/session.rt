@@ -1,10 +1,10 @@
 //! A session: bytes in, texts out.
-ghost use Rattle.std.specs.Prelude.{◌≡◌, ◌≤◌, ◌<◌, ◌+◌, ◌⊎◌, ◌||◌, ◌++◌, ◌↔◌, ℕ, List, [], Some, None, Ok, Err, Bool, true, false, IsTrue, IfErr, IfOk, OnOk, OnErr, length, vec_len, vec_capacity};
+ghost use Rattle.std.specs.Prelude.{◌≡◌, ◌≤◌, ◌<◌, ◌+◌, ◌⊎◌, ◌||◌, ◌++◌, ◌↔◌, ℕ, List, [], Some, None, Ok, Err, Bool, true, false, IsTrue, IfErr, IfOk, IfSome, OnOk, OnErr, length, vec_len, vec_capacity};
 ghost use Rattle.std.specs.Io.KnownBytes.{Consumes, Appends, IsAtEnd};
 ghost use Rattle.ovs_wire.specs.Counted.{one_more};
 ghost use Rattle.ovs_wire.specs.Framing.{Framing, Feeds};
 ghost use Rattle.ovs_session.specs.Counting.{HasCalled, HasWritten};
-ghost use Rattle.ovs_session.specs.Moving.{is_end, is_fault, ended_by};
+ghost use Rattle.ovs_session.specs.Moving.{is_end, is_fault, ended_by, fault_in};
 ghost use Rattle.ovs_session.specs.Serving.{SessionValue, Holds, fresh};
 ghost use Rattle.ovs_session.specs.Turning.{IsCalled, IsUncalled, CountsFault};
 
@@ -19,7 +19,7 @@ use crate::reading::Reading;
 use crate::reserved::append_reserved;
 pub(crate) use answering::{answer_held, tell_new};
 use ovs_json::NoMemory;
-use ovs_wire::{Counted, is_passing};
+use ovs_wire::{Counted, FrameError, is_passing};
 use std::alloc::Global;
 use std::io::{ErrorKind, Read, Write};
 use std::marker::Model;
@@ -178,6 +178,20 @@ impl<C> Session<C> {
         ensures value { result ≡ self.now.is_at_end }
     {
         self.is_at_end
+    }
+
+    /// The message that was taken out of its peer's stream and isn't answered yet, if there is one.
+    pub fn held(&self) -> Option<&[u8]>
+        ensures some { IfSome result (λ message. self.now.held ≡ Some message.now) }
+    {
+        Some(self.held.as_ref()?.as_slice())
+    }
+
+    /// The fault that its peer's stream has, if it has one; never `NoMemory`. Behind it nothing more is answered.
+    pub fn fault(&self) -> Option<FrameError>
+        ensures value { result ≡ fault_in self.now.framing.ending }
+    {
+        self.inbox.fault()
     }
 
     /// Whether the stream has a fault.

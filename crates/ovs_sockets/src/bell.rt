@@ -45,6 +45,11 @@ impl Hearing {
         self.crowd.remove_session();
     }
 
+    /// It takes no more connections. Whether no worker does.
+    pub(crate) fn close(&self) -> bool {
+        self.crowd.close_worker()
+    }
+
     /// Whether it serves more sessions than its part of all.
     pub(crate) fn is_above_part(&self) -> bool {
         self.crowd

@@ -3,6 +3,8 @@
 ghost use Rattle.std.specs.Io.{ReadsAtMost, WritesAtMost};
 
 use crate::ending::IsEnding;
+use crate::exchange::Exchange;
+use crate::timed_out::has_timed_out;
 use mio::net::TcpStream;
 use mio::{Events, Interest, Poll, Token, Waker};
 use std::alloc::Global;
@@ -34,8 +36,7 @@ pub(crate) struct Channel {
     stream: Option<TcpStream>,
     // What came while a write had to wait. An upstream that writes may read nothing until that is taken.
     ahead: VecDeque<u8>,
-    // Whether anything came by the connection.
-    has_heard: bool,
+    exchange: Exchange,
     is_ending: IsEnding,
 }
 
@@ -47,7 +48,7 @@ impl Channel {
             events: Events::with_capacity(alloc, EVENTS)?,
             stream: None,
             ahead: VecDeque::new(alloc),
-            has_heard: false,
+            exchange: Exchange::Opened,
             is_ending,
         })
     }
@@ -62,9 +63,9 @@ impl Channel {
         self.is_ending.is_asked()
     }
 
-    /// Whether anything came by the connection.
-    pub(crate) fn has_heard(&self) -> bool {
-        self.has_heard
+    /// How far the exchange over the connection has come.
+    pub(crate) fn exchange(&self) -> Exchange {
+        self.exchange
     }
 
     /// Waits for so long, or less where the bell is rung.
@@ -76,7 +77,7 @@ impl Channel {
     pub(crate) fn close(&mut self) {
         self.stream = None;
         self.ahead.clear();
-        self.has_heard = false;
+        self.exchange = Exchange::Opened;
     }
 
     /// Connects, and waits until that has succeeded or failed.
@@ -126,9 +127,14 @@ impl Channel {
         let Some(stream) = &self.stream else {
             return Ok(0);
         };
-        let len = (&mut &*stream).read(buf)?;
-        self.has_heard |= len > 0;
-        Ok(len)
+        match (&mut &*stream).read(buf) {
+            Err(error) if has_timed_out(&error) => Err(ErrorKind::ConnectionAborted.into()),
+            Ok(len) if len > 0 => {
+                self.exchange = self.exchange.after_read();
+                Ok(len)
+            }
+            other => other,
+        }
     }
 
     // Takes in some of what has come. Whether anything had.
@@ -183,6 +189,11 @@ impl Channel {
                     self.wait()?;
                 }
                 Err(error)
+            }
+            Err(error) if has_timed_out(&error) => Err(ErrorKind::ConnectionAborted.into()),
+            Ok(len) => {
+                self.exchange = self.exchange.after_write();
+                Ok(len)
             }
             other => other,
         }

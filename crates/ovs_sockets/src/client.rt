@@ -1,6 +1,7 @@
 //! A reader's connection.
 
 use crate::ending::IsEnding;
+use crate::timed_out::has_timed_out;
 use mio::net::TcpStream;
 use std::io::{self, ErrorKind, Read, Write};
 use std::sync::Arc;
@@ -23,7 +24,10 @@ impl Read for Half {
         if self.is_ending.is_asked() {
             return Ok(0);
         }
-        (&*self.stream).read(buf)
+        match (&*self.stream).read(buf) {
+            Err(error) if has_timed_out(&error) => Err(ErrorKind::ConnectionAborted.into()),
+            read => read,
+        }
     }
 }
 
@@ -32,7 +36,10 @@ impl Write for Half {
         if self.is_ending.is_asked() {
             return Err(ErrorKind::BrokenPipe.into());
         }
-        (&*self.stream).write(buf)
+        match (&*self.stream).write(buf) {
+            Err(error) if has_timed_out(&error) => Err(ErrorKind::ConnectionAborted.into()),
+            written => written,
+        }
     }
 
     fn flush(&mut self) -> io::Result<()> {

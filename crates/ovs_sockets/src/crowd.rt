@@ -6,6 +6,8 @@ use std::sync::atomic::{AtomicU64, Ordering};
 #[derive(Drop)]
 pub(crate) struct Crowd {
     workers: AtomicU64,
+    // Those of them that take no more.
+    closed: AtomicU64,
     sessions: AtomicU64,
 }
 
@@ -14,6 +16,7 @@ impl Crowd {
     pub(crate) fn new() -> Crowd {
         Crowd {
             workers: AtomicU64::new(0),
+            closed: AtomicU64::new(0),
             sessions: AtomicU64::new(0),
         }
     }
@@ -21,6 +24,12 @@ impl Crowd {
     /// One worker more.
     pub(crate) fn add_worker(&self) {
         self.workers.fetch_add(1, Ordering::SeqCst);
+    }
+
+    /// One worker takes no more connections. Whether none does.
+    pub(crate) fn close_worker(&self) -> bool {
+        let open = self.workers.load(Ordering::SeqCst);
+        self.closed.fetch_add(1, Ordering::SeqCst).saturating_add(1) == open
     }
 
     /// One session more.

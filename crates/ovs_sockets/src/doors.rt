@@ -1,13 +1,15 @@
 //! Where a worker's readers come in.
 
-ghost use Rattle.std.specs.Prelude.{◌≡◌, ◌≢◌, ◌+◌, ◌++◌, ◌<◌, ◌≤◌, ◌⊎◌, ℕ, [], true, false, None, IfSome, IfOk, option_map, option_to_list};
+ghost use Rattle.std.specs.Prelude.{◌≡◌, ◌≢◌, ◌++◌, ◌⊎◌, ℕ, [], true, false, Some, None, IfSome, IfOk, option_map, option_to_list};
 ghost use Rattle.ovs_hall.specs.Connections.{out_of};
+ghost use Rattle.ovs_sockets.specs.Allowance.{IsOneLess, IsNoMore};
 
+use crate::allowance::one_less;
 use crate::bell::{Hearing, SocketBell};
 use crate::client::Half;
 use crate::crowd::Crowd;
 use crate::ending::IsEnding;
-use log::{Log, info};
+use log::{Log, error, info};
 use mio::net::{TcpListener, TcpStream};
 use mio::{Events, Interest, Poll, Token, Waker};
 use ovs_hall::{Connections, Doors, Ready, Timeout, Woken};
@@ -62,7 +64,7 @@ pub struct SocketDoors<R: Log + Drop> {
     listener: TcpListener,
     bell: Arc<Waker>,
     hearing: Arc<Hearing>,
-    accepts_left: u32,
+    accepts_left: Option<u32>,
     // A connection may wait to be taken.
     may_accept: bool,
     // The system had no room for the connection that waits.
@@ -83,7 +85,7 @@ impl<R: Net + Log + Drop> SocketDoors<R> {
         worker: usize,
         listener: net::TcpListener,
         crowd: Arc<Crowd>,
-        accepts: u32,
+        accepts: Option<u32>,
         is_ending: IsEnding,
     ) -> io::Result<SocketDoors<R>>
         ensures count { IfOk result (λ doors. doors.accepts_left ≡ accepts) }
@@ -128,11 +130,11 @@ impl<R: Log + Drop> SocketDoors<R> {
 
     // Whether no connection is taken any more.
     fn is_closed(&self) -> bool
-        ensures open { result ≡ false → 0 < self.now.accepts_left }
-        ensures closed { result ≡ true → (self.now.accepts_left ≡ 0) ⊎ (self.now.is_over ≡ true) }
-        ensures none { self.now.accepts_left ≡ 0 → result ≡ true }
+        ensures open { result ≡ false → self.now.accepts_left ≢ Some 0 }
+        ensures closed { result ≡ true → (self.now.accepts_left ≡ Some 0) ⊎ (self.now.is_over ≡ true) }
+        ensures none { self.now.accepts_left ≡ Some 0 → result ≡ true }
     {
-        self.accepts_left == 0 || self.is_over
+        self.accepts_left == Some(0) || self.is_over
     }
 
     // How long to wait at most.
@@ -216,21 +218,29 @@ impl<R: Log + Drop> SocketDoors<R> {
 
     // Takes the next connection for the session of this number, one of those that may be, where one waits.
     fn take(&mut self, key: usize) -> Option<(Half, Half)>
-        ensures few { IfSome result (λ _. self.old.accepts_left ≡ self.new.accepts_left + 1) }
-        ensures no_more { self.new.accepts_left ≤ self.old.accepts_left }
-        ensures none { self.old.accepts_left ≡ 0 → result ≡ None }
+        ensures few { IfSome result (λ _. IsOneLess self.old.accepts_left self.new.accepts_left) }
+        ensures no_more { IsNoMore self.old.accepts_left self.new.accepts_left }
+        ensures none { self.old.accepts_left ≡ Some 0 → result ≡ None }
         ensures same { (self.new.is_over ≡ self.old.is_over) × (self.new.connections ≡ self.old.connections) }
     {
         if self.is_closed() || self.is_ending.is_asked() || self.leaves_it() {
             return None;
         }
         let (stream, peer) = self.next_stream()?;
-        self.accepts_left -= 1;
+        self.accepts_left = one_less(self.accepts_left);
         let halves = self.seat(key, stream).ok()?;
         self.hearing.add_session();
         let worker = self.worker;
         info!(self.rt; "worker {worker} session {key} opened by {peer}");
+        self.tell_closed();
         Some(halves)
+    }
+
+    // Tells where this was the last connection that any worker takes.
+    fn tell_closed(&self) {
+        if self.accepts_left == Some(0) && self.hearing.close() {
+            error!(self.rt; "no connection is taken any more: each worker has taken as many as it may");
+        }
     }
 
     // Has the session of this number wait for what comes by a connection.
@@ -257,7 +267,7 @@ impl<R: Log + Drop> Doors for SocketDoors<R> {
 
     ghost back = { λ doors. doors.connections.back };
 
-    ghost is_closed = { λ doors. (doors.accepts_left ≡ 0) ⊎ (doors.is_over ≡ true) };
+    ghost is_closed = { λ doors. (doors.accepts_left ≡ Some 0) ⊎ (doors.is_over ≡ true) };
 
     ghost is_over = { λ doors. doors.is_over ≡ true };
 
@@ -266,11 +276,11 @@ impl<R: Log + Drop> Doors for SocketDoors<R> {
     }
 
     fn wait(&mut self, timeout: Timeout) -> Woken
-        ensures may_accept { self.old.accepts_left ≡ 0 → (result.is_closed ≡ true) × (result.may_accept ≡ false) }
+        ensures may_accept { self.old.accepts_left ≡ Some 0 → (result.is_closed ≡ true) × (result.may_accept ≡ false) }
         ensures count { self.new.accepts_left ≡ self.old.accepts_left }
         ensures same { (key : ℕ) → out_of self.new.connections key ≡ out_of self.old.connections key }
         ensures back { self.new.connections.back ≡ self.old.connections.back }
-        ensures closed { result.is_closed ≡ true → (self.new.accepts_left ≡ 0) ⊎ (self.new.is_over ≡ true) }
+        ensures closed { result.is_closed ≡ true → (self.new.accepts_left ≡ Some 0) ⊎ (self.new.is_over ≡ true) }
         ensures over { result.is_over ≡ true → self.new.is_over ≡ true }
     {
         let patience = self.patience(timeout);
@@ -297,7 +307,7 @@ impl<R: Log + Drop> Doors for SocketDoors<R> {
         ensures count { self.new.accepts_left ≡ self.old.accepts_left }
         ensures same { (key : ℕ) → out_of self.new.connections key ≡ out_of self.old.connections key }
         ensures back { self.new.connections.back ≡ self.old.connections.back }
-        ensures closed { (self.old.accepts_left ≡ 0) ⊎ (self.old.is_over ≡ true) → (self.new.accepts_left ≡ 0) ⊎ (self.new.is_over ≡ true) }
+        ensures closed { (self.old.accepts_left ≡ Some 0) ⊎ (self.old.is_over ≡ true) → (self.new.accepts_left ≡ Some 0) ⊎ (self.new.is_over ≡ true) }
         ensures over { self.old.is_over ≡ true → self.new.is_over ≡ true }
     {
         self.ready.pop_front()
@@ -306,13 +316,13 @@ impl<R: Log + Drop> Doors for SocketDoors<R> {
     // Each connection that is taken is one of those that may be.
     fn accept(&mut self, key: usize) -> Option<(Half, Half)>
         requires free { out_of self.old.connections key ≡ None }
-        ensures few { IfSome result (λ _. self.old.accepts_left ≡ self.new.accepts_left + 1) }
-        ensures no_more { self.new.accepts_left ≤ self.old.accepts_left }
-        ensures none { self.old.accepts_left ≡ 0 → result ≡ None }
+        ensures few { IfSome result (λ _. IsOneLess self.old.accepts_left self.new.accepts_left) }
+        ensures no_more { IsNoMore self.old.accepts_left self.new.accepts_left }
+        ensures none { self.old.accepts_left ≡ Some 0 → result ≡ None }
         ensures came { out_of self.new.connections key ≡ option_map (λ connection. (connection.0, connection.1)) result }
         ensures others { (other : ℕ) → other ≢ key → out_of self.new.connections other ≡ out_of self.old.connections other }
         ensures back { self.new.connections.back ≡ self.old.connections.back }
-        ensures closed { (self.old.accepts_left ≡ 0) ⊎ (self.old.is_over ≡ true) → (self.new.accepts_left ≡ 0) ⊎ (self.new.is_over ≡ true) }
+        ensures closed { (self.old.accepts_left ≡ Some 0) ⊎ (self.old.is_over ≡ true) → (self.new.accepts_left ≡ Some 0) ⊎ (self.new.is_over ≡ true) }
         ensures over { self.old.is_over ≡ true → self.new.is_over ≡ true }
     {
         match self.take(key) {
@@ -330,7 +340,7 @@ impl<R: Log + Drop> Doors for SocketDoors<R> {
         ensures gone { out_of self.new.connections key ≡ None }
         ensures others { (other : ℕ) → other ≢ key → out_of self.new.connections other ≡ out_of self.old.connections other }
         ensures back { self.new.connections.back ≡ self.old.connections.back ++ option_to_list (out_of self.old.connections key) }
-        ensures closed { (self.old.accepts_left ≡ 0) ⊎ (self.old.is_over ≡ true) → (self.new.accepts_left ≡ 0) ⊎ (self.new.is_over ≡ true) }
+        ensures closed { (self.old.accepts_left ≡ Some 0) ⊎ (self.old.is_over ≡ true) → (self.new.accepts_left ≡ Some 0) ⊎ (self.new.is_over ≡ true) }
         ensures over { self.old.is_over ≡ true → self.new.is_over ≡ true }
     {
         self.connections.note_left(key);

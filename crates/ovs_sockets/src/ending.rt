@@ -66,6 +66,11 @@ impl Ending {
         }
         Ok(())
     }
+
+    /// Whether they were asked to come to their ends.
+    pub fn is_asked(&self) -> bool {
+        self.is_ending.is_asked()
+    }
 }
 
 impl Bell for Ending {

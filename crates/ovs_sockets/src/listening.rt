@@ -41,7 +41,7 @@ impl Listening {
         self.listener.local_addr()
     }
 
-    /// Doors for the worker of this number, which takes so many of the connections at most.
+    /// Doors for the worker of this number, which takes so many of the connections at most, or any number.
     ///
     /// # Errors
     /// The system's; memory ran out.
@@ -50,7 +50,7 @@ impl Listening {
         rt: R,
         alloc: Global,
         worker: usize,
-        accepts: u32,
+        accepts: Option<u32>,
         is_ending: &IsEnding,
     ) -> io::Result<SocketDoors<R>>
         ensures count { IfOk result (λ doors. doors.accepts_left ≡ accepts) }

@@ -1,7 +1,9 @@
 //! Connections with an upstream.
 
-ghost use Rattle.std.specs.Prelude.{◌≡◌, ◌+◌, ◌≤◌, true, IfOk};
+ghost use Rattle.std.specs.Prelude.{◌≡◌, true, false, Some, IfOk};
+ghost use Rattle.ovs_sockets.specs.Allowance.{IsOneLess, IsNoMore};
 
+use crate::allowance::one_less;
 use crate::bell::SocketBell;
 use crate::channel::Channel;
 use crate::ending::IsEnding;
@@ -20,7 +22,7 @@ use std::sync::{Arc, Mutex};
 pub struct Upward<R: Net + Log + Drop> {
     rt: R,
     address: SocketAddr,
-    tries_left: u32,
+    tries_left: Option<u32>,
     has_tried: bool,
     // The try before this one failed, which was told.
     has_failed: bool,
@@ -41,7 +43,7 @@ pub struct ToUpstream {
 }
 
 impl<R: Net + Log + Drop> Upward<R> {
-    /// So many connections at most, with the bell of the thread that has them.
+    /// So many connections at most, or any number, with the bell of the thread that has them.
     ///
     /// # Errors
     /// The system's; memory ran out.
@@ -49,7 +51,7 @@ impl<R: Net + Log + Drop> Upward<R> {
         rt: R,
         alloc: Global,
         address: SocketAddr,
-        tries: u32,
+        tries: Option<u32>,
         is_ending: &IsEnding,
     ) -> io::Result<(Upward<R>, SocketBell)>
         ensures count { IfOk result (λ made. made.0.tries_left ≡ tries) }
@@ -70,20 +72,18 @@ impl<R: Net + Log + Drop> Upward<R> {
 
     /// Whether there is to be another; the one before is let go, and then it waits a while.
     pub fn next(&mut self) -> bool
-        ensures tried { result ≡ true → self.old.tries_left ≡ self.new.tries_left + 1 }
-        ensures no_more { self.new.tries_left ≤ self.old.tries_left }
+        ensures tried { result ≡ true → IsOneLess self.old.tries_left self.new.tries_left }
+        ensures none { self.old.tries_left ≡ Some 0 → result ≡ false }
+        ensures no_more { IsNoMore self.old.tries_left self.new.tries_left }
     {
         let Some(mut channel) = self.channel.try_lock() else {
             return false;
         };
-        if channel.has_heard() {
-            self.pause = Pause::new();
-        }
         channel.close();
-        if self.tries_left == 0 || channel.is_ending() {
+        if self.tries_left == Some(0) || channel.is_ending() {
             return false;
         }
-        self.tries_left -= 1;
+        self.tries_left = one_less(self.tries_left);
         if self.has_tried {
             channel.pause(self.pause.take());
         }
@@ -127,12 +127,26 @@ impl<R: Net + Log + Drop> Upward<R> {
         }
     }
 
-    /// Tells how a session over the connection ended.
+    /// Tells how a session over the connection ended. Where the upstream was followed the pauses begin anew.
     pub fn lost(&mut self, ended: Ended)
         ensures same { self.new.tries_left ≡ self.old.tries_left }
+        ensures grown { ended ≡ Ended.BadInput → self.new.pause ≡ self.old.pause }
     {
+        if self.was_followed(ended) {
+            self.pause = Pause::new();
+        }
         let address = self.address;
         info!(self.rt; "upstream {address} lost: {ended}");
+    }
+
+    // Whether the upstream was followed in the session that ended so.
+    fn was_followed(&self, ended: Ended) -> bool
+        ensures taken { result ≡ true → ended ≡ Ended.BadInput → ⊥ }
+    {
+        match self.channel.try_lock() {
+            Some(channel) => channel.exchange().was_followed(ended),
+            None => false,
+        }
     }
 }
 

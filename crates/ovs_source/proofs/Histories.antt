@@ -329,12 +329,12 @@ is_link_to s id change rows l leads is = is ∙ ap (λ (c : Actions). record { p
 
 -- ---- the first store
 
-pub no_commits : (schema : SchemaValue) → IsSource (record { schema = schema; links = empty; folded = [] })
-no_commits schema = record {
-  history = record { first = []; later = [] };
-  is = record {
-    history = record { first = record { distinct = tt; no_start = tt; commits = tt }; later = tt; distinct = tt };
-    held = λ l. (λ held. (let none : None ≡ Some l = sym (get-empty nat_cmp l.prev) ∙ held in absurd cc), λ a. absurd a);
-    folded = refl;
-  };
+pub no_commits_in : (schema : SchemaValue) → IsSourceOf (record { schema = schema; links = empty; folded = [] }) (record { first = []; later = [] })
+no_commits_in schema = record {
+  history = record { first = record { distinct = tt; no_start = tt; commits = tt }; later = tt; distinct = tt };
+  held = λ l. (λ held. (let none : None ≡ Some l = sym (get-empty nat_cmp l.prev) ∙ held in absurd cc), λ a. absurd a);
+  folded = refl;
 }
+
+pub no_commits : (schema : SchemaValue) → IsSource (record { schema = schema; links = empty; folded = [] })
+no_commits schema = record { history = record { first = []; later = [] }; is = no_commits_in schema }

@@ -1,9 +1,10 @@
 //! New epochs of a source: its history begins anew with one link that inserts all rows.
 
-ghost use Rattle.std.specs.Prelude.{◌≡◌, suc, Some, None, IfOk, IfSome};
+ghost use Rattle.std.specs.Prelude.{◌≡◌, ◌<◌, suc, Some, None, Err, IfOk, IfSome};
+ghost use Rattle.std.specs.FinMap as map;
 ghost use Rattle.ovs_links.specs.Link.{IsStart};
 ghost use Rattle.ovs_links.specs.Sets.{IsOfTables};
-ghost use Rattle.ovs_links.specs.Store.{tables_of};
+ghost use Rattle.ovs_links.specs.Store.{max_links, tables_of};
 ghost use Rattle.ovs_source.specs.Commits.{IsTaken};
 ghost use Rattle.ovs_source.specs.Trimming.{next_start, renewing, TrimsTo, BeginsEpoch};
 
@@ -52,6 +53,8 @@ impl Source {
         ensures history { IfOk result (λ link. BeginsEpoch self.old link self.new) }
         // So the link can be written with the source's schema.
         ensures tables { IfOk result (IsOfTables (tables_of self.new)) }
+        // Want of memory isn't told in the place of another refusal.
+        ensures memory { result ≡ Err TrimError.NoMemory → ¬ (IsTaken self.old id) × IsStart (next_start self.old) × (map.len self.old.links < max_links) }
     {
         if self.is_taken(id) {
             return Err(TrimError::IdTaken);

@@ -39,4 +39,4 @@ relay_sends R S L I O d r w rt =
     let places = places_sends R I O d r w rt in
     let upstreams = upstreams.the_send R S L rt in
     declared_send (relay.the_type R S L I O d r w)
-    (search (rt, as_row_send) depth 20, (search (sendable, heap.crosses, as_row_send) depth 20, (search places depth 20, (search upstreams depth 20, (search (sendable, heap.crosses, as_row_send, declared_send, declared_sync) depth 30 fits 10000, (search (sendable, as_row_send) depth 20, (search (sendable, as_row_send) depth 20, tt)))))))
+    (search (rt, as_row_send) depth 20, (search (sendable, heap.crosses, as_row_send) depth 20, (search places depth 20, (search upstreams depth 20, (search (sendable, heap.crosses, as_row_send, declared_send, declared_sync) depth 30 fits 10000, (search (sendable, heap.crosses, as_row_send, as_row_sync, declared_send, declared_sync) depth 30 fits 10000, (search (sendable, as_row_send) depth 20, (search (sendable, as_row_send) depth 20, tt))))))))

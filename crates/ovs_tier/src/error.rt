@@ -1,5 +1,6 @@
 //! Why a node over sockets can't be run.
 
+use ovs_engine::NotRun;
 use ovs_node::NodeError;
 use ovs_types::NoMemory;
 use std::alloc::{AllocError, AllocFailed};
@@ -49,6 +50,15 @@ impl From<NodeError> for TierError {
         match error {
             NodeError::NoMemory => TierError::NoMemory,
             other => TierError::Node(other),
+        }
+    }
+}
+
+impl From<NotRun> for TierError {
+    fn from(error: NotRun) -> TierError {
+        match error {
+            NotRun::NoMemory => TierError::NoMemory,
+            NotRun::NotBack => TierError::NotBack,
         }
     }
 }

@@ -4,6 +4,7 @@
 mod closing;
 mod error;
 mod places;
+mod refusals;
 mod relay;
 mod source;
 mod stop;

@@ -30,12 +30,12 @@ where
 }
 
 impl<R: Net + Log + Copy + Drop> Places<R> {
-    /// At this address, each of which takes so many connections.
+    /// At this address, each of which takes so many connections, or any number.
     pub(crate) fn new(
         rt: R,
         alloc: Global,
         listen: SocketAddr,
-        accepts: u32,
+        accepts: Option<u32>,
         is_ending: &IsEnding,
     ) -> Result<Places<R>, TierError> {
         let listening = match Listening::at(&rt, alloc, listen) {

@@ -2,27 +2,27 @@
 
 ghost use Rattle.std.specs.Prelude.{◌≡◌, ◌≤◌, []};
 ghost use Rattle.std.specs.List.{AllByRecursion};
-ghost use Rattle.left_right.specs.Handles.{published, pending};
-ghost use Rattle.ovs_folder.specs.InStep.{IsInStep};
-ghost use Rattle.ovs_folder.specs.Ledger.{IsFresh, steps_in};
+ghost use Rattle.ovs_folder.specs.Nodes.{NodeInStep, OpenNodeInStep};
+ghost use Rattle.ovs_folder.specs.Ledger.{IsFresh};
 
-use crate::closing::{Closing, closing_of_relay};
+use crate::closing::{Cause, Closing};
 use crate::error::TierError;
 use crate::places::{LIMITS, Places, WORKERS};
+use crate::refusals::UpstreamRefusals;
 use crate::stop::Stop;
 use crate::upstreams::{UpstreamSockets, Upstreams};
 use crate::watching::Watching;
 use log::Log;
 use ovs_engine::{
-    Counters, Crew, Line, LockedDesk, Shared, SourceDesk, Unused, UpstreamParts, WorkerParts,
-    run_node,
+    Counters, Line, LockedDesk, NodeThreads, RelayThreads, Shared, SharedSide, SourceDesk, Unused,
+    Upstream, run_relay,
 };
 use ovs_hall::Doors;
 use ovs_json::Text;
 use ovs_links::Step;
 use ovs_node::{
     Board, FeedEnd, FeedName, FeedQueue, Handle, Node, NodeError, NodeLink, NodeName, OpenNode,
-    Opened, Parts, View,
+    Opened, Parts, Report, View,
 };
 use ovs_recorded_desk::{DeskName, DeskStep, RecordedDesk, relay_desk_sends};
 use ovs_sockets::{Ending, IsEnding, SocketBell, SocketDoors};
@@ -30,8 +30,12 @@ use ovs_types::Schema;
 use std::alloc::Global;
 use std::marker::Brand;
 use std::net::{Net, SocketAddr, TcpListener, TcpStream};
+use std::sync::atomic::AtomicBool;
 use std::sync::{Arc, Mutex, Wait};
 use std::thread::Threads;
+
+// What a relay says once none of its upstreams is tried any more, while it serves readers.
+const UNFED: &str = "no upstream is tried any more: all tries are used up";
 
 /// Which relay to run.
 #[derive(Clone, Copy, Debug)]
@@ -40,11 +44,11 @@ pub struct RelayPlan<'a> {
     pub listen: SocketAddr,
     /// Its upstreams, the first of which is asked what only the source can answer.
     pub upstreams: &'a [SocketAddr],
-    /// How many connections each worker takes at most.
-    pub accepts: u32,
-    /// How many connections with each upstream are tried at most.
-    pub tries: u32,
-    /// Whether it comes to its end once a link was refused.
+    /// How many connections each worker takes at most, where there is a bound.
+    pub accepts: Option<u32>,
+    /// How many connections with each upstream are tried at most, where there is a bound.
+    pub tries: Option<u32>,
+    /// Whether it comes to its end once a link was refused, an upstream can't be followed, or none is tried any more.
     pub ends_on_refusal: bool,
     /// Whether it drops the links of older epochs once a newer one is published.
     pub prunes: bool,
@@ -61,6 +65,7 @@ where
     places: Places<R>,
     upstreams: Upstreams<R>,
     ending: Arc<Ending>,
+    refusals: Arc<UpstreamRefusals>,
     ends_on_refusal: bool,
     prunes: bool,
 }
@@ -82,16 +87,21 @@ impl<
     pub fn open(rt: R, alloc: Global, plan: RelayPlan<'_>) -> Result<Relay<R>, TierError> {
         let is_ending = IsEnding::new(alloc)?;
         let places = Places::new(rt, alloc, plan.listen, plan.accepts, &is_ending)?;
-        let upstreams = Upstreams::new(rt, alloc, plan.upstreams, plan.tries, &is_ending)?;
+        let mut upstreams = Upstreams::new(rt, alloc, plan.upstreams, plan.tries, &is_ending)?;
         let mut ending = Ending::new(alloc, is_ending);
         ending.add(&places.bells)?;
         ending.add(&upstreams.bells)?;
+        let ending = Arc::new(alloc, ending)?;
+        let refusals = UpstreamRefusals::new(ending.clone()?, plan.ends_on_refusal);
+        let refusals = Arc::new(alloc, refusals)?;
+        upstreams.note_at(&refusals)?;
         Ok(Relay {
             rt,
             alloc,
             places,
             upstreams,
-            ending: Arc::new(alloc, ending)?,
+            ending,
+            refusals,
             ends_on_refusal: plan.ends_on_refusal,
             prunes: plan.prunes,
         })
@@ -163,7 +173,7 @@ fn named<
     requires table { node.feed.items.table.shared.table_id ≡ Q.table }
     requires upstreams { node.upstreams ≤ 4 }
     requires store { IsFresh K.schema node.store }
-    requires publisher { IsInStep (published node.publisher.handle) (pending node.publisher.handle) node.publisher.front node.publisher.kept [] }
+    requires publisher { OpenNodeInStep node }
 {
     let parts = node.named::<Q>()?;
     let database = Text::new(relay.alloc, schema.name())?;
@@ -218,8 +228,8 @@ where
     views: Vec<View<K>>,
 }
 
-// A relay's threads.
-type RelayCrew<'a, 'x, K, Q, N, R> = Crew<
+// The threads of a relay over sockets.
+type Crew<'a, 'x, K, Q, N, R> = RelayThreads<
     'a,
     K,
     Q,
@@ -231,28 +241,27 @@ type RelayCrew<'a, 'x, K, Q, N, R> = Crew<
 
 // A worker at each of these doors, with the last of the views.
 fn add_workers<'a, 'x, K: NodeName, Q: FeedName, N: DeskName + Send, R: Wait + Net + Log + Drop>(
-    crew: RelayCrew<'a, 'x, K, Q, N, R>,
+    crew: Crew<'a, 'x, K, Q, N, R>,
     doors: Vec<Unused<SocketDoors<R>>>,
     views: &mut Vec<View<K>>,
-) -> Result<RelayCrew<'a, 'x, K, Q, N, R>, TierError> {
+) -> Result<Crew<'a, 'x, K, Q, N, R>, TierError> {
     let mut crew = crew;
     for doors in doors {
         let view = views.pop().ok_or(TierError::Node(NodeError::BadCount))?;
-        if crew.add_worker(WorkerParts { view, doors }).is_err() {
-            return Err(TierError::NoMemory);
-        }
+        crew.add_worker(doors, view)?;
     }
     Ok(crew)
 }
 
 // An upstream for each of these lines. The first is the source, to which the desk's requests go.
 fn add_upstreams<'a, 'x, K: NodeName, Q: FeedName, N: DeskName + Send, R: Wait + Net + Log + Drop>(
-    crew: RelayCrew<'a, 'x, K, Q, N, R>,
+    alloc: Global,
+    crew: Crew<'a, 'x, K, Q, N, R>,
     stage: &'a Stage<'x, N, R>,
     lines: Vec<Line<K, Q, UpstreamSockets<R>>>,
     connectors: Vec<UpstreamSockets<R>>,
     views: Vec<View<K>>,
-) -> Result<RelayCrew<'a, 'x, K, Q, N, R>, TierError> {
+) -> Result<Crew<'a, 'x, K, Q, N, R>, TierError> {
     let mut crew = crew;
     let progress = if connectors.len() == 1 {
         Some(stage.counters.progress())
@@ -265,14 +274,12 @@ fn add_upstreams<'a, 'x, K: NodeName, Q: FeedName, N: DeskName + Send, R: Wait +
         progress,
     });
     for ((line, connector), view) in lines.into_iter().zip(connectors).zip(views) {
-        let upstream = UpstreamParts {
+        let upstream = Upstream {
             line,
-            view,
             connector,
+            source: SharedSide::new(alloc, source.take()),
         };
-        if crew.add_upstream(upstream, source.take()).is_err() {
-            return Err(TierError::NoMemory);
-        }
+        crew.add_feed(upstream, view)?;
     }
     Ok(crew)
 }
@@ -296,7 +303,7 @@ fn crew_of<'a, 'x, K: NodeName, Q: FeedName, N: DeskName + Send, R: Wait + Net +
     alloc: Global,
     stage: &'a Stage<'x, N, R>,
     outfit: Outfit<K, Q, R>,
-) -> Result<RelayCrew<'a, 'x, K, Q, N, R>, TierError>
+) -> Result<Crew<'a, 'x, K, Q, N, R>, TierError>
     requires unsent { AllByRecursion (λ e. e.1 ≡ []) outfit.ends.items }
 {
     let Outfit {
@@ -306,8 +313,8 @@ fn crew_of<'a, 'x, K: NodeName, Q: FeedName, N: DeskName + Send, R: Wait + Net +
         mut views,
     } = outfit;
     let lines = lines_of(alloc, ends)?;
-    let crew = add_workers(Crew::new(alloc), doors, &mut views)?;
-    add_upstreams(crew, &*stage, lines, connectors, views)
+    let crew = add_workers(NodeThreads::new(alloc), doors, &mut views)?;
+    add_upstreams(alloc, crew, &*stage, lines, connectors, views)
 }
 
 // Runs the node with a desk for its database, and tells what came of it.
@@ -334,7 +341,8 @@ fn run<
 ) -> Result<Closing, TierError>
     requires desk { (opened.seen.book ≡ N.book) × (database ≡ N.database) }
     requires schema { schema.now ≡ K.schema }
-    requires in_step { IsInStep (published parts.node.publisher.handle) (pending parts.node.publisher.handle) parts.node.publisher.front parts.node.publisher.kept (steps_in parts.node.intake.store) }
+    requires in_step { NodeInStep parts.node }
+    requires none { parts.node.intake.feed.returned ≡ [] }
     requires unsent { AllByRecursion (λ e. e.1 ≡ []) parts.ends.items }
 {
     let Parts {
@@ -349,6 +357,7 @@ fn run<
         places,
         upstreams,
         ending,
+        refusals,
         ends_on_refusal,
         prunes,
         ..
@@ -366,18 +375,22 @@ fn run<
         views,
     };
     let stage = Stage::<'x, N, R>::new(rt, alloc, database, opened, bells, upward)?;
-    let rung = if ends_on_refusal {
-        Some(&*ending)
-    } else {
-        None
-    };
     let watching = Watching {
         rt: &*rt,
-        ending: rung,
+        ending: &*ending,
+        ends_on_refusal,
+        ends_unfed: ends_on_refusal,
+        unfed: UNFED,
+        has_given_up: AtomicBool::new(false),
     };
-    staged(
+    let report = staged(
         rt, alloc, schema, &queue, &board, &stage, &watching, node, outfit,
-    )
+    )?;
+    let cause = Cause {
+        has_given_up: watching.has_given_up(),
+        refused_upstream: refusals.has_ended(),
+    };
+    Ok(Closing::of(rt, alloc, &report, cause))
 }
 
 // The same, where all is there that the threads share.
@@ -406,15 +419,15 @@ fn staged<
     watching: &'a Watching<'x, 'e, R>,
     node: Node<K, Q, Handle<K, &'x R>>,
     outfit: Outfit<K, Q, R>,
-) -> Result<Closing, TierError>
+) -> Result<Report<K, Handle<K, &'x R>>, TierError>
     requires schema { schema.now ≡ K.schema }
     requires unsent { AllByRecursion (λ e. e.1 ≡ []) outfit.ends.items }
-    requires in_step { IsInStep (published node.publisher.handle) (pending node.publisher.handle) node.publisher.front node.publisher.kept (steps_in node.intake.store) }
+    requires in_step { NodeInStep node }
+    requires none { node.intake.feed.returned ≡ [] }
 {
     let crew = crew_of(alloc, &*stage, outfit)?;
     let shared = Shared {
         rt: &*rt,
-        schema: &*schema,
         queue: &*queue,
         board: &*board,
         desk: &stage.desk,
@@ -425,8 +438,5 @@ fn staged<
         limits: LIMITS,
     };
     relay_desk_sends();
-    match run_node(alloc, &shared, node, crew) {
-        Ok(ran) => closing_of_relay(&*rt, alloc, &*queue, &*board, ran),
-        Err(_unrun) => Err(TierError::NoMemory),
-    }
+    Ok(run_relay(alloc, &shared, schema, node, crew)?)
 }

@@ -2,33 +2,37 @@
 
 ghost use Rattle.std.specs.Prelude.{◌≡◌, ◌≤◌, [], IfOk};
 ghost use Rattle.std.specs.List.{AllByRecursion};
-ghost use Rattle.left_right.specs.Handles.{published, pending};
-ghost use Rattle.ovs_folder.specs.InStep.{IsInStep};
-ghost use Rattle.ovs_folder.specs.Ledger.{IsFresh, steps_in};
+ghost use Rattle.ovs_folder.specs.Nodes.{NodeInStep, OpenNodeInStep};
+ghost use Rattle.ovs_folder.specs.Ledger.{IsFresh};
+ghost use Rattle.ovs_source.specs.SourceDesk.{AreBehind, KeepsTaken};
 
-use crate::closing::{Closing, closing_of_source};
+use crate::closing::{Cause, Closing};
 use crate::error::TierError;
 use crate::places::{LIMITS, Places, WORKERS};
 use crate::stop::Stop;
 use crate::watching::Watching;
 use log::Log;
-use ovs_engine::{Counters, Unused, WorkerParts};
+use ovs_engine::{Counters, NodeThreads, Shared, Unused};
 use ovs_hall::Doors;
 use ovs_links::Step;
 use ovs_node::{
     Board, FeedEnd, FeedName, FeedQueue, Handle, Node, NodeError, NodeLink, NodeName, OpenNode,
     Opened, Parts, View,
 };
-use ovs_origin::{LockedSource, SharedSource, SourceCrew, SourceLine, SourceParts, run_source};
-use ovs_recorded_source::{RecordedSource, SourceName, SourceStep, holding_desk_sends};
+use ovs_origin::{LockedSource, SourceLine, run_source};
+use ovs_recorded_source::{RecordedSource, SourceName, SourceStep, TakenLinks, holding_desk_sends};
 use ovs_sockets::{Ending, IsEnding, SocketBell, SocketDoors};
 use ovs_source::{FreshRows, Source, SourceDesk};
 use ovs_types::{RowId, Schema, TxnId};
 use std::alloc::Global;
 use std::marker::Brand;
 use std::net::{Net, SocketAddr, TcpListener, TcpStream};
+use std::sync::atomic::AtomicBool;
 use std::sync::{Arc, Mutex, Wait};
 use std::thread::Threads;
+
+// What a source says where its desk has no thread, while it serves readers.
+const UNFED: &str = "there is no thread to publish commits";
 
 /// Which source to run.
 #[derive(Clone, Copy, Debug, PartialEq, Eq)]
@@ -41,8 +45,8 @@ pub struct SourcePlan {
     pub first_row: RowId,
     /// After how many links of one epoch it begins the next, where it has more than one.
     pub trim_every: Option<u32>,
-    /// How many connections each worker takes at most.
-    pub accepts: u32,
+    /// How many connections each worker takes at most, where there is a bound.
+    pub accepts: Option<u32>,
 }
 
 /// A source that listens, and is served once it runs.
@@ -161,9 +165,9 @@ fn named<
 ) -> Result<Closing, TierError>
     requires schema { schema.now ≡ K.schema }
     requires table { node.feed.items.table.shared.table_id ≡ Q.table }
-    requires upstreams { node.upstreams ≤ 4 }
+    requires one { node.upstreams ≡ 1 }
     requires store { IsFresh K.schema node.store }
-    requires publisher { IsInStep (published node.publisher.handle) (pending node.publisher.handle) node.publisher.front node.publisher.kept [] }
+    requires publisher { OpenNodeInStep node }
 {
     let parts = node.named::<Q>()?;
     let desk = desk_of(source.alloc, schema, source.begins)?;
@@ -174,6 +178,7 @@ fn named<
 // Has the desk begin a new epoch after so many links, where that is wanted; none where it is after no link.
 fn renew_every(desk: &mut SourceDesk, every: Option<u32>)
     ensures schema { desk.new.source.schema ≡ desk.old.source.schema }
+    ensures taken { KeepsTaken desk.old desk.new }
 {
     match every {
         Some(every) if every > 0 => desk.trim_every(u64::from(every)),
@@ -184,6 +189,7 @@ fn renew_every(desk: &mut SourceDesk, every: Option<u32>)
 // A desk of a source without a commit.
 fn desk_of(alloc: Global, schema: &Schema, begins: Begins) -> Result<SourceDesk, TierError>
     ensures schema { IfOk result (λ d. d.source.schema ≡ schema.now) }
+    ensures none_taken { IfOk result (AreBehind []) }
 {
     let source = Source::new(alloc, schema)?;
     let fresh = FreshRows::new(begins.first_row);
@@ -192,27 +198,29 @@ fn desk_of(alloc: Global, schema: &Schema, begins: Begins) -> Result<SourceDesk,
     Ok(desk)
 }
 
+// The threads of a source over sockets.
+type Crew<'a, K, Q, N, R> = NodeThreads<
+    K,
+    SourceLine<K, Q, TakenLinks<N>, LockedSource<'a, K, N, R>>,
+    SocketDoors<R>,
+>;
+
 // The desk's thread, and a worker at each of these doors.
 fn crew_of<'a, K: NodeName, Q: FeedName, N: SourceName, R: Wait + Log + Drop>(
     alloc: Global,
     end: FeedEnd<NodeLink<K>, Q>,
+    taken: TakenLinks<N>,
     views: Vec<View<K>>,
     doors: Vec<Unused<SocketDoors<R>>>,
-) -> Result<SourceCrew<K, Q, LockedSource<'a, K, N, R>, SocketDoors<R>>, TierError>
+) -> Result<Crew<'a, K, Q, N, R>, TierError>
     requires unsent { end.1 ≡ [] }
+    requires untaken { taken ≡ [] }
 {
-    let mut views = views;
-    let parts = SourceParts {
-        line: SourceLine::new(end),
-        view: views.pop().ok_or(TierError::Node(NodeError::BadCount))?,
-    };
-    let Ok(mut crew) = SourceCrew::new(alloc, parts) else {
-        return Err(TierError::NoMemory);
-    };
+    let (mut views, mut crew) = (views, NodeThreads::new(alloc));
+    let view = views.pop().ok_or(TierError::Node(NodeError::BadCount))?;
+    crew.add_feed(SourceLine::new(end, taken), view)?;
     for (doors, view) in doors.into_iter().zip(views) {
-        if crew.add_worker(WorkerParts { view, doors }).is_err() {
-            return Err(TierError::NoMemory);
-        }
+        crew.add_worker(doors, view)?;
     }
     Ok(crew)
 }
@@ -248,8 +256,11 @@ fn run<
     opened: Opened<SourceStep>,
 ) -> Result<Closing, TierError>
     requires desk { (opened.seen.book ≡ N.book) × (desk ≡ N.start) }
+    requires none_taken { AreBehind [] N.start }
     requires schema { desk.source.schema ≡ K.schema }
-    requires in_step { IsInStep (published parts.node.publisher.handle) (pending parts.node.publisher.handle) parts.node.publisher.front parts.node.publisher.kept (steps_in parts.node.intake.store) }
+    requires in_step { NodeInStep parts.node }
+    requires none { parts.node.intake.feed.returned ≡ [] }
+    requires one { parts.node.intake.feed.ends ≡ 1 }
     requires unsent { AllByRecursion (λ e. e.1 ≡ []) parts.ends.items }
 {
     let Parts {
@@ -259,19 +270,28 @@ fn run<
         views,
         board,
     } = parts;
-    let SourceNode { alloc, places, .. } = source;
+    let SourceNode {
+        alloc,
+        places,
+        ending,
+        ..
+    } = source;
     let Places { doors, bells, .. } = places;
-    let (desk, _known) = RecordedSource::<N>::new(alloc, desk, opened);
+    let (desk, known) = RecordedSource::<N>::new(alloc, desk, opened);
     let stage = Stage {
         desk: LockedSource::new(rt, alloc, desk),
         bells,
         counters: Counters::new(),
     };
     let end = ends.pop().ok_or(TierError::Node(NodeError::BadCount))?;
-    let crew = crew_of(alloc, end, views, doors)?;
+    let crew = crew_of(alloc, end, TakenLinks::new(known), views, doors)?;
     let watching = Watching {
         rt: &*rt,
-        ending: None,
+        ending: &*ending,
+        ends_on_refusal: false,
+        ends_unfed: true,
+        unfed: UNFED,
+        has_given_up: AtomicBool::new(false),
     };
     staged(rt, alloc, &queue, &board, &stage, &watching, node, crew)
 }
@@ -300,23 +320,28 @@ fn staged<
     stage: &'a Stage<'x, K, N, R>,
     watching: &'a Watching<'x, 'e, R>,
     node: Node<K, Q, Handle<K, &'x R>>,
-    crew: SourceCrew<K, Q, LockedSource<'x, K, N, R>, SocketDoors<R>>,
+    crew: Crew<'x, K, Q, N, R>,
 ) -> Result<Closing, TierError>
-    requires in_step { IsInStep (published node.publisher.handle) (pending node.publisher.handle) node.publisher.front node.publisher.kept (steps_in node.intake.store) }
+    requires in_step { NodeInStep node }
+    requires none { node.intake.feed.returned ≡ [] }
+    requires one { node.intake.feed.ends ≡ 1 }
 {
-    let shared = SharedSource {
+    let shared = Shared {
         rt: &*rt,
         queue: &*queue,
         board: &*board,
         desk: &stage.desk,
+        upward: &stage.desk,
         bells: &stage.bells,
         counters: &stage.counters,
         watcher: &*watching,
         limits: LIMITS,
     };
     holding_desk_sends();
-    match run_source(alloc, &shared, node, crew) {
-        Ok(ran) => closing_of_source(&*rt, alloc, &*queue, &*board, ran),
-        Err(_unrun) => Err(TierError::NoMemory),
-    }
+    let report = run_source(alloc, &shared, node, crew)?;
+    let cause = Cause {
+        has_given_up: watching.has_given_up(),
+        refused_upstream: false,
+    };
+    Ok(Closing::of(rt, alloc, &report, cause))
 }

@@ -9,7 +9,7 @@ use Rattle.ovs_command.proofs.commands.commands.Goals as goal
 
 abbrev base : App
 base =
-    record (new_app (codes "ovs_relay")) { top = record (new_app (codes "ovs_relay")).top { has_version = true; subcommand_required = true; disable_help_subcommand = true } }
+    record (new_app (codes "ovs_relay")) { top = record (new_app (codes "ovs_relay")).top { has_version = true; propagate_version = true; subcommand_required = true; disable_help_subcommand = true } }
 
 not_true : (b : Bool) → not b ≡ true → b ≡ false
 not_true false is = refl

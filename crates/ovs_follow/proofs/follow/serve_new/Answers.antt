@@ -17,4 +17,5 @@ returns-clause-followed g c =
       makes = c.into_parts-sink.ensures.made ∙ ap (λ f. f.made) c.into_core.ensures.value;
       closed = λ is. let done = serve.closed (ap (λ s. s.ended) began) (ap (λ s. s.is_at_end) began) is in (done.0, done.1);
       bad = λ is. serve.bad (ap (λ s. s.ended) began) is;
+      fault_is = c.fault_of-fault.ensures.fault;
     }

@@ -1,9 +1,6 @@
-use Rattle.left_right.specs.Handles.{published, pending}
-use Rattle.ovs_folder.specs.InStep.{IsInStep}
-use Rattle.ovs_folder.specs.Ledger.{steps_in}
+use Rattle.ovs_folder.specs.Nodes.{NodeInStep}
 use Rattle.ovs_node_cases.proofs.fold.fold_all.Given as goal
 
 abbrev pub invariant-loop : goal.invariant-loop
 invariant-loop g l =
-    IsInStep (published l.node.publisher.handle) (pending l.node.publisher.handle) l.node.publisher.front l.node.publisher.kept
-    (steps_in l.node.intake.store)
+    NodeInStep l.node

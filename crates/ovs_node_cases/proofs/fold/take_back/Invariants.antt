@@ -1,9 +1,6 @@
-use Rattle.left_right.specs.Handles.{published, pending}
-use Rattle.ovs_folder.specs.InStep.{IsInStep}
-use Rattle.ovs_folder.specs.Ledger.{steps_in}
+use Rattle.ovs_folder.specs.Nodes.{NodeInStep}
 use Rattle.ovs_node_cases.proofs.fold.take_back.Given as goal
 
-abbrev pub invariant-loop-one : goal.invariant-loop-one
-invariant-loop-one g l =
-    IsInStep (published l.node.publisher.handle) (pending l.node.publisher.handle) l.node.publisher.front l.node.publisher.kept
-    (steps_in l.node.intake.store)
+abbrev pub invariant-loop-back : goal.invariant-loop-back
+invariant-loop-back g l =
+    NodeInStep l.node

@@ -6,11 +6,11 @@ use Rattle.ovs_engine.proofs.DeskParts.{relay_lock_shares}
 use Rattle.ovs_tier.specs.contracts.relay.staged.{N-row}
 use Rattle.ovs_tier.proofs.relay.staged.Goals as goal
 
-pub run_node-requires-sync-L : goal.run_node-requires-sync-L
-run_node-requires-sync-L g c κs within =
+pub run_relay-requires-sync-L : goal.run_relay-requires-sync-L
+run_relay-requires-sync-L g c κs within =
     let name = N-row g.row.K g.row.Q g.row.N g.row.R in
     let desk = recorded_desk_sends name g.N.DeskName c.relay_desk_sends.ensures in
     param_sync 4 _ (arg_sync _ yes _ (relay_lock_shares _ name g.N.DeskName _ desk c.type_bounds.sync-R))
 
-pub run_node-requires-send-D : goal.run_node-requires-send-D
-run_node-requires-send-D g c κs within = param_send 3 _ (arg_send _ yes _ (socket_doors_send _ c.type_bounds.send-R))
+pub run_relay-requires-send-D : goal.run_relay-requires-send-D
+run_relay-requires-send-D g c κs within = param_send 3 _ (arg_send _ yes _ (socket_doors_send _ c.type_bounds.send-R))

@@ -10,13 +10,13 @@ pub run_source-requires-send-L : goal.run_source-requires-send-L
 run_source-requires-send-L g c κs within =
     let name = N-row g.row.K g.row.Q g.row.N g.row.R in
     let desk = recorded_source_sends name g.N.SourceName c.holding_desk_sends.ensures in
-    param_send 2 _ (arg_send _ yes _ (source_lock_sends _ _ name _ g.K.NodeName g.N.SourceName desk c.type_bounds.sync-R))
+    param_send 3 _ (arg_send _ yes _ (source_lock_sends _ _ name _ g.K.NodeName g.N.SourceName desk c.type_bounds.sync-R))
 
 pub run_source-requires-sync-L : goal.run_source-requires-sync-L
 run_source-requires-sync-L g c κs within =
     let name = N-row g.row.K g.row.Q g.row.N g.row.R in
     let desk = recorded_source_sends name g.N.SourceName c.holding_desk_sends.ensures in
-    param_sync 2 _ (arg_sync _ yes _ (source_lock_shares _ _ name _ g.K.NodeName g.N.SourceName desk c.type_bounds.sync-R))
+    param_sync 3 _ (arg_sync _ yes _ (source_lock_shares _ _ name _ g.K.NodeName g.N.SourceName desk c.type_bounds.sync-R))
 
 pub run_source-requires-send-D : goal.run_source-requires-send-D
-run_source-requires-send-D g c κs within = param_send 3 _ (arg_send _ yes _ (socket_doors_send _ c.type_bounds.send-R))
+run_source-requires-send-D g c κs within = param_send 4 _ (arg_send _ yes _ (socket_doors_send _ c.type_bounds.send-R))

@@ -1,9 +1,0 @@
-use Rattle.left_right.specs.Handles.{published, pending}
-use Rattle.ovs_folder.specs.InStep.{IsInStep}
-use Rattle.ovs_folder.specs.Ledger.{steps_in}
-use Rattle.ovs_engine_cases.proofs.outcome.ended.Given as goal
-
-abbrev pub invariant-loop-end : goal.invariant-loop-end
-invariant-loop-end g l =
-    IsInStep (published l.node.publisher.handle) (pending l.node.publisher.handle) l.node.publisher.front l.node.publisher.kept
-    (steps_in l.node.intake.store)

@@ -1,0 +1,144 @@
+//! A line by its first word.
+
+use crate::fault::Fault;
+use crate::{engine, hall, many, node, sendings, tier};
+use log::Log;
+use ovs_links::Step;
+use ovs_node::Opened;
+use ovs_types::Schema;
+use serde_json::Value;
+use std::alloc::Global;
+use std::marker::Brand;
+use std::net::{Net, TcpListener, TcpStream};
+use std::sync::Wait;
+use std::thread::Threads;
+
+/// What the lines are asked of: a host, and the schema that is in use.
+#[derive(Drop)]
+pub(crate) struct Table<R: Drop> {
+    rt: R,
+    alloc: Global,
+    schema: Option<Box<Schema>>,
+}
+
+impl<
+    R: Threads
+        + Wait
+        + Net<Listener = TcpListener, Stream = TcpStream>
+        + Log
+        + Copy
+        + Drop
+        + Send
+        + Sync,
+> Table<R> {
+    /// No schema is in use yet.
+    pub(crate) fn new(rt: R, alloc: Global) -> Table<R> {
+        Table {
+            rt,
+            alloc,
+            schema: None,
+        }
+    }
+
+    /// What a line answers, with a fault as text.
+    pub(crate) fn told(&mut self, line: &str) -> Result<String, Fault> {
+        match self.answer(line) {
+            Ok(answer) => Ok(answer),
+            Err(fault) => Ok(String::from_str(self.alloc, fault.word())?),
+        }
+    }
+
+    fn answer(&mut self, line: &str) -> Result<String, Fault> {
+        let line = Value::from_str(self.alloc, line)?;
+        let parts = line.as_array().ok_or(Fault::Malformed)?.as_slice();
+        match parts {
+            [word, json] if word.as_str() == Some("use") => {
+                self.schema = Some(read_schema(self.alloc, json)?);
+                Ok(String::from_str(self.alloc, "ok")?)
+            }
+            _ => self.of_schema(self.schema.as_deref().ok_or(Fault::Malformed)?, parts),
+        }
+    }
+
+    // The lines that are asked of the schema in use.
+    fn of_schema(&self, schema: &Schema, parts: &[Value]) -> Result<String, Fault> {
+        let (rt, alloc) = (&self.rt, self.alloc);
+        let (word, arguments) = parts.split_first().ok_or(Fault::Malformed)?;
+        match (word.as_str().ok_or(Fault::Malformed)?, arguments) {
+            ("node", [views, ends]) => {
+                let ends = ends.as_array().ok_or(Fault::Malformed)?.as_slice();
+                let scene = sendings::Scene::Listed(ends);
+                of_node(rt, alloc, schema, count(views)? as usize, scene)
+            }
+            ("publish", [views, steps]) => {
+                let scene = sendings::Scene::Many(count(steps)?);
+                of_node(rt, alloc, schema, count(views)? as usize, scene)
+            }
+            ("store", [steps]) => many::stored(alloc, schema, count(steps)?),
+            ("make", [steps]) => many::made(alloc, schema, count(steps)?),
+            ("hall", [change, sessions, piece, talk]) => {
+                let scene = hall::Scene {
+                    change,
+                    sessions: count(sessions)?,
+                    piece: count(piece)? as usize,
+                    talk,
+                };
+                of_hall(rt, alloc, schema, scene)
+            }
+            ("engine", scene) => {
+                let scene = engine::Scene::read(alloc, schema, scene)?;
+                of_engine(rt, alloc, schema, scene)
+            }
+            ("tier", scene) => {
+                let scene = tier::Scene::read(alloc, scene)?;
+                tier::run_tier(self.rt, alloc, schema, &scene)
+            }
+            _ => Err(Fault::Malformed),
+        }
+    }
+}
+
+fn read_schema(alloc: Global, json: &Value) -> Result<Box<Schema>, Fault> {
+    match Schema::read(alloc, json) {
+        Ok(schema) => Ok(Box::new(alloc, schema)?),
+        Err(_) => Err(Fault::Malformed),
+    }
+}
+
+fn count(json: &Value) -> Result<u64, Fault> {
+    json.as_u64().ok_or(Fault::Malformed)
+}
+
+// What a node answers, whose history is opened here.
+fn of_node<R: Threads + Wait + Sync>(
+    rt: &R,
+    alloc: Global,
+    schema: &Schema,
+    views: usize,
+    scene: sendings::Scene,
+) -> Result<String, Fault> {
+    let opened = Opened::<Step>::new();
+    node::opened::<Brand, R>(rt, alloc, schema, opened, views, scene)
+}
+
+// What comes of a hall, for which a history is opened here.
+fn of_hall<R: Wait>(
+    rt: &R,
+    alloc: Global,
+    schema: &Schema,
+    scene: hall::Scene,
+) -> Result<String, Fault> {
+    let opened = Opened::<Step>::new();
+    hall::opened::<Brand, R>(rt, alloc, schema, opened, scene)
+}
+
+// What comes of a node with upstreams, for which a history is opened here.
+fn of_engine<R: Threads + Wait + Sync>(
+    rt: &R,
+    alloc: Global,
+    schema: &Schema,
+    scene: engine::Scene,
+) -> Result<String, Fault> {
+    let opened = Opened::<Step>::new();
+    engine::opened::<Brand, R>(rt, alloc, schema, opened, scene)
+}

@@ -1,0 +1,216 @@
+//! A source and a relay behind it, over sockets and in one process, with a client of the relay: what the client is answered, and
+//! what both nodes say at their ends.
+
+use crate::client::Client;
+use crate::fault::Fault;
+use crate::links::id_of;
+use log::{LevelFilter, Log, Logged};
+use ovs_data::{RowId, TxnId};
+use ovs_tier::{Closing, Relay, RelayPlan, SourceNode, SourcePlan, Stop, TierError};
+use ovs_types::Schema;
+use serde_json::Value;
+use std::alloc::Global;
+use std::net::{Net, SocketAddr, TcpListener, TcpStream};
+use std::sync::Wait;
+use std::thread::{Threads, join};
+
+const NO_ROWS: &str = r#"[{"rows":[]}]"#;
+
+const MOST_SELECTS: u32 = 100_000;
+
+const MOST_CONNECTIONS: u32 = 1_000;
+
+/// `[COMMIT, ROW, INSERT, SELECT]`: the ids of the source's first commit and of its first row, and what the client asks: that a row
+/// is inserted, and what a select shows, until it shows one.
+#[derive(Drop)]
+pub(crate) struct Scene {
+    first_commit: TxnId,
+    first_row: RowId,
+    insert: String,
+    select: String,
+}
+
+impl Scene {
+    /// What stands in a line.
+    pub(crate) fn read(alloc: Global, parts: &[Value]) -> Result<Scene, Fault> {
+        let [commit, row, insert, select] = parts else {
+            return Err(Fault::Malformed);
+        };
+        let row = row.as_str().ok_or(Fault::Malformed)?;
+        Ok(Scene {
+            first_commit: id_of(commit)?,
+            first_row: RowId::read(row).or(Err(Fault::Malformed))?,
+            insert: insert.to_string(alloc)?,
+            select: select.to_string(alloc)?,
+        })
+    }
+}
+
+// What came of a node.
+type NodeEnd = Result<Closing, TierError>;
+
+// What the client was answered.
+type ClientAnswers = Result<(String, String), Fault>;
+
+// An address of this machine, with a port that the system chooses.
+fn any_port() -> Result<SocketAddr, Fault> {
+    "127.0.0.1:0"
+        .parse::<SocketAddr>()
+        .or(Err(Fault::Malformed))
+}
+
+// A source whose first commit and first row have the ids of the scene.
+fn source<
+    R: Threads
+        + Wait
+        + Net<Listener = TcpListener, Stream = TcpStream>
+        + Log
+        + Copy
+        + Drop
+        + Send
+        + Sync,
+>(rt: R, alloc: Global, scene: &Scene) -> Result<SourceNode<R>, Fault> {
+    let plan = SourcePlan {
+        listen: any_port()?,
+        first_commit: scene.first_commit,
+        first_row: scene.first_row,
+        trim_every: None,
+        accepts: Some(MOST_CONNECTIONS),
+    };
+    Ok(SourceNode::open(rt, alloc, plan)?)
+}
+
+// A relay of the node at this address.
+fn relay<
+    R: Threads
+        + Wait
+        + Net<Listener = TcpListener, Stream = TcpStream>
+        + Log
+        + Copy
+        + Drop
+        + Send
+        + Sync,
+>(rt: R, alloc: Global, upstream: SocketAddr) -> Result<Relay<R>, Fault> {
+    let plan = RelayPlan {
+        listen: any_port()?,
+        upstreams: &[upstream],
+        accepts: Some(MOST_CONNECTIONS),
+        tries: Some(MOST_CONNECTIONS),
+        ends_on_refusal: false,
+        prunes: false,
+    };
+    Ok(Relay::open(rt, alloc, plan)?)
+}
+
+// What the client does.
+#[derive(Drop)]
+struct Talk<'a> {
+    alloc: Global,
+    // Where the relay's readers come in.
+    address: SocketAddr,
+    scene: &'a Scene,
+    // What brings both nodes to their ends once the client is answered.
+    stops: &'a [Stop],
+}
+
+impl<'a> Talk<'a> {
+    // Inserts the row, and selects until one is shown: what was answered to the insert, and to the last select.
+    fn answers<R: Net<Stream = TcpStream>>(&self, rt: &R) -> ClientAnswers {
+        let mut client = Client::connect(rt, self.alloc, self.address)?;
+        let inserted = client.transact(self.scene.insert.as_str())?;
+        for _ in 0..MOST_SELECTS {
+            let shown = client.transact(self.scene.select.as_str())?;
+            if shown.as_str() != NO_ROWS {
+                return Ok((inserted, shown));
+            }
+        }
+        Err(Fault::NotShown)
+    }
+
+    // The same, and then both nodes are brought to their ends.
+    fn through<R: Net<Stream = TcpStream>>(&self, rt: &R) -> ClientAnswers {
+        let answers = self.answers(rt);
+        for stop in self.stops {
+            stop.now();
+        }
+        answers
+    }
+}
+
+// Runs a source and a relay, each in a thread of its own, and their client in this one: what came of each. The nodes and what runs them
+// go apart to the threads, so that it is known of each node's type alone that it may.
+fn beside<
+    R: Threads + Net<Stream = TcpStream> + Sync,
+    S: Send + Drop,
+    N: Send + Drop,
+    F: FnOnce(S) -> NodeEnd + Send,
+    G: FnOnce(N) -> NodeEnd + Send,
+>(
+    rt: &R,
+    source: S,
+    run_source: F,
+    relay: N,
+    run_relay: G,
+    talk: &Talk<'_>,
+) -> (NodeEnd, (NodeEnd, ClientAnswers))
+    requires source { (f : _) (x : _) → F.pre f x }
+    requires relay { (f : _) (x : _) → G.pre f x }
+{
+    let client = || talk.through(rt);
+    join(
+        rt,
+        move || run_source(source),
+        move || join(rt, move || run_relay(relay), client),
+    )
+}
+
+// What both nodes say at their ends, behind what the client was answered.
+fn told(
+    alloc: Global,
+    answers: &(String, String),
+    closings: &[Result<Closing, TierError>],
+) -> Result<String, Fault> {
+    let (inserted, shown) = answers;
+    let mut told = format!(in alloc; "{inserted} | {shown}")?;
+    for closing in closings {
+        let Ok(closing) = closing else {
+            return Err(Fault::NotDrained);
+        };
+        let lines = closing.text.as_str().trim().replace(alloc, '\n', " ")?;
+        told.push_str(" | ")?;
+        told.push_str(lines.as_str())?;
+    }
+    Ok(told)
+}
+
+/// What comes of a tier that runs until the client is shown its row.
+pub(crate) fn run_tier<
+    R: Threads
+        + Wait
+        + Net<Listener = TcpListener, Stream = TcpStream>
+        + Log
+        + Copy
+        + Drop
+        + Send
+        + Sync,
+>(rt: R, alloc: Global, schema: &Schema, scene: &Scene) -> Result<String, Fault> {
+    let quiet = Logged::new(rt, LevelFilter::Off, rt);
+    let source = source(quiet, alloc, scene)?;
+    let relay = relay(quiet, alloc, source.address())?;
+    let stops = [relay.stop()?, source.stop()?];
+    let talk = Talk {
+        alloc,
+        address: relay.address(),
+        scene,
+        stops: &stops,
+    };
+    let (of_source, (of_relay, answers)) = beside(
+        &rt,
+        source,
+        |source: SourceNode<Logged<R, R>>| source.run(schema),
+        relay,
+        |relay: Relay<Logged<R, R>>| relay.run(schema),
+        &talk,
+    );
+    told(alloc, &answers?, &[of_source, of_relay])
+}
