@@ -3,7 +3,7 @@
 
     python3 bench/hall.py [--program PATH] [--requests N]
 
-The program is the table of engines. All sessions together ask the same number of requests, of which each is answered by a node that holds
+The program is the table of nodes. All sessions together ask the same number of requests, of which each is answered by a node that holds
 one row. What the same line takes where it has no session, which is to read it, is taken off. Of three runs the shortest counts. Printed
 are processor microseconds a request, with what it takes to make the request and to compare the reply, and the ratio to one session; and
 beside them what a plain loop takes that parses the same requests with `json.loads` and writes their replies with `json.dumps`.
@@ -14,7 +14,7 @@ import time
 
 from timing import arguments, seconds, uuid
 
-PROGRAM = os.path.join(os.path.dirname(os.path.abspath(__file__)), "..", "crates", "ovs_engine_cases", "out", "ovs_engine_cases")
+PROGRAM = os.path.join(os.path.dirname(os.path.abspath(__file__)), "..", "crates", "ovs_node_cases", "out", "ovs_node_cases")
 SCHEMA = {"name": "net", "version": "1.0.0", "tables": {"Port": {"columns": {"name": {"type": "string"}}}}}
 CHANGE = {"Port": {uuid(1): {"insert": {"name": "p1"}}}}
 SELECT = ["transact", ["net", {"op": "select", "table": "Port", "where": [], "columns": ["name"]}], [{"rows": [{"name": "p1"}]}]]

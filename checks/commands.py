@@ -1,10 +1,13 @@
 """The command line: help, version, faults of its words, files, schemas and ports, in the order in which they are found."""
 import json
 import os
+import re
+import shutil
 import socket
+import subprocess
 
 from data import FIRST_ID, FIRST_ROW, NET
-from harness import START_SECONDS, check, equal, holds
+from harness import START_SECONDS, Skip, check, equal, holds
 from processes import free_port
 
 LIMIT = 10 * START_SECONDS
@@ -51,8 +54,24 @@ def help_and_version(lab):
         _, out, _ = lab.run(command, "--help")
         for option in ("--schema", "--listen", *options):
             holds(option in out, f"the help of {command} doesn't name {option}")
-    status, out, err = lab.run("--version")
-    holds(status == 0 and err == "" and out.startswith("ovs_relay") and out.count("\n") == 1, f"--version: {status}, {out!r}, {err!r}")
+    for command, bounds in (("source", 1), ("relay", 2)):
+        _, out, _ = lab.run(command, "--help")
+        equal(out.count("any number where this isn't given"), bounds, f"the bounds that {command} doesn't have of itself")
+    for words in (["--version"], *([command, "--version"] for command in COMMANDS)):
+        status, out, err = lab.run(*words)
+        holds(status == 0 and err == "" and out.startswith("ovs_relay") and out.count("\n") == 1, f"{words!r}: {status}, {out!r}, {err!r}")
+
+
+@check(LIMIT)
+def the_version_names_the_logic(lab):
+    """The version of the program and of each command names the logic that it is proved in, as `rt version` does."""
+    rt = shutil.which("rt")
+    if rt is None:
+        raise Skip("rt isn't there")
+    logic = re.search(r"logic \w+", subprocess.run([rt, "version"], stdout=subprocess.PIPE, check=True).stdout.decode()).group()
+    for words in (["--version"], *([command, "--version"] for command in COMMANDS)):
+        _, out, _ = lab.run(*words)
+        holds(re.fullmatch(rf"\S+ \d+\.\d+\.\d+ \(rattle {re.escape(logic)}\)\n", out), f"{words!r}: {out!r} doesn't name the {logic}")
 
 
 @check(LIMIT)
@@ -96,6 +115,15 @@ def addresses_ids_and_numbers(lab):
     for number in ("", "0", "1000001", "-1", "1.0", "x", "18446744073709551617"):
         fails(lab, [*source_words(lab), "--accepts", number], 2)
         fails(lab, [*relay_words(lab), "--tries", number], 2)
+
+
+@check(LIMIT)
+def its_own_upstream(lab):
+    """Status 2 and one line that names the address where a relay is to follow itself, however the address is spelled."""
+    port = free_port()
+    for listen, upstream in ((f"127.0.0.1:{port}", f"127.0.0.1:{port}"), (f"[::1]:{port}", f"[0:0:0:0:0:0:0:1]:{port}")):
+        for upstreams in ([upstream], [f"127.0.0.2:{port}", upstream]):
+            fails(lab, relay_words(lab, *upstreams, listen=listen), 2, listen, "own address")
 
 
 @check(LIMIT)

@@ -1,9 +1,21 @@
 """How nodes end, and what they say while they run."""
+import os
 import re
+from datetime import datetime, timedelta, timezone
 
 from data import FIRST_ID, NET, ZEROS, insert, nth, select
-from harness import END_SECONDS, Node, check, equal, holds
-from processes import free_port, wait_until
+from harness import END_SECONDS, WORKERS, Node, check, equal, holds
+from processes import TIMED, free_port, wait_until
+
+
+# What a relay says, once and in any case, when none of its upstreams is tried any more.
+UNFED = "ovs_relay: no upstream is tried any more: all tries are used up\n"
+# What a node says when the last of its workers has taken as many connections as it may.
+TAKEN = "ovs_relay: no connection is taken any more: each worker has taken as many as it may\n"
+# What it says of lines for which there was no room, before their number.
+DROPPED = "lines dropped, since nobody read or there was no memory:"
+# So many that a node has more to say of them than a pipe holds, and than a node keeps.
+MANY_SESSIONS = 2_000
 
 
 def shows(session, name, seconds=15):
@@ -23,7 +35,7 @@ def accepts_end_a_source(lab):
         for number in range(3):
             session.transact("net", insert(name=f"p{number}"))
     equal(source.end(), (0, closing(nth(FIRST_ID, 3), 3, 3)), "the source's status and output")
-    equal(source.child.complaints(), "", "the source's standard error")
+    equal(source.child.complaints(), TAKEN, "the source's standard error")
 
 
 @check(240)
@@ -36,7 +48,36 @@ def accepts_and_tries_end_a_relay(lab):
         shows(session, "p")
         source.stop()
     equal(relay.end(), (0, closing(FIRST_ID, 1, 1)), "the relay's status and output")
-    equal(relay.child.complaints(), "", "the relay's standard error")
+    equal(sorted(relay.child.complaints().splitlines(True)), [TAKEN, UNFED], "the lines of the relay's standard error")
+
+
+@check(240)
+def tries_used_up_are_told(lab):
+    """A relay none of whose upstreams is tried any more says so once, and goes on serving what it has."""
+    source = lab.source()
+    relay = lab.relay([source, free_port()], "--tries", "2")
+    with relay.session() as session:
+        session.transact("net", insert(name="p"))
+        shows(session, "p")
+        source.stop()
+        wait_until(lambda: relay.child.complaints() == UNFED, 15, "the relay says that no upstream is tried any more")
+        holds(session.is_quiet(1), "something came unasked")
+        shows(session, "p")
+    equal(relay.child.complaints(), UNFED, "the relay's standard error")
+
+
+@check(240)
+def tries_used_up_end_a_relay_with_the_option(lab):
+    """With `--end-on-refusal` such a relay ends with status 3 and the two closing lines, also while a session lasts."""
+    source = lab.source()
+    relay = lab.relay([source, free_port()], "--tries", "2", "--end-on-refusal")
+    with relay.session() as session:
+        session.transact("net", insert(name="p"))
+        shows(session, "p")
+        source.stop()
+        holds(session.is_closed(15), "the session isn't closed")
+    equal((relay.child.wait(END_SECONDS), relay.child.output()), (3, closing(FIRST_ID, 1, 1)), "the relay's status and output")
+    equal(relay.child.complaints(), UNFED, "the relay's standard error")
 
 
 @check(240)
@@ -57,6 +98,7 @@ def sessions_outlive_the_last_accept(lab):
     for session in kept:
         session.close()
     equal((source.child.wait(END_SECONDS), source.child.output()), (0, closing(FIRST_ID, 1, 1)), "the source's status and output")
+    equal(source.child.complaints(), TAKEN, "the source's standard error")
 
 
 @check(240)
@@ -86,16 +128,84 @@ def told_by_a_relay(lab, *more):
 
 @check(240)
 def verbose_tells_more(lab):
-    """With `--verbose` a node tells of its sessions and upstreams, without it nothing but the closing lines."""
+    """With `--verbose` a node tells of its sessions and upstreams, without it the closing lines, and that it takes or tries no more."""
     last = closing(FIRST_ID, 1, 1)
-    for told_by in (told_by_a_source, told_by_a_relay):
+    for told_by, always in ((told_by_a_source, [TAKEN]), (told_by_a_relay, [TAKEN, UNFED])):
         for more in ((), ("--verbose",)):
             node = told_by(lab, *more)
             status, out = node.end()
             holds(status == 0 and out.endswith(last), f"the {node.name} {more}: {node.child.told()}")
-            lines = (out[: -len(last)] + node.child.complaints()).splitlines()
+            told = (out[: -len(last)] + node.child.complaints()).splitlines(True)
+            equal(sorted(line for line in told if line in always), always, f"what the {node.name} tells in any case {more}")
+            lines = [line for line in told if line not in always]
             holds(bool(lines) == bool(more), f"what the {node.name} tells beside the closing lines {more}: {lines[:5]!r}")
             holds(all(re.search(r"\w", line) for line in lines), f"an empty line of the {node.name} {more}: {lines[:5]!r}")
+
+
+@check(240)
+def lines_bear_the_time(lab):
+    """Each line that a node says while it runs begins with the time at which it was said, in UTC and to the millisecond."""
+    begun = datetime.now(timezone.utc)
+    source = lab.source("--verbose")
+    with source.session() as session:
+        session.ask("echo", 1)
+    wait_until(lambda: source.child.complaints().count("\n") >= 2, 15, "the source says that a session was opened and has ended")
+    lines = source.child.read(1).splitlines()
+    times = [datetime.fromisoformat(TIMED.match(line)[2].removesuffix("Z") + "+00:00") for line in lines]
+    holds(times == sorted(times), f"the times don't ascend: {lines[:5]!r}")
+    holds(begun - timedelta(milliseconds=1) <= times[0] and times[-1] <= datetime.now(timezone.utc), f"another time than now: {lines[:5]!r}")
+
+
+class Unread:
+    """A pipe for the standard error of a node, of which nothing is read but by `lines`."""
+
+    def __init__(self):
+        self.near, self.far = os.pipe()
+        os.set_blocking(self.near, False)
+        self.told = b""
+
+    def lines(self):
+        try:
+            while piece := os.read(self.near, 1 << 16):
+                self.told += piece
+        except BlockingIOError:
+            pass
+        return self.told.decode().splitlines()
+
+    def close(self):
+        os.close(self.near)
+        os.close(self.far)
+
+
+def visited(node, times):
+    for number in range(times):
+        with node.session() as session:
+            equal(session.ask("echo", number), [number], f"an echo in session {number}")
+
+
+@check(240)
+def standard_error_that_nobody_reads(lab):
+    """Where nobody reads what a node says, lines are dropped and counted, nobody waits for it, and the count is told once somebody reads."""
+    unread = lab.keep(Unread())
+    source = lab.source("--verbose", errors=unread.far)
+    visited(source, MANY_SESSIONS)
+
+    def counted():
+        lines = unread.lines()
+        dropped = [int(line.rpartition(" ")[2]) for line in lines if DROPPED in line]
+        return (len(lines) - len(dropped), sum(dropped)) if len(lines) - len(dropped) + sum(dropped) == 2 * MANY_SESSIONS else None
+
+    told, dropped = wait_until(counted, 15, "each session's two lines are told or counted")
+    holds(told > 0 and dropped > 0, f"{told} lines are told, and {dropped} were dropped")
+
+
+@check(240)
+def an_end_that_nobody_reads(lab):
+    """A node whose standard error nobody reads ends as others do."""
+    unread = lab.keep(Unread())
+    source = lab.source("--verbose", "--accepts", str(MANY_SESSIONS // WORKERS), errors=unread.far)
+    visited(source, MANY_SESSIONS // WORKERS * WORKERS)
+    equal((source.child.wait(END_SECONDS), source.child.output()), (0, closing(ZEROS, 0, 0)), "the source's status and output")
 
 
 @check(240)

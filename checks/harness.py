@@ -46,10 +46,10 @@ def holds(is_so, what):
 class Node:
     """A process that serves at a port."""
 
-    def __init__(self, lab, words, name, port, environment=None):
+    def __init__(self, lab, words, name, port, environment=None, errors=None):
         self.lab, self.name, self.port = lab, name, port
         self.address = f"127.0.0.1:{port}"
-        self.child = lab.start(words, name, environment)
+        self.child = lab.start(words, name, environment, errors)
 
     def serving(self):
         self.child.wait_to_serve(self.port, START_SECONDS)
@@ -118,9 +118,9 @@ class Lab:
         self.names += 1
         return self.path(f"{schema['name']}-{self.names}.schema", json.dumps(schema) + "\n")
 
-    def start(self, words, name, environment=None):
+    def start(self, words, name, environment=None, errors=None):
         self.names += 1
-        child = Child(words, self.folder, f"{name}-{self.names}", environment=environment)
+        child = Child(words, self.folder, f"{name}-{self.names}", environment=environment, errors=errors)
         self.children.append(child)
         return child
 
@@ -140,9 +140,9 @@ class Lab:
             words += ["--upstream", f"127.0.0.1:{upstream}"]
         return words + list(more)
 
-    def source(self, *more, port=None, schema=NET, environment=None):
+    def source(self, *more, port=None, schema=NET, environment=None, errors=None):
         port = port or free_port()
-        return Node(self, self.source_words(port, *more, schema=schema), "source", port, environment).serving()
+        return Node(self, self.source_words(port, *more, schema=schema), "source", port, environment, errors).serving()
 
     def relay(self, upstreams, *more, port=None, schema=NET, name="relay", environment=None):
         port = port or free_port()

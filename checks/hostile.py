@@ -253,6 +253,48 @@ def bytes_of_events(lab):
     return each_byte(lab, *TALE)
 
 
+# What the source commits, its results, and what of it a session tells: the first inserts a row, and the others modify it.
+MODIFIES = ({"op": "update", "table": "Port", "where": [], "row": {"up": True}}, {"op": "mutate", "table": "Port", "where": [], "mutations": [["tags", "insert", 1]]})
+DONE = [{"uuid": ["uuid", FIRST_ROW]}], [{"count": 1}], [{"count": 1}]
+ALL_BYTES = 1_000_000
+
+
+def cut_after(lab, length):
+    """How many of three links a relay takes of a session that is cut behind so many bytes. The next session, from whose beginning on it goes
+    on, brings it the rest, each link once."""
+    commits = [["commit", nth(FIRST_ID, number), [done]] for number, done in enumerate((insert(name="p1"), *MODIFIES), 1)]
+    events = [["connect", 1, 0], ["deliver", 1, length], ["cut", 1], ["connect", 1, 0], ["deliver", 2, ALL_BYTES]]
+    status, out, told = lab.run("world", text=script(NET, 1, *commits, *events))
+    took = next((number for number in range(4) if f"5 took {number} held 0\n" in out), None)
+    holds(took is not None, f"world, cut behind {length} bytes: {status}, {out!r}, {told!r}")
+    wanted = [f"{number} {json.dumps(done, separators=(',', ':'))}" for number, done in enumerate(DONE, 1)]
+    wanted += ["4 session 1", f"5 took {took} held 0", "6 ok", "7 session 2", f"8 took {3 - took} held 0"]
+    wanted += [f"node {node} head {nth(FIRST_ID, 3)} links 3 chain 3" for node in (0, 1)]
+    equal((status, out, told), (0, "".join(line + "\n" for line in wanted), ""), f"world, cut behind {length} bytes")
+    return took
+
+
+def least(is_so, most):
+    """The least number up to this one of which it is so, and of all above it."""
+    below = -1
+    while most - below > 1:
+        middle = (below + most) // 2
+        below, most = (below, middle) if is_so(middle) else (middle, most)
+    return most
+
+
+@check(300)
+def sessions_cut_in_a_world(lab):
+    """A session that is cut behind each of its bytes, in a world of its own: the relay takes the links whose messages are whole, the next session
+    brings the others, and it ends with all three, none of which came twice."""
+    ends = [least(lambda length, number=number: cut_after(lab, length) >= number, ALL_BYTES) for number in (1, 2, 3)]
+    second = {"id": None, "method": "update3", "params": ["relay", nth(FIRST_ID, 2), {"Port": {FIRST_ROW: {"modify": {"up": True}}}}]}
+    equal(ends[1] - ends[0], len(json.dumps(second, separators=(",", ":"))), "the bytes of the second commit's message")
+    for length in (*range(0, ends[2], STEP), ends[2], ends[2] + 1):
+        equal(cut_after(lab, length), sum(end <= length for end in ends), f"the links of the first {length} of {ends[2]} bytes")
+    return ends
+
+
 def bytes_of_requests(lab, node):
     """Requests with each byte cut or replaced, each by a session of its own: the node answers or closes it, and others go on."""
     asked = (

@@ -17,7 +17,7 @@ class Rules(ctypes.Structure):
     """The control file, as `struct rules` of refusing.c has it."""
 
     _memory = ("first", "last", "most", "calls", "refused", "largest", "mallocs", "callocs", "reallocs", "aligned")
-    _devices = ("kinds", "failing_first", "failing_last", "error", "passed", "failed")
+    _devices = ("kinds", "failing_first", "failing_last", "error", "file", "passed", "failed")
     _fields_ = [(name, ctypes.c_uint64) for name in _memory + _devices]
 
 
@@ -50,11 +50,11 @@ class Memory:
         """Refuses the call of this number, or those from this one to the last, counted from 1."""
         self.rules.first, self.rules.last = first, first if last is None else last
 
-    def fail_calls(self, kinds, error, first, last=None):
-        """Has the read or write of this number among those of these kinds fail so, or those from this one to the last; with 0 it passes one
-        byte alone."""
+    def fail_calls(self, kinds, error, first, last=None, file=ALL):
+        """Has the read or write of this number among those of these kinds, of one file handle or of all, fail so, or those from this one to the
+        last; with 0 it passes one byte alone."""
         self.rules.failing_first, self.rules.failing_last, self.rules.error = first, first if last is None else last, error
-        self.rules.kinds = kinds
+        self.rules.file, self.rules.kinds = file, kinds
 
     def fail_none(self):
         self.rules.kinds = 0

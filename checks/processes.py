@@ -1,5 +1,6 @@
 """Processes that a check starts, ports, and what the kernel tells of a process."""
 import os
+import re
 import random
 import resource
 import signal
@@ -83,14 +84,18 @@ def _holds(process, inode):
         return False
 
 
-class Child:
-    """A process that runs in one folder, with its output in files of another, or of the same."""
+# How a line begins that a node says while it runs.
+TIMED = re.compile(r"^(ovs_relay: )(\d{4}-\d\d-\d\dT\d\d:\d\d:\d\d\.\d{3}Z) ", re.M)
 
-    def __init__(self, words, folder, name, output_folder=None, environment=None):
+
+class Child:
+    """A process that runs in one folder, with its output in files of another, or of the same; or with its standard error in a pipe."""
+
+    def __init__(self, words, folder, name, output_folder=None, environment=None, errors=None):
         self.name = name
         self.paths = [os.path.join(output_folder or folder, f"{name}.{stream}") for stream in ("out", "err")]
         with open(self.paths[0], "wb") as out, open(self.paths[1], "wb") as err:
-            self.process = subprocess.Popen(words, stdin=subprocess.DEVNULL, stdout=out, stderr=err, cwd=folder, env=environment)
+            self.process = subprocess.Popen(words, stdin=subprocess.DEVNULL, stdout=out, stderr=errors or err, cwd=folder, env=environment)
         self.served_by = None
         self.is_stopped = False
 
@@ -102,7 +107,8 @@ class Child:
         return self.read(0)
 
     def complaints(self):
-        return self.read(1)
+        """What it said on standard error so far, where a line that a node says while it runs stands without its time."""
+        return TIMED.sub(r"\1", self.read(1))
 
     def told(self):
         return f"{self.name}: status {self.process.poll()}, output {self.output()[-400:]!r}, standard error {self.complaints()[-400:]!r}"
@@ -144,10 +150,17 @@ class Child:
             words = stat.read().rpartition(")")[2].split()
         return int(words[11]) + int(words[12])
 
-    def kilobytes(self):
-        """The memory of the serving process that is resident."""
+    def kilobytes(self, which="VmRSS"):
+        """The memory of the serving process that is resident, or with "VmHWM" the most that ever was."""
         with open(f"/proc/{self.served_by}/status", encoding="ascii", errors="replace") as status:
-            return next(int(line.split()[1]) for line in status if line.startswith("VmRSS"))
+            return next(int(line.split()[1]) for line in status if line.startswith(which))
+
+    def file_of(self, port):
+        """The serving process's file handle of its connection with this port of 127.0.0.1."""
+        with open("/proc/net/tcp", encoding="ascii") as table:
+            inodes = {f"socket:[{words[9]}]" for words in map(str.split, table) if words[2] == f"0100007F:{port:04X}"}
+        folder = f"/proc/{self.served_by}/fd"
+        return next(int(name) for name in os.listdir(folder) if os.readlink(os.path.join(folder, name)) in inodes)
 
     def limit_files(self, most):
         resource.prlimit(self.served_by, resource.RLIMIT_NOFILE, (most, most))

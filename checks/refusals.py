@@ -49,10 +49,10 @@ def rows_of(result):
     return len(result[0]["rows"])
 
 
-def measured(node, memory):
+def measured(node, memory, seconds=SECONDS):
     """How much of a processor the node takes, and how many of its calls for memory are refused in a second."""
     ticks, refused, begun = node.child.ticks(), memory.rules.refused, time.monotonic()
-    time.sleep(SECONDS)
+    time.sleep(seconds)
     seconds = time.monotonic() - begun
     return (node.child.ticks() - ticks) / TICKS_A_SECOND / seconds, (memory.rules.refused - refused) / seconds
 

@@ -29,8 +29,8 @@ struct rules {
     /* What was seen: calls, those that were refused, the most bytes that one call asked for, and the calls of each kind. */
     _Atomic uint64_t calls, refused, largest, of_kind[KINDS];
     /* Of the reads and writes of these kinds, those from the first to the last of these numbers: each fails so, or passes one byte where it
-       is 0. */
-    _Atomic uint64_t kinds, failing_first, failing_last, error;
+       is 0. Those of one file handle alone are numbered, or of all where it is UINT64_MAX. */
+    _Atomic uint64_t kinds, failing_first, failing_last, error, file;
     /* What was seen: calls of those kinds, and those that failed or passed one byte. */
     _Atomic uint64_t passed, failed;
 };
@@ -152,10 +152,17 @@ void *pvalloc(size_t size)
     return memalign(page, (size + page - 1) & ~(page - 1));
 }
 
-/* Counts a read or write of so many bytes, and says whether it goes on, with as many as it may pass. */
-static bool goes_on(enum device kind, size_t *count)
+/* Whether calls of this kind, of this file handle, are numbered. */
+static bool is_meant(enum device kind, int file)
 {
-    if (rules == NULL || (atomic_load(&rules->kinds) & kind) == 0)
+    uint64_t only = rules == NULL ? 0 : atomic_load(&rules->file);
+    return rules != NULL && (atomic_load(&rules->kinds) & kind) != 0 && (only == UINT64_MAX || only == (uint64_t)file);
+}
+
+/* Counts a read or write of so many bytes, and says whether it goes on, with as many as it may pass. */
+static bool goes_on(enum device kind, int file, size_t *count)
+{
+    if (!is_meant(kind, file))
         return true;
     uint64_t number = atomic_fetch_add(&rules->passed, 1) + 1;
     if (number < atomic_load(&rules->failing_first) || number > atomic_load(&rules->failing_last))
@@ -171,20 +178,20 @@ static bool goes_on(enum device kind, size_t *count)
 
 ssize_t read(int file, void *to, size_t count)
 {
-    return goes_on(READ, &count) ? syscall(SYS_read, file, to, count) : -1;
+    return goes_on(READ, file, &count) ? syscall(SYS_read, file, to, count) : -1;
 }
 
 ssize_t write(int file, const void *from, size_t count)
 {
-    return goes_on(WRITE, &count) ? syscall(SYS_write, file, from, count) : -1;
+    return goes_on(WRITE, file, &count) ? syscall(SYS_write, file, from, count) : -1;
 }
 
 ssize_t recv(int socket, void *to, size_t count, int flags)
 {
-    return goes_on(RECEIVE, &count) ? syscall(SYS_recvfrom, socket, to, count, flags, NULL, NULL) : -1;
+    return goes_on(RECEIVE, socket, &count) ? syscall(SYS_recvfrom, socket, to, count, flags, NULL, NULL) : -1;
 }
 
 ssize_t send(int socket, const void *from, size_t count, int flags)
 {
-    return goes_on(SEND, &count) ? syscall(SYS_sendto, socket, from, count, flags, NULL, 0) : -1;
+    return goes_on(SEND, socket, &count) ? syscall(SYS_sendto, socket, from, count, flags, NULL, 0) : -1;
 }

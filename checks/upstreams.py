@@ -1,11 +1,12 @@
 """How a relay follows its upstreams: late ones, silent ones, those that break off, and those that contradict."""
 import json
+import os
 import time
 
 from data import FIRST_ID, NET, ZEROS, insert, nth, select
 from desk import source_is_lost
 from ends import closing, shows
-from harness import END_SECONDS, check, equal, holds
+from harness import END_SECONDS, Node, check, equal, holds
 from processes import free_port, wait_until
 from upstream import Upstream, known, unknown
 
@@ -13,6 +14,13 @@ ROW = "11111111-1111-4111-8111-111111111111"
 OTHER_ID = "bbbbbbbb-bbbb-4bbb-8bbb-bbbbbbbbbbbb"
 LONGEST_PAUSE = 1.0
 SLACK = 0.6
+# How often a relay comes again behind a refused link, and what each time may take of a processor, in seconds.
+RECONNECTS = 20
+PROCESSOR_A_RECONNECT = 0.010
+TICKS_A_SECOND = os.sysconf("SC_CLK_TCK")
+# How often an upstream breaks off behind a link.
+MANY_BREAKS = 12
+LONGEST_MESSAGE = 16_777_216
 
 
 def commit_id(number):
@@ -149,6 +157,132 @@ def pauses_between_tries(lab):
         equal(session.ask("echo", 1), [1], "an echo meanwhile")
 
 
+def with_schema(connection, schema):
+    """Answers the first request of a relay, for the schema."""
+    connection.reply(connection.receive()["id"], schema)
+
+
+def another_schema(connection):
+    with_schema(connection, {**NET, "tables": {"Port": {"columns": {"name": {"type": "string"}}}}})
+    connection.wait_closed()
+
+
+def standalone(connection):
+    """As a standalone ovsdb-server: all that it has, under the id of zeros."""
+    connection.begin(lambda asked: [False, ZEROS, change(1)])
+    connection.wait_closed()
+
+
+def bad_answer(connection):
+    connection.begin(lambda asked: "all")
+    connection.wait_closed()
+
+
+def above_the_limit(connection):
+    with_schema(connection, NET)
+    connection.receive()
+    connection.send_bytes(b'{"id":"monitor","error":null,"result":["' + b"x" * LONGEST_MESSAGE)
+    connection.wait_closed()
+
+
+def schema_alone(connection):
+    with_schema(connection, NET)
+    connection.receive()
+
+
+@check(240)
+def pauses_before_refused_upstreams(lab):
+    """An upstream that gives no link, whether what it says is refused or it hangs up behind its schema, is tried again after such pauses, too."""
+    upstreams = [lab.keep(Upstream(NET, script)) for script in (another_schema, standalone, bad_answer, above_the_limit, schema_alone)]
+    for upstream in upstreams:
+        lab.relay([upstream])
+    time.sleep(5)
+    for upstream in upstreams:
+        name, begun = upstream.scripts[0].__name__, upstream.times()[0]
+        times = [tried for tried in upstream.times() if tried <= begun + 5]
+        pauses = [later - earlier for earlier, later in zip(times, times[1:])]
+        holds(3 <= len(times) <= 20, f"{name}: {len(times)} tries in 5 seconds")
+        holds(pauses[-1] > LONGEST_PAUSE / 4, f"{name}: the pauses don't grow: {pauses!r}")
+        sound(upstream)
+
+
+# Upstreams that can't be followed, and what a relay says of them in any case.
+UNFIT = ((another_schema, "has another schema"), (above_the_limit, f"sent a message above {LONGEST_MESSAGE} bytes"))
+
+
+def unfit(upstream, why):
+    return f"ovs_relay: upstream 127.0.0.1:{upstream.port} {why}\n"
+
+
+@check(240)
+def upstreams_that_cannot_be_followed(lab):
+    """An upstream that has another schema, or sends a message above the limits, is told of once, also without `--verbose`; it is tried again, and
+    followed once it has the schema."""
+    for script, why in UNFIT:
+        upstream = lab.keep(Upstream(NET, script, script, script, tells(1, 1)))
+        relay = lab.relay([upstream])
+        with relay.session() as session:
+            shows(session, "p1", 30)
+        equal(relay.child.complaints(), unfit(upstream, why), f"{script.__name__}: the relay's standard error")
+        relay.stop()
+        sound(upstream)
+
+
+@check(240)
+def upstreams_that_end_a_relay(lab):
+    """With `--end-on-refusal` such an upstream ends a relay with status 1, also while another upstream is followed and a session lasts."""
+    for script, why in UNFIT:
+        source = lab.source()
+        with source.session() as session:
+            session.transact("net", insert(name="p"))
+        asked = []
+
+        def late(connection, script=script, asked=asked):
+            wait_until(lambda: asked, 30, "the reader is shown the row")
+            script(connection)
+
+        upstream = lab.keep(Upstream(NET, late))
+        relay = lab.relay([source, upstream], "--end-on-refusal")
+        with relay.session() as session:
+            shows(session, "p")
+            asked.append(True)
+            holds(session.is_closed(15), f"{script.__name__}: the session isn't closed")
+        equal((relay.child.wait(END_SECONDS), relay.child.output()), (1, closing(FIRST_ID, 1, 1)), f"{script.__name__}: the relay's status and output")
+        equal(relay.child.complaints(), unfit(upstream, why), f"{script.__name__}: the relay's standard error")
+        source.stop()
+        sound(upstream)
+
+
+@check(240)
+def what_was_refused_is_told(lab):
+    """With `--verbose` a relay tells what was wrong with what an upstream said."""
+    for script, why in ((standalone, "a message that may not come"), (bad_answer, "a message that may not come")):
+        upstream = lab.keep(Upstream(NET, script))
+        relay = lab.relay([upstream], "--verbose")
+        line = unfit(upstream, f"is refused: {why}")
+        wait_until(lambda relay=relay, line=line: line in relay.child.complaints(), 15, f"{script.__name__}: the relay says {line!r}")
+        relay.stop()
+
+
+@check(240)
+def pauses_after_links(lab):
+    """An upstream that tells a link in each session and breaks off in the middle of the next is tried again soon each time."""
+
+    def breaks(connection):
+        connection.begin(known)
+        tell(connection, [len(upstream.connections)])
+        connection.send_bytes(b'{"id":null,"method":"upd')
+
+    upstream = lab.keep(Upstream(NET, *[breaks] * MANY_BREAKS, tells(MANY_BREAKS + 1, MANY_BREAKS + 1)))
+    relay = lab.relay([upstream])
+    with relay.session() as session:
+        shows(session, f"p{MANY_BREAKS + 1}", 60)
+    times = upstream.times()
+    pauses = sorted(later - earlier for earlier, later in zip(times, times[1:]))
+    holds(pauses[len(pauses) // 2] <= LONGEST_PAUSE / 4, f"the pauses grow: {pauses!r}")
+    sound(upstream)
+
+
 @check(240)
 def tries_are_bounded(lab):
     """`--tries N` bounds how often an upstream is tried, whether it hangs up or nothing listens; the relay then ends by itself."""
@@ -259,10 +393,30 @@ def contradictions_without_the_option(lab):
 
 
 @check(240)
+def a_refused_link_costs_no_processor(lab):
+    """A relay whose upstream ends each connection behind a link that contradicts what it has comes again soon, and takes hardly any processor for it."""
+
+    def forks_and_breaks(connection):
+        connection.begin(unknown)
+        connection.update3(commit_id(1), change(1))
+        connection.update3(OTHER_ID, {"Port": {ROW: {"modify": {"name": "other"}}}})
+
+    upstream = lab.keep(Upstream(NET, tells_and_breaks, forks_and_breaks))
+    relay = lab.relay([upstream])
+    wait_until(lambda: len(upstream.connections) >= 2, 15, "the relay asks again")
+    before, ticks = len(upstream.connections), relay.child.ticks()
+    wait_until(lambda: len(upstream.connections) >= before + RECONNECTS, 30, f"the relay asks {RECONNECTS} times more")
+    each = (relay.child.ticks() - ticks) / TICKS_A_SECOND / (len(upstream.connections) - before)
+    holds(each < PROCESSOR_A_RECONNECT, f"each connection costs {each * 1000:.1f} ms of processor")
+
+
+@check(240)
 def contradictions_with_the_option(lab):
     """With `--end-on-refusal` a relay ends by itself with status 1 and the closing lines where a link contradicts what it has."""
     upstream = lab.keep(Upstream(NET, tells_and_breaks, forks))
-    relay = lab.relay([upstream], "--end-on-refusal")
+    port = free_port()
+    # It may have ended before anybody could see it serve.
+    relay = Node(lab, lab.relay_words(port, [upstream.port], "--end-on-refusal"), "relay", port)
     equal((relay.child.wait(END_SECONDS), relay.child.output()), (1, closing(commit_id(2), 2, 2)), "the relay's status and output")
 
 
