@@ -139,7 +139,7 @@ fn step(
     apply(alloc, database, &change, id)
 }
 
-// The same. Where there is no memory to apply a change nothing is changed, and it is applied again.
+// Takes a step (`step`). Where there is no memory to apply its change nothing is changed, and it is applied again.
 fn step_again(
     alloc: Global,
     database: &mut Database,

@@ -77,7 +77,7 @@ fn event(alloc: Global, locks: &mut LockTable, parts: &[Value]) -> Result<String
     }
 }
 
-// The same. Where there is no memory for a call nothing is changed, and it is asked again.
+// Carries out an event (`event`). Where there is no memory for its call nothing is changed, and it is called again.
 fn event_again(alloc: Global, locks: &mut LockTable, parts: &[Value]) -> Result<String, Fault> {
     let answer = event(alloc, locks, parts);
     if !is_refused(&answer) {

@@ -127,7 +127,7 @@ fn event(
     }
 }
 
-// The same. Where there is no memory for a call nothing is changed, and it is asked again.
+// Carries out an event (`event`). Where there is no memory for its call nothing is changed, and it is called again.
 fn event_again(
     alloc: Global,
     store: &mut LinkStore,

@@ -93,7 +93,7 @@ fn transaction(
     }
 }
 
-// The same. Where there is no memory for it nothing is committed, and it is asked again.
+// Carries out a transaction (`transaction`). Where there is no memory for it nothing is committed, and it is asked again.
 fn transaction_again(
     alloc: Global,
     source: &mut Source,

@@ -204,7 +204,7 @@ fn event(alloc: Global, store: &mut LinkStore, parts: &[Value]) -> Result<String
     }
 }
 
-// The same. Where there is no memory for a call the links are as they were, and it is asked again.
+// Carries out an event (`event`). Where there is no memory for its call the links are as they were, and it is called again.
 fn event_again(alloc: Global, store: &mut LinkStore, parts: &[Value]) -> Result<String, Fault>
     ensures tables { tables_of store.new ≡ tables_of store.old }
 {

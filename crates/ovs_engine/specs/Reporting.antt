@@ -1,8 +1,9 @@
 -- What comes of a node that has run.
-use Rattle.std.specs.Prelude.{◌≡◌, ◌≢◌, ℕ, List, length}
+use Rattle.std.specs.Prelude.{◌≡◌, ◌≢◌, ℕ, Bool, List, None, length}
 use Rattle.std.specs.List.{AllByRecursion}
-use Rattle.ovs_feed.specs.Feed.{FeedValue}
-use Rattle.ovs_folder.specs.Ledger.{WasSent}
+use Rattle.ovs_feed.specs.Feed.{FeedValue, IsDrained}
+use Rattle.ovs_folder.specs.Ledger.{IsAccountOf, WasSent}
+use Rattle.ovs_folder.specs.declared.refused.RefusedLink.{RefusedLink}
 use Rattle.ovs_links.specs.Epochs.{EpochHistory, IsEpochChain, IsEpochHistory, epochs_of, links_in}
 use Rattle.ovs_links.specs.Pruning.{IsOld}
 use Rattle.ovs_links.specs.Sets.{Among, Contradict, Holds}
@@ -11,7 +12,7 @@ use Rattle.ovs_links.specs.Store.{IsChainOf, Stored, start_in, tables_of}
 use Rattle.ovs_links.specs.declared.answer.Settled.{Settled}
 use Rattle.ovs_links.specs.declared.link.Link.{Link}
 
--- what each end of the feed has sent is such a list of links
+-- each of these lists, which the ends of a feed have sent, is one that may be sent
 abbrev pub AreSent : (List Link → Type 0) → List (List Link) → Type 0
 AreSent sends sent = AllByRecursion sends sent
 
@@ -19,7 +20,7 @@ AreSent sends sent = AllByRecursion sends sent
 abbrev pub KeepsEnds : FeedValue Link → FeedValue Link → Type 0
 KeepsEnds old new = (new.ends ≡ old.ends) × (new.returned ≡ old.returned)
 
--- The ends of the feed have sent these lists of links. The longest chain is folded. Each held link was sent; and where none was refused each
+-- What a node is to which these lists of links were sent, one by each end of its feed. The longest chain is folded. Each held link was sent; and where none was refused each
 -- that was sent is held, but for those of older epochs where any was dropped. None was refused as a contradiction where no two that were
 -- sent contradict each other. Where all that were sent are links of one history, none was, and what is folded is the latest epoch of it of
 -- which the first link is held, as far as all of it is held, with the rows there.
@@ -34,9 +35,16 @@ pub record IsReportOf (sent : List (List Link)) (store : Stored) (settled : Sett
       → ((l : Link) → WasSent sent l → Among (links_in (tables_of store) (epochs_of h)) l)
       → (forks ≡ 0) × IsEpochChain (tables_of store) (Holds store.links) (epochs_of h) store.folded
 
--- the same of such lists of links, one for each end
-pub record IsReport (sends : List Link → Type 0) (ends : ℕ) (store : Stored) (settled : Settled) (forks short dropped : ℕ) : Type 0 where
-  pub sent : List (List Link)
-  pub all : length sent ≡ ends
-  pub admitted : ∥ AreSent sends sent ∥₁
-  pub of : IsReportOf sent store settled forks short dropped
+-- All ends of the feed are back, so many of them, and all that they have sent was taken. What each has sent is such a list of links, and
+-- the report is that of what they sent.
+pub record IsReport (sends : List Link → Type 0) (ends : ℕ) (feed : FeedValue Link) (store : Stored) (settled : Settled) (forks short dropped : ℕ) : Type 0 where
+  pub all : length feed.returned ≡ ends
+  pub drained : IsDrained feed
+  pub admitted : ∥ AreSent sends feed.returned ∥₁
+  pub of : IsReportOf feed.returned store settled forks short dropped
+
+-- each link that was taken of the feed was new and taken into the store, was held already, or was refused for what is said, and those that
+-- were refused and dropped are counted
+abbrev pub HasAccount : FeedValue Link → Stored → ℕ → ℕ → ℕ → List RefusedLink → Type 0
+HasAccount feed store forks short dropped untold = (prunes : Bool)
+    × IsAccountOf (record { store = store; feed = feed; kept = None; forks = forks; short = short; dropped = dropped; prunes = prunes; untold = untold })

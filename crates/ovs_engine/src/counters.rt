@@ -41,7 +41,7 @@ impl Counters {
     }
 
     /// So many threads are begun that send links.
-    pub fn note_feeding(&self, feeding: u64) {
+    pub(crate) fn note_feeding(&self, feeding: u64) {
         self.feeding.store(feeding, Ordering::SeqCst);
     }
 
@@ -53,8 +53,8 @@ impl Counters {
         }
     }
 
-    /// Whether no thread sends links any more, while others run. A thread that sent links counts as running as long as it counts as
-    /// sending, so that this isn't so where it was the last of all.
+    /// Whether no thread sends links any more, while others run. A thread that sent links counts as sending as long as it counts as
+    /// running, so that this isn't so where it was the last of all.
     pub(crate) fn is_unfed(&self) -> bool {
         self.feeding.load(Ordering::SeqCst) == 0 && self.running.load(Ordering::SeqCst) > 0
     }

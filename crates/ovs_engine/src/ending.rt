@@ -6,7 +6,7 @@ ghost use Rattle.ovs_feed.specs.Feed.{IsDrained};
 ghost use Rattle.ovs_folder.specs.Nodes.{NodeAtRest, NodeInStep};
 ghost use Rattle.ovs_folder.specs.Ledger.{steps_in};
 ghost use Rattle.ovs_links.specs.Absorbing.{last_chain};
-ghost use Rattle.ovs_engine.specs.Reporting.{AreSent, IsReport, KeepsEnds};
+ghost use Rattle.ovs_engine.specs.Reporting.{AreSent, HasAccount, IsReport, KeepsEnds};
 
 use crate::not_run::NotRun;
 use crate::party::Party;
@@ -53,7 +53,7 @@ fn take_all_back<K: NodeName, Q: FeedName, F: Sender<K, Q> + Drop, D: Doors + Dr
     ensures ends { node.new.intake.feed.ends ≡ node.old.intake.feed.ends }
 {
     for back in backs {
-        let (party, _handle, _known, _tally) = back;
+        let (party, _handle, _known) = back;
         take_back(queue, node, party)?;
     }
     Ok(())
@@ -98,10 +98,11 @@ pub(crate) fn report_of<
     board: &Mutex<Board<K>>,
     node: Node<K, Q, Handle<K, H>>,
     backs: Vec<Back<K, F, D>>,
-) -> Result<Report<K, Handle<K, H>>, NotRun>
+) -> Result<Report<K, Q, Handle<K, H>>, NotRun>
     requires in_step { NodeInStep node }
     requires none { node.intake.feed.returned ≡ [] }
-    ensures report { IfOk result (λ r. IsReport F.sends node.intake.feed.ends r.store r.settled r.forks r.short r.dropped) }
+    ensures report { IfOk result (λ r. IsReport F.sends node.intake.feed.ends r.feed r.store r.settled r.forks r.short r.dropped) }
+    ensures account { IfOk result (λ r. HasAccount r.feed r.store r.forks r.short r.dropped r.refused.items) }
     ensures schema { IfOk result (λ r. r.store.schema ≡ K.schema) }
     // A view that learns what is told answers from all of the chain, and reads on while the publisher lives.
     ensures told { IfOk result (λ r. (last_chain r.told ≡ steps_in r.store) × (r.told ≡ published r.publisher.handle)) }
@@ -113,6 +114,7 @@ pub(crate) fn report_of<
         return Err(NotRun::NotBack);
     }
     let report = node.finish();
+    // That its store has the node's schema is said with the store's chain.
     let _ = report.store.head();
     Ok(report)
 }

@@ -56,5 +56,7 @@ impl<'a, K: NodeName, Q: FeedName, R: Wait> LinkSink for FeedSink<'a, K, Q, R> {
         self.counts.note_sending();
         self.end.send(self.rt, self.queue, NodeLink::new(link));
         self.counts.note_queued();
+        // The folder may have taken the link before it was counted as queued, and sleep. It looks at the count once it is woken.
+        self.queue.ring();
     }
 }

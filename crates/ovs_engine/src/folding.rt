@@ -160,8 +160,7 @@ pub(crate) fn fold_beside<
     Q: FeedName,
     E: Send + Drop,
     F: Send + Drop,
-    Y: Send + Drop,
-    W: Work<(E, ReadHandle<Shown<K>>, Front<K>), (F, ReadHandle<Shown<K>>, Front<K>, Y)> + Sync,
+    W: Work<(E, ReadHandle<Shown<K>>, Front<K>), (F, ReadHandle<Shown<K>>, Front<K>)> + Sync,
     B: Bell,
     O: Watcher,
     H: Wait + Drop,
@@ -174,7 +173,7 @@ pub(crate) fn fold_beside<
     node: Node<K, Q, Handle<K, H>>,
 ) -> Result<
     (
-        Vec<(F, ReadHandle<Shown<K>>, Front<K>, Y)>,
+        Vec<(F, ReadHandle<Shown<K>>, Front<K>)>,
         Node<K, Q, Handle<K, H>>,
     ),
     NoMemory,

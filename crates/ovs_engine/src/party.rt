@@ -30,8 +30,7 @@ pub(crate) fn beside_with_views<
     K: NodeName + Send + Sync,
     E: Send + Drop,
     F: Send + Drop,
-    Y: Send + Drop,
-    W: Work<(E, ReadHandle<Shown<K>>, Front<K>), (F, ReadHandle<Shown<K>>, Front<K>, Y)> + Sync,
+    W: Work<(E, ReadHandle<Shown<K>>, Front<K>), (F, ReadHandle<Shown<K>>, Front<K>)> + Sync,
     R: Threads + Wait + Sync,
     S: FnOnce() -> Z,
     Z,
@@ -42,7 +41,7 @@ pub(crate) fn beside_with_views<
     work: &W,
     here: S,
 ) -> Result<
-    (Vec<(F, ReadHandle<Shown<K>>, Front<K>, Y)>, Z),
+    (Vec<(F, ReadHandle<Shown<K>>, Front<K>)>, Z),
     NotBegun<(E, ReadHandle<Shown<K>>, Front<K>), S>,
 >
     requires here { S.pre here }

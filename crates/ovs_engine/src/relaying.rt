@@ -8,7 +8,7 @@ ghost use Rattle.ovs_links.specs.Absorbing.{last_chain};
 ghost use Rattle.ovs_links.specs.Epochs.{EpochHistory, IsEpochChain, IsEpochHistory, epochs_of, links_in};
 ghost use Rattle.ovs_links.specs.Sets.{AllOf, Among, Holds};
 ghost use Rattle.ovs_links.specs.declared.link.Link.{Link};
-ghost use Rattle.ovs_engine.specs.Reporting.{IsReport};
+ghost use Rattle.ovs_engine.specs.Reporting.{HasAccount, IsReport};
 
 use crate::connector::Connector;
 use crate::desk_lock::{DeskLock, KnownDesk, UpwardDesk};
@@ -34,7 +34,8 @@ pub type RelayThreads<'a, K, Q, C, D, L, B> = NodeThreads<
     D,
 >;
 
-/// Runs a relay of a database of this schema (`run_node`). Each link that it holds is one that may come of an upstream's connections.
+/// Runs a relay of a database of this schema (`run_node`). Each link that it holds was sent by an upstream's thread, and is one that may
+/// come of the upstream's connections.
 ///
 /// # Errors
 /// As `run_node`; a thread that couldn't be started is none of them.
@@ -55,11 +56,12 @@ pub fn run_relay<
     schema: &'a Schema,
     node: Node<K, Q, Handle<K, H>>,
     threads: RelayThreads<'a, K, Q, C, D, L, B>,
-) -> Result<Report<K, Handle<K, H>>, NotRun>
+) -> Result<Report<K, Q, Handle<K, H>>, NotRun>
     requires schema { schema.now ≡ K.schema }
     requires in_step { NodeInStep node }
     requires none { node.intake.feed.returned ≡ [] }
-    ensures report { IfOk result (λ r. IsReport (AllOf (C.admits K.schema)) node.intake.feed.ends r.store r.settled r.forks r.short r.dropped) }
+    ensures report { IfOk result (λ r. IsReport (AllOf (C.admits K.schema)) node.intake.feed.ends r.feed r.store r.settled r.forks r.short r.dropped) }
+    ensures account { IfOk result (λ r. HasAccount r.feed r.store r.forks r.short r.dropped r.refused.items) }
     ensures schema { IfOk result (λ r. r.store.schema ≡ K.schema) }
     // Where the connections admit links of one history alone, none is refused as a contradiction, and the node has the database of the
     // latest epoch of which it has the first link, as far as it has all of it.

@@ -5,7 +5,7 @@ ghost use Rattle.left_right.specs.Handles.{published};
 ghost use Rattle.ovs_folder.specs.Nodes.{NodeInStep};
 ghost use Rattle.ovs_folder.specs.Ledger.{steps_in};
 ghost use Rattle.ovs_links.specs.Absorbing.{last_chain};
-ghost use Rattle.ovs_engine.specs.Reporting.{IsReport};
+ghost use Rattle.ovs_engine.specs.Reporting.{HasAccount, IsReport};
 
 use crate::counters::Counters;
 use crate::desk_lock::{DeskLock, KnownDesk};
@@ -85,10 +85,11 @@ pub fn run_node<
     feeds: T,
     node: Node<K, Q, Handle<K, H>>,
     threads: NodeThreads<K, E, D>,
-) -> Result<Report<K, Handle<K, H>>, NotRun>
+) -> Result<Report<K, Q, Handle<K, H>>, NotRun>
     requires in_step { NodeInStep node }
     requires none { node.intake.feed.returned ≡ [] }
-    ensures report { IfOk result (λ r. IsReport F.sends node.intake.feed.ends r.store r.settled r.forks r.short r.dropped) }
+    ensures report { IfOk result (λ r. IsReport F.sends node.intake.feed.ends r.feed r.store r.settled r.forks r.short r.dropped) }
+    ensures account { IfOk result (λ r. HasAccount r.feed r.store r.forks r.short r.dropped r.refused.items) }
     ensures schema { IfOk result (λ r. r.store.schema ≡ K.schema) }
     // A view that learns what is told answers from all of the chain, and reads on while the publisher lives.
     ensures told { IfOk result (λ r. (last_chain r.told ≡ steps_in r.store) × (r.told ≡ published r.publisher.handle)) }

@@ -9,7 +9,7 @@ use crate::workers::{Worked, serve_readers};
 use left_right::ReadHandle;
 use ovs_feed::{FeedName, FeedQueue};
 use ovs_folder::NodeLink;
-use ovs_hall::{Bell, Doors, Tally};
+use ovs_hall::{Bell, Doors};
 use ovs_session::Limits;
 use ovs_threads::Work;
 use ovs_views::{Front, NodeName, Shown, View};
@@ -19,13 +19,13 @@ use std::sync::Wait;
 /// What each thread has: what it sends links with, or a worker's doors, and the parts of its view.
 pub(crate) type Job<K, E, D> = (Party<E, Unused<D>>, ReadHandle<Shown<K>>, Front<K>);
 
-/// What comes back of each, with what its sessions counted.
-pub(crate) type Back<K, F, D> = (Party<F, Vacant<D>>, ReadHandle<Shown<K>>, Front<K>, Tally);
+/// What comes back of each.
+pub(crate) type Back<K, F, D> = (Party<F, Vacant<D>>, ReadHandle<Shown<K>>, Front<K>);
 
 /// What those threads of a node do that send links to its feed. A fact about what is left of one is a fact of its type.
 pub trait Feeds<K: NodeName, E, F> {
-    /// Sends the links that come, until no more do. What its sessions counted is added to the tally.
-    fn feed(&self, from: E, view: &mut View<K>, tally: &mut Tally) -> F;
+    /// Sends the links that come, until no more do.
+    fn feed(&self, from: E, view: &mut View<K>) -> F;
 
     /// What is left where there is no thread for it.
     fn refuse(&self, from: E) -> F;
@@ -112,20 +112,18 @@ impl<
     fn work(&self, job: Job<K, E, D>) -> Back<K, F, D> {
         let (party, handle, known) = job;
         let mut view = View::new(handle, known);
-        let mut tally = Tally::new();
         let feeds = party.is_feed();
         let party = match party {
-            Party::Feed(from) => { Party::Feed(self.feeds.feed(from, &mut view, &mut tally)) }
+            Party::Feed(from) => Party::Feed(self.feeds.feed(from, &mut view)),
             Party::Worker(doors) => {
                 let worked = self.serve(doors, view);
                 view = worked.view;
-                tally = worked.tally;
                 Party::Worker(worked.doors)
             }
         };
         self.leave(feeds);
         let (handle, known) = view.into_parts();
-        (party, handle, known, tally)
+        (party, handle, known)
     }
 
     fn refuse(&self, job: Job<K, E, D>) -> Back<K, F, D> {
@@ -135,7 +133,7 @@ impl<
             Party::Feed(from) => Party::Feed(self.feeds.refuse(from)),
             Party::Worker(doors) => Party::Worker(doors.into_vacant()),
         };
-        (party, handle, known, Tally::new())
+        (party, handle, known)
     }
 }
 

@@ -12,7 +12,6 @@ use crate::serving::Feeds;
 use ovs_feed::{FeedName, FeedQueue};
 use ovs_folder::NodeLink;
 use ovs_follow::{Followed, InputFault, SourceSide, follow_upstream};
-use ovs_hall::Tally;
 use ovs_session::{Ended, Limits};
 use ovs_types::{Schema, TxnId};
 use ovs_views::{Board, NodeName, View, teach};
@@ -51,7 +50,7 @@ pub(crate) struct Follows<'a, K: NodeName, Q: FeedName, R: Wait> {
 
 // What is left of one session.
 #[derive(Drop)]
-struct Back<K: NodeName, Q: FeedName, C: Connector, D: SourceSide + Drop> {
+struct SessionEnd<K: NodeName, Q: FeedName, C: Connector, D: SourceSide + Drop> {
     line: Line<K, Q, C>,
     // How it ended, if there was one, and what was wrong with what the upstream said.
     ended: Option<(Ended, Option<InputFault>)>,
@@ -66,8 +65,7 @@ impl<'a, K: NodeName, Q: FeedName, R: Wait> Follows<'a, K, Q, R> {
         connection: (C::In, C::Out),
         line: Line<K, Q, C>,
         source: EpochSide<'_, K, D>,
-        tally: &mut Tally,
-    ) -> Back<K, Q, C, D>
+    ) -> SessionEnd<K, Q, C, D>
         requires lawful { AdmitsBytes C.admits asked (C.In.remaining connection.0) }
     {
         let (reader, writer) = connection;
@@ -87,13 +85,12 @@ impl<'a, K: NodeName, Q: FeedName, R: Wait> Follows<'a, K, Q, R> {
         let Followed {
             sink,
             source,
-            counts,
+            counts: _,
             ended,
             fault,
             made: _,
         } = followed;
-        tally.add(counts);
-        Back {
+        SessionEnd {
             line: Line::again(sink.into_end()),
             ended: Some((ended, fault)),
             source: source.into_side(),
@@ -106,9 +103,8 @@ impl<'a, K: NodeName, Q: FeedName, R: Wait> Follows<'a, K, Q, R> {
         &self,
         connector: &mut C,
         view: &mut View<K>,
-        back: Back<K, Q, C, D>,
-        tally: &mut Tally,
-    ) -> Back<K, Q, C, D> {
+        back: SessionEnd<K, Q, C, D>,
+    ) -> SessionEnd<K, Q, C, D> {
         self.counts.wait_for_sent(self.rt);
         teach(self.rt, self.board, view);
         let Ok((start, asked)) = view.ends() else {
@@ -118,7 +114,7 @@ impl<'a, K: NodeName, Q: FeedName, R: Wait> Follows<'a, K, Q, R> {
             return back;
         };
         let side = EpochSide::new(back.source, view, start);
-        let back = self.follow(asked, connection, back.line, side, tally);
+        let back = self.follow(asked, connection, back.line, side);
         if let Some((ended, fault)) = back.ended {
             connector.lost(ended, fault);
         }
@@ -132,18 +128,13 @@ impl<'a, K: NodeName, Q: FeedName, R: Wait, C: Connector + Drop, D: SourceSide +
     Line<K, Q, C>,
 > for Follows<'a, K, Q, R> {
     // All connections with an upstream, one after another.
-    fn feed(
-        &self,
-        upstream: Upstream<K, Q, C, D>,
-        view: &mut View<K>,
-        tally: &mut Tally,
-    ) -> Line<K, Q, C> {
+    fn feed(&self, upstream: Upstream<K, Q, C, D>, view: &mut View<K>) -> Line<K, Q, C> {
         let Upstream {
             line,
             mut connector,
             source,
         } = upstream;
-        let mut back = Back {
+        let mut back = SessionEnd {
             line,
             ended: None,
             source,
@@ -152,7 +143,7 @@ impl<'a, K: NodeName, Q: FeedName, R: Wait, C: Connector + Drop, D: SourceSide +
             if !connector.next() {
                 break;
             }
-            back = self.follow_next(&mut connector, view, back, tally);
+            back = self.follow_next(&mut connector, view, back);
         }
         back.line
     }

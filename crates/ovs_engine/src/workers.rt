@@ -8,7 +8,7 @@ ghost use Rattle.ovs_hall.specs.Seats.{EndsSo};
 ghost use Rattle.ovs_service.specs.Kept.{Kept};
 
 use crate::vacant::{Unused, Vacant};
-use ovs_hall::{Doors, Host, Receives, Served, Tally, serve_many};
+use ovs_hall::{Doors, Host, Receives, Served, serve_many};
 use ovs_history::GhostList;
 use ovs_service::{Client, Desk, NodeService};
 use ovs_session::{Limits, Outbox, Pace, Refusal, Service};
@@ -109,7 +109,6 @@ impl<K: NodeName, D: Desk<K>> Receives for NodeHost<K, D> {
 pub(crate) struct Worked<K: NodeName, D: Doors + Drop> {
     pub(crate) view: View<K>,
     pub(crate) doors: Vacant<D>,
-    pub(crate) tally: Tally,
 }
 
 // What became of the sessions that a worker served: each ended so, and did what users are promised of it (`Kept` of `ovs_service`).
@@ -141,7 +140,7 @@ pub(crate) fn serve_readers<K: NodeName, D: Desk<K> + Drop, O: Doors + Drop, R: 
         next: 0,
         worker: doors.worker() as u64 % WORKERS,
     };
-    let (tally, doors, served) = serve_many(rt, alloc, &mut host, doors, limits);
+    let (_tally, doors, served) = serve_many(rt, alloc, &mut host, doors, limits);
     served_sessions_keep(&served);
     let NodeHost {
         service,
@@ -152,6 +151,5 @@ pub(crate) fn serve_readers<K: NodeName, D: Desk<K> + Drop, O: Doors + Drop, R: 
     Worked {
         view,
         doors: Vacant::new(doors),
-        tally,
     }
 }

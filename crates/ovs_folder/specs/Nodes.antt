@@ -19,6 +19,6 @@ module _ {K Q R A S : Type 0} {g : Ghosts (List Step) (List Step) S} where
   NodeAtRest n = IsAtRest n.intake n.settled (published n.publisher.handle)
 
 module _ {K R A S : Type 0} {g : Ghosts (List Step) (List Step) S} where
-  -- the same of a node whose feed has no name yet, and whose store has no link
+  -- what the views of a node see whose feed has no name yet, with what waits to be shown, is what was handed on; and it has no link
   abbrev pub OpenNodeInStep : OpenNode K (WriteHandle (List Step) (List Step) R A S g) → Type 0
   OpenNodeInStep n = IsInStep (published n.publisher.handle) (pending n.publisher.handle) n.publisher.front n.publisher.kept []

@@ -224,10 +224,11 @@ impl<K: NodeName, Q: FeedName> Intake<K, Q> {
 
     /// The store and the counts, when all ends are back and all that they sent was taken: each held link was sent, and where
     /// nothing was refused or dropped each that was sent is held.
-    pub fn close(self) -> Closed
+    pub fn close(self) -> Closed<K, Q>
         requires taken { self.kept ≡ None }
         requires back { length self.feed.returned ≡ self.feed.ends }
         requires drained { IsDrained self.feed }
+        ensures feed { result.feed ≡ self.feed }
         ensures store { result.store ≡ self.store }
         ensures schema { result.store.schema ≡ K.schema }
         ensures counts { (result.forks ≡ self.forks) × (result.short ≡ self.short) × (result.dropped ≡ self.dropped) × (result.refused.items ≡ self.untold) }
@@ -239,7 +240,7 @@ impl<K: NodeName, Q: FeedName> Intake<K, Q> {
     {
         let Intake {
             store,
-            feed: _,
+            feed,
             kept: _,
             forks,
             short,
@@ -248,6 +249,7 @@ impl<K: NodeName, Q: FeedName> Intake<K, Q> {
             refused,
         } = self;
         Closed {
+            feed,
             store,
             forks,
             short,
@@ -270,7 +272,9 @@ fn refused(link: &Link, why: Why) -> RefusedLink
 
 /// What is left of an intake.
 #[derive(Drop)]
-pub struct Closed {
+pub struct Closed<K: NodeName, Q: FeedName> {
+    /// The feed that the links came from.
+    pub feed: Feed<NodeLink<K>, Q>,
     /// The links that are held.
     pub store: LinkStore,
     /// How many links were refused as contradictions, or its last value.

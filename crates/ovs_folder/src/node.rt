@@ -174,10 +174,11 @@ impl<K: NodeName, Q: FeedName, R: Wait + Drop> Node<K, Q, Handle<K, R>> {
     }
 
     /// What became of all that was sent, once all ends are back and a `fold_next` after that answered false.
-    pub fn finish(self) -> Report<K, Handle<K, R>>
+    pub fn finish(self) -> Report<K, Q, Handle<K, R>>
         requires back { length self.intake.feed.returned ≡ self.intake.feed.ends }
         requires drained { IsDrained self.intake.feed }
         requires rest { NodeAtRest self }
+        ensures feed { result.feed ≡ self.intake.feed }
         ensures store { (result.store ≡ self.intake.store) × (result.store.folded ≡ chain_of result.store) }
         ensures schema { result.store.schema ≡ K.schema }
         ensures settled { result.settled ≡ settled_of result.store }
@@ -200,6 +201,7 @@ impl<K: NodeName, Q: FeedName, R: Wait + Drop> Node<K, Q, Handle<K, R>> {
         } = self;
         let Closed {
             store,
+            feed,
             forks,
             short,
             dropped,
@@ -207,6 +209,7 @@ impl<K: NodeName, Q: FeedName, R: Wait + Drop> Node<K, Q, Handle<K, R>> {
         } = intake.close();
         let told = publisher.told();
         Report {
+            feed,
             store,
             settled,
             forks,

@@ -1,12 +1,16 @@
 //! What is left of a node.
 
+use crate::node_link::NodeLink;
 use crate::refused::RefusedLink;
+use ovs_feed::{Feed, FeedName};
 use ovs_links::{LinkStore, Settled};
 use ovs_views::{NodeName, Publisher, Told};
 
 /// What became of all that the ends of a node sent.
 #[derive(Drop)]
-pub struct Report<K: NodeName, H> {
+pub struct Report<K: NodeName, Q: FeedName, H> {
+    /// The feed that they sent to. A contract sees what each of them sent, by its number.
+    pub feed: Feed<NodeLink<K>, Q>,
     /// The links that are held, with the longest chain folded.
     pub store: LinkStore,
     /// What `settle` answers on the store.

@@ -273,7 +273,7 @@ fn staged<
     stage: &'a Stage<'x, N, R>,
     node: Node<K, Q, Handle<K, &'x R>>,
     outfit: Outfit<K, Q>,
-) -> Result<Report<K, Handle<K, &'x R>>, Fault>
+) -> Result<Report<K, Q, Handle<K, &'x R>>, Fault>
     requires schema { schema.now ≡ K.schema }
     requires in_step { NodeInStep node }
     requires none { node.intake.feed.returned ≡ [] }

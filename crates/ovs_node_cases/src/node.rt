@@ -169,19 +169,16 @@ fn fold_beside<
         board,
         sending,
     };
-    let folds = move || -> Result<Node<K, Q, Handle<K, H>>, NoMemory>
+    let folds = move || -> Node<K, Q, Handle<K, H>>
         requires { NodeInStep node }
-        ensures { IfOk result NodeInStep }
+        ensures { NodeInStep result }
     {
         let mut node = node;
-        fold_all(rt, queue, board, sending, &mut node)?;
-        Ok(node)
+        fold_all(rt, queue, board, sending, &mut node);
+        node
     };
     match beside_with_views(rt, alloc, jobs, &work, folds) {
-        Ok((backs, node)) => {
-            let node = node?;
-            Ok((backs, node))
-        }
+        Ok(done) => Ok(done),
         Err(_not_begun) => Err(NoMemory),
     }
 }

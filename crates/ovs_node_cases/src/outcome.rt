@@ -3,14 +3,17 @@
 use crate::fault::Fault;
 use crate::ids::letter;
 use ovs_links::Settled;
-use ovs_node::{Board, NodeName, Report, Told, View, teach};
+use ovs_node::{Board, FeedName, NodeName, Report, Told, View, teach};
 use ovs_query::Select;
 use ovs_types::TxnId;
 use std::alloc::Global;
 use std::sync::{Mutex, Wait};
 
 // The head of the store, its links, what was refused, and whether the chain is whole.
-fn ended<K: NodeName, H>(alloc: Global, report: &Report<K, H>) -> Result<String, Fault> {
+fn ended<K: NodeName, Q: FeedName, H>(
+    alloc: Global,
+    report: &Report<K, Q, H>,
+) -> Result<String, Fault> {
     let store = &report.store;
     let (head, links, chain) = (letter(store.head()), store.len(), store.chain_len());
     let (forks, short) = (report.forks, report.short);
@@ -31,9 +34,9 @@ fn told_after<K: NodeName>(alloc: Global, view: &mut View<K>, n: usize) -> Resul
 
 /// How the node ended; and, for each view that is taught what was told, its head, and how many steps it tells after the first
 /// and after the second.
-pub(crate) fn told<K: NodeName, H>(
+pub(crate) fn told<K: NodeName, Q: FeedName, H>(
     alloc: Global,
-    report: &Report<K, H>,
+    report: &Report<K, Q, H>,
     views: Vec<View<K>>,
 ) -> Result<String, Fault> {
     let mut told = ended(alloc, report)?;
@@ -54,9 +57,9 @@ fn seen_by<K: NodeName>(alloc: Global, told: &Told<K>, view: View<K>) -> Result<
 }
 
 /// How long the chain is, and how often views answered while links were sent.
-pub(crate) fn measured<K: NodeName, H>(
+pub(crate) fn measured<K: NodeName, Q: FeedName, H>(
     alloc: Global,
-    report: &Report<K, H>,
+    report: &Report<K, Q, H>,
     answers: u64,
 ) -> Result<String, Fault> {
     let chain = report.store.chain_len();
@@ -107,11 +110,11 @@ fn answers_of<K: NodeName, R: Wait>(
 }
 
 /// How the node ended; and what each of these views answers, which the board teaches one after another.
-pub(crate) fn shown<K: NodeName, H, R: Wait>(
+pub(crate) fn shown<K: NodeName, Q: FeedName, H, R: Wait>(
     rt: &R,
     alloc: Global,
     board: &Mutex<Board<K>>,
-    report: &Report<K, H>,
+    report: &Report<K, Q, H>,
     views: Vec<View<K>>,
     questions: &[Vec<Question>],
 ) -> Result<String, Fault> {

@@ -3,6 +3,7 @@ use Rattle.std.proofs.Common.{◌≡◌, ℕ, zero, suc, List, [], ◌∷◌, le
 use Rattle.std.proofs.Math.Logic.{∥∥₁_map}
 use Rattle.ovs_types.specs.declared.schema.Table.{Table}
 use Rattle.ovs_engine.specs.Reporting.{AreSent, IsReport, IsReportOf}
+use Rattle.ovs_feed.specs.Feed.{FeedValue, IsDrained}
 use Rattle.ovs_folder.specs.Ledger.{WasSent}
 use Rattle.ovs_links.specs.Epochs.{epochs_of, links_in}
 use Rattle.ovs_links.specs.Sets.{Among}
@@ -23,16 +24,16 @@ sent_by_one ls l (zero, at, a) = a
 sent_by_one ls l (suc k, at, a) = absurd (omega arith)
 
 module _ (tables : List Table) (gives : List Link → Type 0) (gives_first : (ls : List Link) → gives ls → AreFirst tables ls) (store : Stored) (same : tables_of store ≡ tables)
-    (settled : Settled) (forks short dropped : ℕ) where
-  of_one : (ls : List Link) → gives ls → IsReportOf (ls ∷ []) store settled forks short dropped → IsOwnReport gives store settled forks short dropped
-  of_one ls given of =
+    (settled : Settled) (forks short dropped : ℕ) (feed : FeedValue Link) where
+  of_one : (ls : List Link) → feed.returned ≡ ls ∷ [] → IsDrained feed → gives ls → IsReportOf (ls ∷ []) store settled forks short dropped → IsOwnReport gives feed store settled forks short dropped
+  of_one ls all drained given of =
       let first : AreFirst (tables_of store) ls = subst (λ (ts : List Table). AreFirst ts ls) (sym same) (gives_first ls given) in
       let history = of.history first.history first.is
       (λ l was. subst (λ (ms : List Link). Among ms l) first.all (Among-left ls first.later l (sent_by_one ls l was))) in
-      record { sent = ls; given = given; of = of; first = first; consistent = history.0; folded = history.1 }
+      record { sent = ls; all = all; drained = drained; given = given; of = of; first = first; consistent = history.0; folded = history.1 }
 
-  pub own_report : IsReport gives 1 store settled forks short dropped → ∥ IsOwnReport gives store settled forks short dropped ∥₁
+  pub own_report : IsReport gives 1 feed store settled forks short dropped → ∥ IsOwnReport gives feed store settled forks short dropped ∥₁
   own_report report =
-      let one = one_list report.sent report.all in
+      let one = one_list feed.returned report.all in
       ∥∥₁_map report.admitted (λ all.
-      of_one one.0 (subst (AreSent gives) one.1 all).0 (subst (λ (sent : List (List Link)). IsReportOf sent store settled forks short dropped) one.1 report.of))
+      of_one one.0 one.1 report.drained (subst (AreSent gives) one.1 all).0 (subst (λ (sent : List (List Link)). IsReportOf sent store settled forks short dropped) one.1 report.of))

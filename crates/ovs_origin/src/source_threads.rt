@@ -5,6 +5,7 @@ ghost use Rattle.left_right.specs.Handles.{published};
 ghost use Rattle.ovs_folder.specs.Nodes.{NodeInStep};
 ghost use Rattle.ovs_folder.specs.Ledger.{steps_in};
 ghost use Rattle.ovs_links.specs.Absorbing.{last_chain};
+ghost use Rattle.ovs_engine.specs.Reporting.{HasAccount, IsReport};
 ghost use Rattle.ovs_origin.specs.Reporting.{IsOwnReport};
 
 use crate::origin_desk::OriginDesk;
@@ -15,7 +16,7 @@ use ovs_engine::{
 };
 use ovs_feed::{FeedName, FeedQueue};
 use ovs_folder::{Node, NodeLink, Report};
-use ovs_hall::{Bell, Doors, Tally};
+use ovs_hall::{Bell, Doors};
 use ovs_views::{Handle, NodeName, View};
 use std::alloc::Global;
 use std::sync::Wait;
@@ -35,12 +36,7 @@ impl<'a, K: NodeName, Q: FeedName, T: Drop, L: OriginDesk<K, T>, R: Wait> Feeds<
     SourceLine<K, Q, T, L>,
     SourceSent<K, Q, T, L>,
 > for Sends<'a, K, Q, L, R> {
-    fn feed(
-        &self,
-        line: SourceLine<K, Q, T, L>,
-        _view: &mut View<K>,
-        tally: &mut Tally,
-    ) -> SourceSent<K, Q, T, L> {
+    fn feed(&self, line: SourceLine<K, Q, T, L>, _view: &mut View<K>) -> SourceSent<K, Q, T, L> {
         let (end, taken) = line.into_parts();
         let sink = FeedSink::new(self.rt, self.queue, self.counters.folded(), end);
         let followed = follow_source::<K, T, L, FeedSink<'a, K, Q, R>, R>(
@@ -53,9 +49,8 @@ impl<'a, K: NodeName, Q: FeedName, T: Drop, L: OriginDesk<K, T>, R: Wait> Feeds<
         let SourceFollowed {
             sink,
             taken: _,
-            counts,
+            counts: _,
         } = followed;
-        tally.add(counts);
         SourceSent::new(sink.into_end())
     }
 
@@ -85,11 +80,14 @@ pub fn run_source<
     shared: &'a Shared<'a, K, Q, L, L, B, O, R>,
     node: Node<K, Q, Handle<K, H>>,
     threads: NodeThreads<K, SourceLine<K, Q, T, L>, D>,
-) -> Result<Report<K, Handle<K, H>>, NotRun>
+) -> Result<Report<K, Q, Handle<K, H>>, NotRun>
     requires in_step { NodeInStep node }
     requires none { node.intake.feed.returned ≡ [] }
     requires one { node.intake.feed.ends ≡ 1 }
-    ensures report { IfOk result (λ r. ∥ IsOwnReport L.gives r.store r.settled r.forks r.short r.dropped ∥₁) }
+    ensures report { IfOk result (λ r. ∥ IsOwnReport L.gives r.feed r.store r.settled r.forks r.short r.dropped ∥₁) }
+    ensures sent { IfOk result (λ r. IsReport L.gives node.intake.feed.ends r.feed r.store r.settled r.forks r.short r.dropped) }
+    ensures account { IfOk result (λ r. HasAccount r.feed r.store r.forks r.short r.dropped r.refused.items) }
+    ensures schema { IfOk result (λ r. r.store.schema ≡ K.schema) }
     ensures told { IfOk result (λ r. (last_chain r.told ≡ steps_in r.store) × (r.told ≡ published r.publisher.handle)) }
 {
     let sends = Sends {

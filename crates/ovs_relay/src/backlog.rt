@@ -38,7 +38,7 @@ pub(crate) struct Backlog {
     lines: ArrayQueue<String>,
     // Those that were put here and aren't said yet.
     unsaid: AtomicU64,
-    // Those that were dropped, of which nothing was said yet.
+    // Those that were dropped, of which it isn't said yet.
     dropped: AtomicU64,
     bell: Parker,
 }
@@ -85,10 +85,15 @@ impl Backlog {
         self.bell.unpark();
     }
 
+    // Whether all is said that was put here, and how many lines were dropped.
+    fn is_said(&self) -> bool {
+        self.unsaid.load(Ordering::SeqCst) == 0 && self.dropped.load(Ordering::SeqCst) == 0
+    }
+
     /// Waits until all lines are said, a second at most.
     pub(crate) fn finish<C: Clock>(&self, clock: &C) {
         for _ in 0..MOST_LOOKS {
-            if self.unsaid.load(Ordering::SeqCst) == 0 {
+            if self.is_said() {
                 return;
             }
             thread::sleep(clock, Duration::from_millis(LOOK));
@@ -113,10 +118,11 @@ impl Backlog {
 
     // Says how many lines were dropped, if any were of which nothing was said.
     fn say_dropped<R: Eprint + Clock>(&self, rt: &R) {
-        let dropped = self.dropped.swap(0, Ordering::SeqCst);
+        let dropped = self.dropped.load(Ordering::SeqCst);
         if dropped > 0 {
             let said = Timed::now(rt, Dropped(dropped));
             let _ = eprintln!(rt; "ovs_relay: {said}");
+            self.dropped.fetch_sub(dropped, Ordering::SeqCst);
         }
     }
 }

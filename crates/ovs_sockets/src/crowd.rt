@@ -28,8 +28,8 @@ impl Crowd {
 
     /// One worker takes no more connections. Whether none does.
     pub(crate) fn close_worker(&self) -> bool {
-        let open = self.workers.load(Ordering::SeqCst);
-        self.closed.fetch_add(1, Ordering::SeqCst).saturating_add(1) == open
+        let workers = self.workers.load(Ordering::SeqCst);
+        self.closed.fetch_add(1, Ordering::SeqCst).saturating_add(1) == workers
     }
 
     /// One session more.

@@ -228,11 +228,12 @@ impl<R: Log + Drop> SocketDoors<R> {
         }
         let (stream, peer) = self.next_stream()?;
         self.accepts_left = one_less(self.accepts_left);
+        // Also where there is nothing to serve it with.
+        self.tell_closed();
         let halves = self.seat(key, stream).ok()?;
         self.hearing.add_session();
         let worker = self.worker;
         info!(self.rt; "worker {worker} session {key} opened by {peer}");
-        self.tell_closed();
         Some(halves)
     }
 

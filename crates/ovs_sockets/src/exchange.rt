@@ -1,6 +1,6 @@
 //! How far a relay and its upstream have come over a connection.
 
-ghost use Rattle.std.specs.Prelude.{◌≡◌, ◌⊎◌, true};
+ghost use Rattle.std.specs.Prelude.{◌≡◌, ◌⊎◌, ◌↔◌, IsTrue};
 
 use ovs_session::Ended;
 
@@ -19,9 +19,9 @@ pub(crate) enum Exchange {
 }
 
 impl Exchange {
-    /// The same once something came.
+    /// How far they have come once something came.
     pub(crate) fn after_read(self) -> Exchange
-        ensures answered { result ≡ Exchange.Answered → (self ≡ Exchange.Asked) ⊎ (self ≡ Exchange.Answered) }
+        ensures answered { (result ≡ Exchange.Answered) ↔ ((self ≡ Exchange.Asked) ⊎ (self ≡ Exchange.Answered)) }
     {
         match self {
             Exchange::Opened => Exchange::Heard,
@@ -30,9 +30,9 @@ impl Exchange {
         }
     }
 
-    /// The same once something was written.
+    /// How far they have come once something was written.
     pub(crate) fn after_write(self) -> Exchange
-        ensures asked { result ≡ Exchange.Asked → (self ≡ Exchange.Heard) ⊎ (self ≡ Exchange.Asked) }
+        ensures asked { (result ≡ Exchange.Asked) ↔ ((self ≡ Exchange.Heard) ⊎ (self ≡ Exchange.Asked)) }
     {
         match self {
             Exchange::Heard => Exchange::Asked,
@@ -41,10 +41,9 @@ impl Exchange {
     }
 
     /// Whether the upstream, with which the session ended so, is one that can be followed: it has answered what was asked for, and
-    /// nothing that it said was refused.
+    /// then the connection was lost.
     pub(crate) fn was_followed(self, ended: Ended) -> bool
-        ensures answered { result ≡ true → self ≡ Exchange.Answered }
-        ensures taken { result ≡ true → ended ≡ Ended.BadInput → ⊥ }
+        ensures value { IsTrue result ↔ ((self ≡ Exchange.Answered) × ((ended ≡ Ended.Closed) ⊎ ((ended ≡ Ended.ReadFault) ⊎ (ended ≡ Ended.WriteFault)))) }
     {
         let is_lost = matches!(ended, Ended::Closed | Ended::ReadFault | Ended::WriteFault);
         is_lost && self == Exchange::Answered
