@@ -6,6 +6,7 @@ import subprocess
 from harness import Skip, check, equal, holds
 from hostile import STEP
 from memory import Memory
+from processes import PATIENCE
 
 CRATE = os.path.join(os.path.dirname(os.path.abspath(__file__)), "..", "crates", "ovs_cases")
 CASES = os.path.join(CRATE, "out", "ovs_cases")
@@ -46,7 +47,7 @@ class Table:
 
     def answers(self, text):
         """What comes of these lines: None where all are answered as the table says, else what they are answered, or how the program ended."""
-        ran = subprocess.run([self.program], input=text.encode(), stdout=subprocess.PIPE, stderr=subprocess.PIPE, cwd=self.folder, timeout=SECONDS, env=self.memory.environment, check=False)
+        ran = subprocess.run([self.program], input=text.encode(), stdout=subprocess.PIPE, stderr=subprocess.PIPE, cwd=self.folder, timeout=SECONDS * PATIENCE, env=self.memory.environment, check=False)
         out = ran.stdout.decode(errors="replace").splitlines()
         if ran.returncode != 0:
             return [ran.stderr.decode(errors="replace").strip()]

@@ -124,10 +124,10 @@ class Lab:
         self.children.append(child)
         return child
 
-    def run(self, *words, text=b"", seconds=START_SECONDS, out=None, environment=None):
-        """Runs the program to its end: the status, standard output and standard error."""
-        streams = {"stdout": out or subprocess.PIPE, "stderr": subprocess.PIPE}
-        ran = subprocess.run([self.program, *words], input=text, cwd=self.folder, timeout=seconds, check=False, env=environment, **streams)
+    def run(self, *words, text=b"", stdin=None, seconds=START_SECONDS, out=None, environment=None):
+        """Runs the program to its end, over a pipe with this text or over a file: the status, standard output and standard error."""
+        streams = {"stdout": out or subprocess.PIPE, "stderr": subprocess.PIPE, **({"input": text} if stdin is None else {"stdin": stdin})}
+        ran = subprocess.run([self.program, *words], cwd=self.folder, timeout=seconds * PATIENCE, check=False, env=environment, **streams)
         return ran.returncode, (ran.stdout or b"").decode(errors="replace"), ran.stderr.decode(errors="replace")
 
     def source_words(self, port, *more, schema=NET):

@@ -9,14 +9,29 @@ import subprocess
 import time
 
 PORTS = range(15_000, 32_000)
+GIVEN = set()
 TICK = 0.02
 # How many times longer than usual to wait, for programs or machines that are slow.
 PATIENCE = float(os.environ.get("OVS_PATIENCE", "1"))
 LISTENS = "0A"
 
 
+def _is_first_to_have(port):
+    """Whether this port was given to nobody else: not in this process, nor, where run.py has named a folder for it, in another of its checks."""
+    if port in GIVEN:
+        return False
+    GIVEN.add(port)
+    folder = os.environ.get("OVS_PORTS")
+    try:
+        if folder:
+            os.close(os.open(os.path.join(folder, f"port-{port}"), os.O_CREAT | os.O_EXCL))
+    except FileExistsError:
+        return False
+    return True
+
+
 def free_port():
-    """A port below those that the kernel gives to clients, at which nothing listens."""
+    """A port below those that the kernel gives to clients, at which nothing listens, and which is given once."""
     for _ in range(1_000):
         port = random.choice(PORTS)
         with socket.socket() as probe:
@@ -24,7 +39,8 @@ def free_port():
                 probe.bind(("127.0.0.1", port))
             except OSError:
                 continue
-            return port
+            if _is_first_to_have(port):
+                return port
     raise AssertionError("no port is free")
 
 

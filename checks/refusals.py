@@ -163,6 +163,7 @@ def at_its_end(lab, node_of):
         what = f"the {node.name}'s status and output, where its calls for memory from number {first} on are refused"
         equal(node.end(), (0, f"head {FIRST_ID}\nlinks 1 chain 1 parked 0\n"), what)
         if memory.rules.refused == 0:
+            holds(first > 1, f"no call for memory of the {node.name} was refused at its end")
             return
     raise AssertionError(f"after {first} calls the {node.name} still asks for memory: {memory.told()}")
 

@@ -20,7 +20,7 @@ import sys
 import tempfile
 import traceback
 
-import answers, bounds, cases, closing, commands, desk, ends, epochs, foreign, hostile, lasting, limits, locks, many, monitors, ovn, own_writes, pages, pruning, refusals, scripts, sessions, soak, tier, upstreams, ways, wire  # noqa: E401,F401
+import answers, bounds, calls, cases, closing, commands, desk, ends, epochs, foreign, hostile, lasting, limits, locks, many, monitors, ovn, own_writes, pages, pruning, refusals, scripts, sessions, soak, tier, upstreams, ways, wire  # noqa: E401,F401
 from harness import CHECKS, Lab, Skip
 
 HERE = os.path.dirname(os.path.abspath(__file__))
@@ -84,7 +84,7 @@ def end_group(child):
 def outcome_of(name, program, room):
     """Runs a check in a process of its own, and in a group, so that nothing of it is left."""
     words = [sys.executable, os.path.abspath(__file__), "--program", program, "--one", name]
-    place = {**os.environ, "TMPDIR": room}
+    place = {**os.environ, "TMPDIR": room, "OVS_PORTS": room}
     with subprocess.Popen(words, stdout=subprocess.PIPE, stderr=subprocess.STDOUT, start_new_session=True, env=place) as child:
         RUNNING.add(child)
         try:

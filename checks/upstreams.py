@@ -18,6 +18,8 @@ SLACK = 0.6
 RECONNECTS = 20
 PROCESSOR_A_RECONNECT = 0.010
 TICKS_A_SECOND = os.sysconf("SC_CLK_TCK")
+# So many pauses, of 10 ms and then twice as long each time, come to the longest.
+PAUSES = 8
 # How often an upstream breaks off behind a link.
 MANY_BREAKS = 12
 LONGEST_MESSAGE = 16_777_216
@@ -196,12 +198,12 @@ def pauses_before_refused_upstreams(lab):
     upstreams = [lab.keep(Upstream(NET, script)) for script in (another_schema, standalone, bad_answer, above_the_limit, schema_alone)]
     for upstream in upstreams:
         lab.relay([upstream])
-    time.sleep(5)
     for upstream in upstreams:
-        name, begun = upstream.scripts[0].__name__, upstream.times()[0]
-        times = [tried for tried in upstream.times() if tried <= begun + 5]
+        name = upstream.scripts[0].__name__
+        # However long a try takes, as that with a message above the limit does on a slow machine.
+        wait_until(lambda upstream=upstream: len(upstream.times()) > PAUSES, 60, f"{name}: {PAUSES} pauses")
+        times = upstream.times()[: PAUSES + 1]
         pauses = [later - earlier for earlier, later in zip(times, times[1:])]
-        holds(3 <= len(times) <= 20, f"{name}: {len(times)} tries in 5 seconds")
         holds(pauses[-1] > LONGEST_PAUSE / 4, f"{name}: the pauses don't grow: {pauses!r}")
         sound(upstream)
 
