@@ -1,7 +1,7 @@
 //! A line by its first word.
 
 use crate::fault::Fault;
-use crate::{engine, hall, many, node, reader_trials, sendings, tier, upstream_trials};
+use crate::{engine, hall, many, node, sendings, tier};
 use log::Log;
 use ovs_links::Step;
 use ovs_node::Opened;
@@ -77,23 +77,14 @@ impl<
             ("store", [steps]) => many::stored(alloc, schema, count(steps)?),
             ("make", [steps]) => many::made(alloc, schema, count(steps)?),
             ("hall", [change, sessions, piece, talk]) => {
-                let readers = hall::Readers::Many(hall::Many {
+                let scene = hall::Scene {
+                    change,
                     sessions: count(sessions)?,
                     piece: count(piece)? as usize,
                     talk,
-                });
-                of_hall(rt, alloc, schema, hall::Scene { change, readers })
+                };
+                of_hall(rt, alloc, schema, scene)
             }
-            ("reader", [kind, piece, change, parts, answers]) => {
-                let readers = hall::Readers::Tried(reader_trials::Scene {
-                    kind,
-                    piece: count(piece)? as usize,
-                    parts,
-                    answers,
-                });
-                of_hall(rt, alloc, schema, hall::Scene { change, readers })
-            }
-            ("upstream", scene) => upstream_trials::told(alloc, schema, scene),
             ("engine", scene) => {
                 let scene = engine::Scene::read(alloc, schema, scene)?;
                 of_engine(rt, alloc, schema, scene)

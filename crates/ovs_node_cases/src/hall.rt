@@ -9,7 +9,6 @@ use crate::fault::Fault;
 use crate::hosts::HallHost;
 use crate::ids::commit;
 use crate::links::read_link;
-use crate::reader_trials;
 use crate::sessions::{Script, read_scripts};
 use ovs_desk::RelayDesk;
 use ovs_hall::{Tally, serve_many};
@@ -31,25 +30,11 @@ const LIMITS: Limits = Limits {
     messages: 2,
 };
 
-/// The change that is published, and who reads then.
+/// `[CHANGE, SESSIONS, PIECE, TALK]`: the change that is published, how many sessions there are, in what pieces they are read
+/// and written, and what each of them says.
 #[derive(Clone, Copy)]
 pub(crate) struct Scene<'a> {
     pub(crate) change: &'a Value,
-    pub(crate) readers: Readers<'a>,
-}
-
-/// Who reads.
-#[derive(Clone, Copy)]
-pub(crate) enum Readers<'a> {
-    /// Many sessions, in one hall.
-    Many(Many<'a>),
-    /// One, over devices that fail.
-    Tried(reader_trials::Scene<'a>),
-}
-
-/// `[SESSIONS, PIECE, TALK]`: how many sessions there are, in what pieces they are read and written, and what each of them says.
-#[derive(Clone, Copy)]
-pub(crate) struct Many<'a> {
     pub(crate) sessions: u64,
     pub(crate) piece: usize,
     pub(crate) talk: &'a Value,
@@ -96,18 +81,15 @@ fn published<K: NodeName, Q: FeedName, R: Wait>(
     let view = views.pop().ok_or(Fault::BadCount)?;
     end.send(rt, &queue, link);
     node.fold_next(rt, &queue, &board)?;
-    match scene.readers {
-        Readers::Many(many) => served(rt, alloc, view, many),
-        Readers::Tried(scene) => reader_trials::told(alloc, view, scene),
-    }
+    served(rt, alloc, view, scene)
 }
 
-// Serves all these sessions, and tells what came of it.
+// Serves all sessions of the scene, and tells what came of it.
 fn served<K: NodeName, R: Wait>(
     rt: &R,
     alloc: Global,
     view: View<K>,
-    scene: Many,
+    scene: Scene,
 ) -> Result<String, Fault> {
     if scene.piece == 0 {
         return Err(Fault::Malformed);

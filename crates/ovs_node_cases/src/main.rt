@@ -7,7 +7,6 @@
 mod case;
 mod client;
 mod crews;
-mod devices;
 mod doors;
 mod engine;
 mod fault;
@@ -20,15 +19,10 @@ mod links;
 mod many;
 mod node;
 mod outcome;
-mod reader_trials;
 mod readers;
 mod sendings;
 mod sessions;
-mod stand_in;
-mod talks;
 mod tier;
-mod trials;
-mod upstream_trials;
 mod upstreams;
 
 use case::Table;
