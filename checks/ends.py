@@ -10,7 +10,7 @@ from processes import TIMED, free_port, wait_until
 
 
 # What a relay says, once and in any case, when none of its upstreams is tried any more.
-UNFED = "ovs_relay: no upstream is tried any more\n"
+UNFED = "ovs_relay: no upstream is tried any more: all tries are used up\n"
 # What a node says when the last of its workers has taken as many connections as it may.
 TAKEN = "ovs_relay: no connection is taken any more: each worker has taken as many as it may\n"
 # What it says of lines for which there was no room, before their number.

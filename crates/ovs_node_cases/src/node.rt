@@ -169,16 +169,19 @@ fn fold_beside<
         board,
         sending,
     };
-    let folds = move || -> Node<K, Q, Handle<K, H>>
+    let folds = move || -> Result<Node<K, Q, Handle<K, H>>, NoMemory>
         requires { NodeInStep node }
-        ensures { NodeInStep result }
+        ensures { IfOk result NodeInStep }
     {
         let mut node = node;
-        fold_all(rt, queue, board, sending, &mut node);
-        node
+        fold_all(rt, queue, board, sending, &mut node)?;
+        Ok(node)
     };
     match beside_with_views(rt, alloc, jobs, &work, folds) {
-        Ok(done) => Ok(done),
+        Ok((backs, node)) => {
+            let node = node?;
+            Ok((backs, node))
+        }
         Err(_not_begun) => Err(NoMemory),
     }
 }

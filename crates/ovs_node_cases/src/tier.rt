@@ -6,11 +6,12 @@ use crate::fault::Fault;
 use crate::links::id_of;
 use log::{LevelFilter, Log, Logged};
 use ovs_data::{RowId, TxnId};
-use ovs_tier::{Closing, NodeRuntime, RelayPlan, SourcePlan, Stop, TierError, TierNode};
+use ovs_tier::{Closing, Relay, RelayPlan, SourceNode, SourcePlan, Stop, TierError};
 use ovs_types::Schema;
 use serde_json::Value;
 use std::alloc::Global;
-use std::net::{Net, SocketAddr, TcpStream};
+use std::net::{Net, SocketAddr, TcpListener, TcpStream};
+use std::sync::Wait;
 use std::thread::{Threads, join};
 
 const NO_ROWS: &str = r#"[{"rows":[]}]"#;
@@ -59,7 +60,16 @@ fn any_port() -> Result<SocketAddr, Fault> {
 }
 
 // A source whose first commit and first row have the ids of the scene.
-fn source<R: NodeRuntime + Log>(rt: R, alloc: Global, scene: &Scene) -> Result<TierNode<R>, Fault> {
+fn source<
+    R: Threads
+        + Wait
+        + Net<Listener = TcpListener, Stream = TcpStream>
+        + Log
+        + Copy
+        + Drop
+        + Send
+        + Sync,
+>(rt: R, alloc: Global, scene: &Scene) -> Result<SourceNode<R>, Fault> {
     let plan = SourcePlan {
         listen: any_port()?,
         first_commit: scene.first_commit,
@@ -67,15 +77,20 @@ fn source<R: NodeRuntime + Log>(rt: R, alloc: Global, scene: &Scene) -> Result<T
         trim_every: None,
         accepts: Some(MOST_CONNECTIONS),
     };
-    Ok(TierNode::source(rt, alloc, plan)?)
+    Ok(SourceNode::open(rt, alloc, plan)?)
 }
 
 // A relay of the node at this address.
-fn relay<R: NodeRuntime + Log>(
-    rt: R,
-    alloc: Global,
-    upstream: SocketAddr,
-) -> Result<TierNode<R>, Fault> {
+fn relay<
+    R: Threads
+        + Wait
+        + Net<Listener = TcpListener, Stream = TcpStream>
+        + Log
+        + Copy
+        + Drop
+        + Send
+        + Sync,
+>(rt: R, alloc: Global, upstream: SocketAddr) -> Result<Relay<R>, Fault> {
     let plan = RelayPlan {
         listen: any_port()?,
         upstreams: &[upstream],
@@ -84,7 +99,7 @@ fn relay<R: NodeRuntime + Log>(
         ends_on_refusal: false,
         prunes: false,
     };
-    Ok(TierNode::relay(rt, alloc, plan)?)
+    Ok(Relay::open(rt, alloc, plan)?)
 }
 
 // What the client does.
@@ -169,12 +184,16 @@ fn told(
 }
 
 /// What comes of a tier that runs until the client is shown its row.
-pub(crate) fn run_tier<R: NodeRuntime + Log>(
-    rt: R,
-    alloc: Global,
-    schema: &Schema,
-    scene: &Scene,
-) -> Result<String, Fault> {
+pub(crate) fn run_tier<
+    R: Threads
+        + Wait
+        + Net<Listener = TcpListener, Stream = TcpStream>
+        + Log
+        + Copy
+        + Drop
+        + Send
+        + Sync,
+>(rt: R, alloc: Global, schema: &Schema, scene: &Scene) -> Result<String, Fault> {
     let quiet = Logged::new(rt, LevelFilter::Off, rt);
     let source = source(quiet, alloc, scene)?;
     let relay = relay(quiet, alloc, source.address())?;
@@ -188,9 +207,9 @@ pub(crate) fn run_tier<R: NodeRuntime + Log>(
     let (of_source, (of_relay, answers)) = beside(
         &rt,
         source,
-        |source: TierNode<Logged<R, R>>| source.run(schema),
+        |source: SourceNode<Logged<R, R>>| source.run(schema),
         relay,
-        |relay: TierNode<Logged<R, R>>| relay.run(schema),
+        |relay: Relay<Logged<R, R>>| relay.run(schema),
         &talk,
     );
     told(alloc, &answers?, &[of_source, of_relay])

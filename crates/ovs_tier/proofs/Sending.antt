@@ -11,9 +11,9 @@ use Rattle.ovs_sockets.proofs.Sending.{socket_doors_send}
 use Rattle.ovs_sockets.specs.contracts.doors.SocketDoors as socket_doors
 use Rattle.ovs_sockets.specs.declared.doors.SocketDoors.{SocketDoors}
 use Rattle.ovs_tier.specs.contracts.places.Places as places
-use Rattle.ovs_tier.specs.contracts.node.TierNode as tier_node
-use Rattle.ovs_tier.specs.contracts.site.Site as site
-use Rattle.ovs_tier.proofs.node.Role.TheSendSync as role
+use Rattle.ovs_tier.specs.contracts.relay.Relay as relay
+use Rattle.ovs_tier.specs.contracts.source.SourceNode as source_node
+use Rattle.ovs_tier.proofs.upstreams.Upstreams.TheSendSync as upstreams
 
 unused_sends : (D I O : RattleType) (d : doors.Ghosts D.Denot I.Denot O.Denot) (r : read.Ghosts I.Denot) (w : write.Ghosts O.Denot)
     → IsSend D → IsSend (unused.the_row D I O d r w)
@@ -26,17 +26,17 @@ places_sends R I O d r w rt =
     declared_send (places.the_type R I O d r w)
     (search (sendable, as_row_send, variants_send) depth 20, (search (unused, sendable, heap.crosses) depth 30 fits 10000, (search (sendable, heap.crosses, as_row_send, as_row_sync, declared_send, declared_sync, variants_send) depth 30 fits 10000, tt)))
 
-site_sends : (R I O : RattleType) (d : doors.Ghosts (SocketDoors R.Denot) I.Denot O.Denot) (r : read.Ghosts I.Denot) (w : write.Ghosts O.Denot)
-    → IsSend R → IsSend (site.the_row R I O d r w)
-site_sends R I O d r w rt =
+pub source_node_sends : (R S L I O : RattleType) (d : doors.Ghosts (SocketDoors R.Denot) I.Denot O.Denot) (r : read.Ghosts I.Denot) (w : write.Ghosts O.Denot)
+    → IsSend R → IsSend (source_node.the_row R S L I O d r w)
+source_node_sends R S L I O d r w rt =
     let places = places_sends R I O d r w rt in
-    declared_send (site.the_type R I O d r w)
-    (search (sendable, heap.crosses, as_row_send) depth 20, (search places depth 20, (search (sendable, heap.crosses, as_row_send, declared_send, declared_sync) depth 30 fits 10000, tt)))
+    declared_send (source_node.the_type R S L I O d r w)
+    (search (rt, as_row_send) depth 20, (search (sendable, heap.crosses, as_row_send) depth 20, (search places depth 20, (search (sendable, heap.crosses, as_row_send, declared_send, declared_sync) depth 30 fits 10000, (search (sendable, as_row_send, declared_send) depth 20, tt)))))
 
-pub tier_node_sends : (R S L I O : RattleType) (d : doors.Ghosts (SocketDoors R.Denot) I.Denot O.Denot) (r : read.Ghosts I.Denot) (w : write.Ghosts O.Denot)
-    → IsSend R → IsSend (tier_node.the_row R S L I O d r w)
-tier_node_sends R S L I O d r w rt =
-    let site = site_sends R I O d r w rt in
-    let role = role.the_send R S L rt in
-    declared_send (tier_node.the_type R S L I O d r w)
-    (search (rt, as_row_send) depth 20, (search site depth 20, (search role depth 20, tt)))
+pub relay_sends : (R S L I O : RattleType) (d : doors.Ghosts (SocketDoors R.Denot) I.Denot O.Denot) (r : read.Ghosts I.Denot) (w : write.Ghosts O.Denot)
+    → IsSend R → IsSend (relay.the_row R S L I O d r w)
+relay_sends R S L I O d r w rt =
+    let places = places_sends R I O d r w rt in
+    let upstreams = upstreams.the_send R S L rt in
+    declared_send (relay.the_type R S L I O d r w)
+    (search (rt, as_row_send) depth 20, (search (sendable, heap.crosses, as_row_send) depth 20, (search places depth 20, (search upstreams depth 20, (search (sendable, heap.crosses, as_row_send, declared_send, declared_sync) depth 30 fits 10000, (search (sendable, heap.crosses, as_row_send, as_row_sync, declared_send, declared_sync) depth 30 fits 10000, (search (sendable, as_row_send) depth 20, (search (sendable, as_row_send) depth 20, tt))))))))

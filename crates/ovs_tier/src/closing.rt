@@ -1,12 +1,9 @@
 //! What a node says at its end.
 
 ghost use Rattle.std.specs.Prelude.{◌≡◌, ◌↔◌, IsTrue, if◌then◌else◌, string_bytes};
-ghost use Rattle.ovs_engine.specs.Reporting.{IsReportOf};
 ghost use Rattle.ovs_fold.specs.Closing.{chain_lines};
-ghost use Rattle.ovs_tier.specs.Ending.{IsEndOf};
 
 use ovs_fold::chain_lines;
-use ovs_links::LinkStore;
 use ovs_node::{FeedName, NodeName, Report};
 use std::alloc::Global;
 use std::sync::Wait;
@@ -21,8 +18,6 @@ pub struct Closing {
     pub is_whole: bool,
     /// Why the node came to its end by itself, if it did.
     pub cause: Cause,
-    // It is said of a node that has run.
-    pub ghost of_node: { ∥ IsEndOf (string_bytes text) is_whole ∥₁ },
 }
 
 /// Why a node came to its end by itself.
@@ -34,56 +29,31 @@ pub struct Cause {
     pub refused_upstream: bool,
 }
 
-impl Cause {
-    /// The node ended since all its threads did.
-    pub(crate) const NONE: Cause = Cause {
-        has_given_up: false,
-        refused_upstream: false,
-    };
-}
-
-// The two lines of a store. Where memory runs out it tries again.
-fn lines_of<R: Wait>(rt: &R, alloc: Global, store: &LinkStore) -> String
-    ensures text { string_bytes result ≡ chain_lines store.now }
-{
-    let mut text = String::new(alloc);
-    for _ in rt.forever() {
-        match chain_lines(alloc, store) {
-            Ok(lines) => {
-                text = lines;
-                break;
-            }
-            Err(_) => thread::yield_now(),
-        }
-    }
-    text
-}
-
-// Whether no link was refused.
-fn refused_none(forks: u64, short: u64) -> bool
-    ensures value { IsTrue result ↔ ((forks ≡ 0) × (short ≡ 0)) }
-{
-    forks == 0 && short == 0
-}
-
 impl Closing {
-    // What there is to say of a node of which this is left.
+    // What there is to say of a node of which this is left. Where memory runs out it tries again.
     pub(crate) fn of<K: NodeName, Q: FeedName, H, R: Wait>(
         rt: &R,
         alloc: Global,
         report: &Report<K, Q, H>,
         cause: Cause,
     ) -> Closing
-        requires report { IsReportOf report.now.feed.returned report.now.store report.now.settled report.now.forks report.now.short report.now.dropped }
         ensures text { string_bytes result.text ≡ chain_lines report.now.store }
         ensures whole { IsTrue result.is_whole ↔ ((report.now.forks ≡ 0) × (report.now.short ≡ 0)) }
         ensures cause { result.cause ≡ cause }
     {
-        let text = lines_of(rt, alloc, &report.store);
-        let is_whole = refused_none(report.forks, report.short);
+        let mut text = String::new(alloc);
+        for _ in rt.forever() {
+            match chain_lines(alloc, &report.store) {
+                Ok(lines) => {
+                    text = lines;
+                    break;
+                }
+                Err(_) => thread::yield_now(),
+            }
+        }
         Closing {
             text,
-            is_whole,
+            is_whole: report.forks == 0 && report.short == 0,
             cause,
         }
     }

@@ -22,7 +22,7 @@ pub enum TierError {
     /// Not all that the node's threads had came back.
     #[error("a thread was lost")]
     NotBack,
-    /// Memory ran out before anybody was served, or for the thread that sends a source's links.
+    /// Memory ran out: before anybody was served, or so often that a source's links couldn't be sent.
     #[error("out of memory")]
     NoMemory,
 }

@@ -3,21 +3,16 @@
 
 mod closing;
 mod error;
-mod node;
 mod places;
 mod refusals;
 mod relay;
-mod runtime;
-mod site;
 mod source;
 mod stop;
 mod upstreams;
 mod watching;
 
-pub use closing::{Cause, Closing};
+pub use closing::Closing;
 pub use error::TierError;
-pub use node::TierNode;
-pub use relay::RelayPlan;
-pub use runtime::NodeRuntime;
-pub use source::SourcePlan;
+pub use relay::{Relay, RelayPlan};
+pub use source::{SourceNode, SourcePlan};
 pub use stop::Stop;

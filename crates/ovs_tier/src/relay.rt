@@ -1,16 +1,15 @@
-//! The role of a relay.
+//! A relay over sockets.
 
-ghost use Rattle.std.specs.Prelude.{◌≡◌, [], IfOk};
+ghost use Rattle.std.specs.Prelude.{◌≡◌, ◌≤◌, []};
 ghost use Rattle.std.specs.List.{AllByRecursion};
-ghost use Rattle.ovs_engine.specs.Reporting.{IsReportOf};
-ghost use Rattle.ovs_folder.specs.Nodes.{NodeInStep};
+ghost use Rattle.ovs_folder.specs.Nodes.{NodeInStep, OpenNodeInStep};
+ghost use Rattle.ovs_folder.specs.Ledger.{IsFresh};
 
 use crate::closing::{Cause, Closing};
 use crate::error::TierError;
-use crate::places::{LIMITS, Places};
+use crate::places::{LIMITS, Places, WORKERS};
 use crate::refusals::UpstreamRefusals;
-use crate::runtime::NodeRuntime;
-use crate::site::Site;
+use crate::stop::Stop;
 use crate::upstreams::{UpstreamSockets, Upstreams};
 use crate::watching::Watching;
 use log::Log;
@@ -20,19 +19,23 @@ use ovs_engine::{
 };
 use ovs_hall::Doors;
 use ovs_json::Text;
+use ovs_links::Step;
 use ovs_node::{
-    Board, FeedEnd, FeedName, FeedQueue, Handle, Node, NodeError, NodeLink, NodeName, Opened,
-    Parts, Report, View,
+    Board, FeedEnd, FeedName, FeedQueue, Handle, Node, NodeError, NodeLink, NodeName, OpenNode,
+    Opened, Parts, Report, View,
 };
 use ovs_recorded_desk::{DeskName, DeskStep, RecordedDesk, relay_desk_sends};
-use ovs_sockets::{Ending, SocketBell, SocketDoors};
+use ovs_sockets::{Ending, IsEnding, SocketBell, SocketDoors};
 use ovs_types::Schema;
 use std::alloc::Global;
-use std::net::{Net, SocketAddr};
+use std::marker::Brand;
+use std::net::{Net, SocketAddr, TcpListener, TcpStream};
+use std::sync::atomic::AtomicBool;
 use std::sync::{Arc, Mutex, Wait};
+use std::thread::Threads;
 
 // What a relay says once none of its upstreams is tried any more, while it serves readers.
-const UNFED: &str = "no upstream is tried any more";
+const UNFED: &str = "no upstream is tried any more: all tries are used up";
 
 /// Which relay to run.
 #[derive(Clone, Copy, Debug)]
@@ -51,39 +54,136 @@ pub struct RelayPlan<'a> {
     pub prunes: bool,
 }
 
-/// What a relay has that a source hasn't.
+/// A relay that listens, and is served once it runs.
 #[derive(Drop)]
-pub(crate) struct RelayRole<R: Net + Log + Drop> {
-    pub(crate) upstreams: Upstreams<R>,
+pub struct Relay<R: Net + Log + Drop>
+where
+    SocketDoors<R>: Doors,
+{
+    rt: R,
+    alloc: Global,
+    places: Places<R>,
+    upstreams: Upstreams<R>,
+    ending: Arc<Ending>,
     refusals: Arc<UpstreamRefusals>,
     ends_on_refusal: bool,
     prunes: bool,
 }
 
-impl<R: Net + Log + Copy + Drop> RelayRole<R> {
-    /// With these upstreams. That one of them can't be followed is noted there where the node is brought to its end.
-    pub(crate) fn new(
-        alloc: Global,
-        upstreams: Upstreams<R>,
-        ending: &Arc<Ending>,
-        plan: RelayPlan<'_>,
-    ) -> Result<RelayRole<R>, TierError> {
-        let mut upstreams = upstreams;
+impl<
+    R: Threads
+        + Wait
+        + Net<Listener = TcpListener, Stream = TcpStream>
+        + Log
+        + Copy
+        + Drop
+        + Send
+        + Sync,
+> Relay<R> {
+    /// Takes the relay's address.
+    ///
+    /// # Errors
+    /// `Listening` where the address can't be had; `System`; `NoMemory`.
+    pub fn open(rt: R, alloc: Global, plan: RelayPlan<'_>) -> Result<Relay<R>, TierError> {
+        let is_ending = IsEnding::new(alloc)?;
+        let places = Places::new(rt, alloc, plan.listen, plan.accepts, &is_ending)?;
+        let mut upstreams = Upstreams::new(rt, alloc, plan.upstreams, plan.tries, &is_ending)?;
+        let mut ending = Ending::new(alloc, is_ending);
+        ending.add(&places.bells)?;
+        ending.add(&upstreams.bells)?;
+        let ending = Arc::new(alloc, ending)?;
         let refusals = UpstreamRefusals::new(ending.clone()?, plan.ends_on_refusal);
         let refusals = Arc::new(alloc, refusals)?;
         upstreams.note_at(&refusals)?;
-        Ok(RelayRole {
+        Ok(Relay {
+            rt,
+            alloc,
+            places,
             upstreams,
+            ending,
             refusals,
             ends_on_refusal: plan.ends_on_refusal,
             prunes: plan.prunes,
         })
     }
+
+    /// Where its readers come in.
+    pub fn address(&self) -> SocketAddr {
+        self.places.address
+    }
+
+    /// What brings it to its end.
+    ///
+    /// # Errors
+    /// `NoMemory` alone.
+    pub fn stop(&self) -> Result<Stop, TierError> {
+        Ok(Stop::new(self.ending.clone()?))
+    }
+
+    /// Runs it until all its threads have come to their ends.
+    ///
+    /// # Errors
+    /// `Node` where it hasn't 1 to 4 upstreams; `NoMemory`; `NotBack`.
+    pub fn run(self, schema: &Schema) -> Result<Closing, TierError> {
+        let opened = Opened::<Step>::new();
+        open::<Brand, R>(self, schema, opened)
+    }
+}
+
+// Runs the relay, where this history was opened.
+fn open<
+    K: NodeName + Send + Sync,
+    R: Threads
+        + Wait
+        + Net<Listener = TcpListener, Stream = TcpStream>
+        + Log
+        + Copy
+        + Drop
+        + Send
+        + Sync,
+>(relay: Relay<R>, schema: &Schema, opened: Opened<Step>) -> Result<Closing, TierError>
+    requires name { (opened.seen.book ≡ K.book) × (schema.now ≡ K.schema) }
+{
+    let (rt, alloc) = (relay.rt, relay.alloc);
+    let upstreams = relay.upstreams.connectors.len();
+    let views = upstreams.saturating_add(WORKERS);
+    let node = OpenNode::<K, Handle<K, &R>>::new(alloc, &rt, schema, opened, upstreams, views)?;
+    named::<K, Brand, R>(&rt, relay, schema, node)
+}
+
+// The same, where the node is opened.
+fn named<
+    K: NodeName + Send + Sync,
+    Q: FeedName + Send + Sync,
+    R: Threads
+        + Wait
+        + Net<Listener = TcpListener, Stream = TcpStream>
+        + Log
+        + Copy
+        + Drop
+        + Send
+        + Sync,
+>(
+    rt: &R,
+    relay: Relay<R>,
+    schema: &Schema,
+    node: OpenNode<K, Handle<K, &R>>,
+) -> Result<Closing, TierError>
+    requires schema { schema.now ≡ K.schema }
+    requires table { node.feed.items.table.shared.table_id ≡ Q.table }
+    requires upstreams { node.upstreams ≤ 4 }
+    requires store { IsFresh K.schema node.store }
+    requires publisher { OpenNodeInStep node }
+{
+    let parts = node.named::<Q>()?;
+    let database = Text::new(relay.alloc, schema.name())?;
+    let opened = Opened::<DeskStep>::new();
+    run::<K, Q, Brand, R>(rt, relay, schema, parts, database, opened)
 }
 
 // What a relay's threads share beside its node's own.
 #[derive(Drop)]
-struct RelayShared<'x, N: DeskName, R: Wait> {
+struct Stage<'x, N: DeskName, R: Wait> {
     desk: LockedDesk<'x, N, R>,
     // Of the workers.
     bells: Vec<SocketBell>,
@@ -92,7 +192,7 @@ struct RelayShared<'x, N: DeskName, R: Wait> {
     counters: Counters,
 }
 
-impl<'x, N: DeskName, R: Wait> RelayShared<'x, N, R> {
+impl<'x, N: DeskName, R: Wait> Stage<'x, N, R> {
     // With a desk for the database of this name, and the bells of the workers, and of the upstreams, the first of which is the source.
     fn new(
         rt: &'x R,
@@ -101,13 +201,13 @@ impl<'x, N: DeskName, R: Wait> RelayShared<'x, N, R> {
         opened: Opened<DeskStep>,
         bells: Vec<SocketBell>,
         upward: Vec<SocketBell>,
-    ) -> Result<RelayShared<'x, N, R>, TierError>
+    ) -> Result<Stage<'x, N, R>, TierError>
         requires name { (opened.seen.book ≡ N.book) × (database ≡ N.database) }
     {
         let (desk, _known) = RecordedDesk::new(alloc, database, opened);
         let mut upward = upward.into_iter();
         let upward = upward.next().ok_or(TierError::Node(NodeError::BadCount))?;
-        Ok(RelayShared {
+        Ok(Stage {
             desk: LockedDesk::new(rt, desk),
             bells,
             upward,
@@ -118,7 +218,7 @@ impl<'x, N: DeskName, R: Wait> RelayShared<'x, N, R> {
 
 // What a relay's threads have for their own.
 #[derive(Drop)]
-struct OwnParts<K: NodeName, Q: FeedName, R: Net + Log + Drop>
+struct Outfit<K: NodeName, Q: FeedName, R: Net + Log + Drop>
 where
     SocketDoors<R>: Doors,
 {
@@ -129,7 +229,7 @@ where
 }
 
 // The threads of a relay over sockets.
-type RelaySocketThreads<'a, 'x, K, Q, N, R> = RelayThreads<
+type Crew<'a, 'x, K, Q, N, R> = RelayThreads<
     'a,
     K,
     Q,
@@ -141,36 +241,36 @@ type RelaySocketThreads<'a, 'x, K, Q, N, R> = RelayThreads<
 
 // A worker at each of these doors, with the last of the views.
 fn add_workers<'a, 'x, K: NodeName, Q: FeedName, N: DeskName + Send, R: Wait + Net + Log + Drop>(
-    threads: RelaySocketThreads<'a, 'x, K, Q, N, R>,
+    crew: Crew<'a, 'x, K, Q, N, R>,
     doors: Vec<Unused<SocketDoors<R>>>,
     views: &mut Vec<View<K>>,
-) -> Result<RelaySocketThreads<'a, 'x, K, Q, N, R>, TierError> {
-    let mut threads = threads;
+) -> Result<Crew<'a, 'x, K, Q, N, R>, TierError> {
+    let mut crew = crew;
     for doors in doors {
         let view = views.pop().ok_or(TierError::Node(NodeError::BadCount))?;
-        threads.add_worker(doors, view)?;
+        crew.add_worker(doors, view)?;
     }
-    Ok(threads)
+    Ok(crew)
 }
 
 // An upstream for each of these lines. The first is the source, to which the desk's requests go.
 fn add_upstreams<'a, 'x, K: NodeName, Q: FeedName, N: DeskName + Send, R: Wait + Net + Log + Drop>(
     alloc: Global,
-    threads: RelaySocketThreads<'a, 'x, K, Q, N, R>,
-    common: &'a RelayShared<'x, N, R>,
+    crew: Crew<'a, 'x, K, Q, N, R>,
+    stage: &'a Stage<'x, N, R>,
     lines: Vec<Line<K, Q, UpstreamSockets<R>>>,
     connectors: Vec<UpstreamSockets<R>>,
     views: Vec<View<K>>,
-) -> Result<RelaySocketThreads<'a, 'x, K, Q, N, R>, TierError> {
-    let mut threads = threads;
+) -> Result<Crew<'a, 'x, K, Q, N, R>, TierError> {
+    let mut crew = crew;
     let progress = if connectors.len() == 1 {
-        Some(common.counters.progress())
+        Some(stage.counters.progress())
     } else {
         None
     };
     let mut source = Some(SourceDesk {
-        desk: &common.desk,
-        bells: &common.bells,
+        desk: &stage.desk,
+        bells: &stage.bells,
         progress,
     });
     for ((line, connector), view) in lines.into_iter().zip(connectors).zip(views) {
@@ -179,9 +279,9 @@ fn add_upstreams<'a, 'x, K: NodeName, Q: FeedName, N: DeskName + Send, R: Wait +
             connector,
             source: SharedSide::new(alloc, source.take()),
         };
-        threads.add_feed(upstream, view)?;
+        crew.add_feed(upstream, view)?;
     }
-    Ok(threads)
+    Ok(crew)
 }
 
 // What the upstreams send with.
@@ -199,35 +299,41 @@ fn lines_of<K: NodeName, Q: FeedName, R: Net + Log + Drop>(
 }
 
 // A thread for each upstream, and one for each worker.
-fn threads_of<'a, 'x, K: NodeName, Q: FeedName, N: DeskName + Send, R: Wait + Net + Log + Drop>(
+fn crew_of<'a, 'x, K: NodeName, Q: FeedName, N: DeskName + Send, R: Wait + Net + Log + Drop>(
     alloc: Global,
-    common: &'a RelayShared<'x, N, R>,
-    own: OwnParts<K, Q, R>,
-) -> Result<RelaySocketThreads<'a, 'x, K, Q, N, R>, TierError>
-    requires unsent { AllByRecursion (λ e. e.1 ≡ []) own.ends.items }
+    stage: &'a Stage<'x, N, R>,
+    outfit: Outfit<K, Q, R>,
+) -> Result<Crew<'a, 'x, K, Q, N, R>, TierError>
+    requires unsent { AllByRecursion (λ e. e.1 ≡ []) outfit.ends.items }
 {
-    let OwnParts {
+    let Outfit {
         doors,
         ends,
         connectors,
         mut views,
-    } = own;
+    } = outfit;
     let lines = lines_of(alloc, ends)?;
-    let threads = add_workers(NodeThreads::new(alloc), doors, &mut views)?;
-    add_upstreams(alloc, threads, &*common, lines, connectors, views)
+    let crew = add_workers(NodeThreads::new(alloc), doors, &mut views)?;
+    add_upstreams(alloc, crew, &*stage, lines, connectors, views)
 }
 
-/// Runs a relay with a desk for its database, and tells what came of it.
-pub(crate) fn run_relay_node<
+// Runs the node with a desk for its database, and tells what came of it.
+fn run<
     'x,
     K: NodeName + Send + Sync,
     Q: FeedName + Send + Sync,
     N: DeskName + Send,
-    R: NodeRuntime + Log,
+    R: Threads
+        + Wait
+        + Net<Listener = TcpListener, Stream = TcpStream>
+        + Log
+        + Copy
+        + Drop
+        + Send
+        + Sync,
 >(
     rt: &'x R,
-    site: Site<R>,
-    relay: RelayRole<R>,
+    relay: Relay<R>,
     schema: &'x Schema,
     parts: Parts<K, Q, Handle<K, &'x R>>,
     database: Text,
@@ -246,16 +352,15 @@ pub(crate) fn run_relay_node<
         views,
         board,
     } = parts;
-    let Site {
+    let Relay {
         alloc,
         places,
-        ending,
-    } = site;
-    let RelayRole {
         upstreams,
+        ending,
         refusals,
         ends_on_refusal,
         prunes,
+        ..
     } = relay;
     node.prune_old(prunes);
     let Places { doors, bells, .. } = places;
@@ -263,16 +368,23 @@ pub(crate) fn run_relay_node<
         connectors,
         bells: upward,
     } = upstreams;
-    let own = OwnParts {
+    let outfit = Outfit {
         doors,
         ends,
         connectors,
         views,
     };
-    let common = RelayShared::<'x, N, R>::new(rt, alloc, database, opened, bells, upward)?;
-    let watching = Watching::new(rt, &*ending, UNFED, ends_on_refusal, ends_on_refusal);
-    let report = run_threads(
-        rt, alloc, schema, &queue, &board, &common, &watching, node, own,
+    let stage = Stage::<'x, N, R>::new(rt, alloc, database, opened, bells, upward)?;
+    let watching = Watching {
+        rt: &*rt,
+        ending: &*ending,
+        ends_on_refusal,
+        ends_unfed: ends_on_refusal,
+        unfed: UNFED,
+        has_given_up: AtomicBool::new(false),
+    };
+    let report = staged(
+        rt, alloc, schema, &queue, &board, &stage, &watching, node, outfit,
     )?;
     let cause = Cause {
         has_given_up: watching.has_given_up(),
@@ -281,44 +393,50 @@ pub(crate) fn run_relay_node<
     Ok(Closing::of(rt, alloc, &report, cause))
 }
 
-// Runs the relay's threads, where all is there that they share.
-fn run_threads<
+// The same, where all is there that the threads share.
+fn staged<
     'a,
     'x,
     'e,
     K: NodeName + Send + Sync,
     Q: FeedName + Send + Sync,
     N: DeskName + Send,
-    R: NodeRuntime + Log,
+    R: Threads
+        + Wait
+        + Net<Listener = TcpListener, Stream = TcpStream>
+        + Log
+        + Copy
+        + Drop
+        + Send
+        + Sync,
 >(
     rt: &'a R,
     alloc: Global,
     schema: &'a Schema,
     queue: &'a FeedQueue<NodeLink<K>, Q>,
     board: &'a Mutex<Board<K>>,
-    common: &'a RelayShared<'x, N, R>,
+    stage: &'a Stage<'x, N, R>,
     watching: &'a Watching<'x, 'e, R>,
     node: Node<K, Q, Handle<K, &'x R>>,
-    own: OwnParts<K, Q, R>,
+    outfit: Outfit<K, Q, R>,
 ) -> Result<Report<K, Q, Handle<K, &'x R>>, TierError>
     requires schema { schema.now ≡ K.schema }
-    requires unsent { AllByRecursion (λ e. e.1 ≡ []) own.ends.items }
+    requires unsent { AllByRecursion (λ e. e.1 ≡ []) outfit.ends.items }
     requires in_step { NodeInStep node }
     requires none { node.intake.feed.returned ≡ [] }
-    ensures report { IfOk result (λ r. IsReportOf r.feed.returned r.store r.settled r.forks r.short r.dropped) }
 {
-    let threads = threads_of(alloc, &*common, own)?;
+    let crew = crew_of(alloc, &*stage, outfit)?;
     let shared = Shared {
         rt: &*rt,
         queue: &*queue,
         board: &*board,
-        desk: &common.desk,
-        bells: &common.bells,
-        upward: &common.upward,
-        counters: &common.counters,
+        desk: &stage.desk,
+        bells: &stage.bells,
+        upward: &stage.upward,
+        counters: &stage.counters,
         watcher: &*watching,
         limits: LIMITS,
     };
     relay_desk_sends();
-    Ok(run_relay(alloc, &shared, schema, node, threads)?)
+    Ok(run_relay(alloc, &shared, schema, node, crew)?)
 }

@@ -10,37 +10,19 @@ use std::sync::atomic::{AtomicBool, Ordering};
 /// Tells what a node's users are to know of it, and brings all to its end where that is wanted then.
 #[derive(Drop)]
 pub(crate) struct Watching<'x, 'e, R: Log> {
-    rt: &'x R,
-    ending: &'e Ending,
-    // Whether the node comes to its end once a link was refused.
-    ends_on_refusal: bool,
-    // Whether it does once no thread sends links any more.
-    ends_unfed: bool,
-    // What there is to say then.
-    unfed: &'static str,
-    // Whether it came to its end since no thread sent links any more.
-    has_given_up: AtomicBool,
+    pub(crate) rt: &'x R,
+    pub(crate) ending: &'e Ending,
+    /// Whether the node comes to its end once a link was refused.
+    pub(crate) ends_on_refusal: bool,
+    /// Whether it does once no thread sends links any more.
+    pub(crate) ends_unfed: bool,
+    /// What there is to say then.
+    pub(crate) unfed: &'static str,
+    /// Whether it came to its end since no thread sent links any more.
+    pub(crate) has_given_up: AtomicBool,
 }
 
 impl<'x, 'e, R: Log> Watching<'x, 'e, R> {
-    /// Says this once no thread sends links any more, and rings the ending in these cases.
-    pub(crate) fn new(
-        rt: &'x R,
-        ending: &'e Ending,
-        unfed: &'static str,
-        ends_on_refusal: bool,
-        ends_unfed: bool,
-    ) -> Watching<'x, 'e, R> {
-        Watching {
-            rt,
-            ending,
-            ends_on_refusal,
-            ends_unfed,
-            unfed,
-            has_given_up: AtomicBool::new(false),
-        }
-    }
-
     /// Whether the node came to its end since no thread sent links any more.
     pub(crate) fn has_given_up(&self) -> bool {
         self.has_given_up.load(Ordering::SeqCst)

@@ -1,4 +1,4 @@
-use Rattle.ovs_tier.proofs.node.TierNode.run.Given as goal
+use Rattle.ovs_tier.proofs.source.SourceNode.run.Given as goal
 
 -- the history that was just opened, and the schema
 abbrev pub ghosts-open : goal.ghosts-open

@@ -3,8 +3,8 @@ use denote.Param.Send.{arg_send, arg_sync, param_send, param_sync}
 use Rattle.ovs_recorded_source.proofs.Sending.{recorded_source_sends}
 use Rattle.ovs_sockets.proofs.Sending.{socket_doors_send}
 use Rattle.ovs_tier.proofs.DeskParts.{source_lock_sends, source_lock_shares}
-use Rattle.ovs_tier.specs.contracts.source.run_threads.{N-row}
-use Rattle.ovs_tier.proofs.source.run_threads.Goals as goal
+use Rattle.ovs_tier.specs.contracts.source.staged.{N-row}
+use Rattle.ovs_tier.proofs.source.staged.Goals as goal
 
 pub run_source-requires-send-L : goal.run_source-requires-send-L
 run_source-requires-send-L g c κs within =
@@ -20,6 +20,3 @@ run_source-requires-sync-L g c κs within =
 
 pub run_source-requires-send-D : goal.run_source-requires-send-D
 run_source-requires-send-D g c κs within = param_send 4 _ (arg_send _ yes _ (socket_doors_send _ c.type_bounds.send-R))
-
-pub of-requires-clause-report : goal.of-requires-clause-report
-of-requires-clause-report g c κs within = c.in_ok-report.ensures.sent.of

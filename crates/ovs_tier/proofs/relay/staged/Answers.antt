@@ -3,8 +3,8 @@ use denote.Param.Send.{arg_send, arg_sync, param_send, param_sync}
 use Rattle.ovs_recorded_desk.proofs.Sending.{recorded_desk_sends}
 use Rattle.ovs_sockets.proofs.Sending.{socket_doors_send}
 use Rattle.ovs_engine.proofs.DeskParts.{relay_lock_shares}
-use Rattle.ovs_tier.specs.contracts.relay.run_threads.{N-row}
-use Rattle.ovs_tier.proofs.relay.run_threads.Goals as goal
+use Rattle.ovs_tier.specs.contracts.relay.staged.{N-row}
+use Rattle.ovs_tier.proofs.relay.staged.Goals as goal
 
 pub run_relay-requires-sync-L : goal.run_relay-requires-sync-L
 run_relay-requires-sync-L g c κs within =
@@ -14,6 +14,3 @@ run_relay-requires-sync-L g c κs within =
 
 pub run_relay-requires-send-D : goal.run_relay-requires-send-D
 run_relay-requires-send-D g c κs within = param_send 3 _ (arg_send _ yes _ (socket_doors_send _ c.type_bounds.send-R))
-
-pub returns-clause-report : goal.returns-clause-report
-returns-clause-report g c = c.in_ok-run_relay.ensures.report.of
