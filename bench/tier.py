@@ -44,7 +44,7 @@ class Tier:
 
     def __init__(self, program):
         self.program = program
-        self.folder = tempfile.mkdtemp(prefix="ovs_tier.")
+        self.folder = tempfile.mkdtemp(prefix="ovs_server.")
         self.schema = os.path.join(self.folder, SCHEMA)
         self.children = []
         with open(self.schema, "w", encoding="utf-8") as file:

@@ -6,13 +6,19 @@ from datetime import datetime, timedelta, timezone
 from client import Closed
 from data import FIRST_ID, NET, ZEROS, insert, nth, select
 from harness import END_SECONDS, WORKERS, Node, check, equal, holds
+from memory import Memory
 from processes import TIMED, free_port, wait_until
 
 
 # What a relay says, once and in any case, when none of its upstreams is tried any more.
-UNFED = "ovs_relay: no upstream is tried any more: all tries are used up\n"
+UNFED = "ovs_relay: no upstream is tried any more\n"
 # What a node says when the last of its workers has taken as many connections as it may.
 TAKEN = "ovs_relay: no connection is taken any more: each worker has taken as many as it may\n"
+# What it says where some of its threads were refused, before their number.
+UNSTARTED = "ovs_relay: threads that could not be started: "
+# The threads of a node in the order in which they are begun: the one that writes what the node says; of a source the one that publishes
+# commits, and then its workers; of a relay its workers, and then one for each upstream.
+PUBLISHING, FIRST_UPSTREAM = 2, WORKERS + 2
 # What it says of lines for which there was no room, before their number.
 DROPPED = "lines dropped, since nobody read or there was no memory:"
 # So many that a node has more to say of them than a pipe holds, and than a node keeps.
@@ -161,6 +167,43 @@ def lines_bear_the_time(lab):
     times = [datetime.fromisoformat(TIMED.match(line)[2][:-1] + "+00:00") for line in lines]
     holds(times == sorted(times), f"the times don't ascend: {lines[:5]!r}")
     holds(begun - timedelta(milliseconds=1) <= times[0] and times[-1] <= datetime.now(timezone.utc), f"another time than now: {lines[:5]!r}")
+
+
+@check(240)
+def workers_that_are_refused(lab):
+    """A node of which all workers but one are refused a thread says how many there are not, and the one serves all."""
+    refused = Memory(lab)
+    refused.refuse_threads(PUBLISHING + 2, PUBLISHING + WORKERS)
+    source = lab.source(environment=refused.environment)
+    sessions = [lab.keep(source.session()) for _ in range(2 * WORKERS)]
+    for number, session in enumerate(sessions):
+        equal(session.ask("echo", number), [number], f"an echo in session {number}")
+    sessions[0].transact("net", insert(name="p"))
+    equal([row["name"] for row in sessions[1].transact("net", select())[0]["rows"]], ["p"], "the row that was inserted")
+    wait_until(lambda: source.child.complaints() == f"{UNSTARTED}{WORKERS - 1}\n", 15, "the source says how many workers there are not")
+
+
+@check(240)
+def an_upstream_that_is_refused(lab):
+    """A relay whose only upstream is refused a thread says so, and that none is tried any more, and serves what it has."""
+    source, refused = lab.source(), Memory(lab)
+    refused.refuse_threads(FIRST_UPSTREAM)
+    relay = lab.relay([source], environment=refused.environment)
+    with relay.session() as session:
+        equal(session.transact("net", select()), [{"rows": []}], "the relay's rows")
+        wait_until(lambda: sorted(relay.child.complaints().splitlines(True)) == [UNFED, f"{UNSTARTED}1\n"], 15, "the relay says both")
+
+
+@check(240)
+def a_source_that_cannot_publish(lab):
+    """A source whose publishing is refused a thread says so and ends, with status 3."""
+    refused = Memory(lab)
+    refused.refuse_threads(PUBLISHING)
+    port = free_port()
+    source = Node(lab, lab.source_words(port), "source", port, refused.environment)
+    equal((source.child.wait(END_SECONDS), source.child.output()), (3, ""), "the source's status and output")
+    told = ["ovs_relay: out of memory\n", "ovs_relay: there is no thread to publish commits\n", f"{UNSTARTED}1\n"]
+    equal(sorted(source.child.complaints().splitlines(True)), told, "the lines of the source's standard error")
 
 
 class Unread:

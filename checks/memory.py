@@ -1,4 +1,4 @@
-"""Memory that is refused and devices that fail: what a check preloads into a program (refusing.c), and governs while it runs."""
+"""Memory and threads that are refused, and devices that fail: what a check preloads into a program (refusing.c), and governs while it runs."""
 import ctypes
 import mmap
 import os
@@ -18,7 +18,8 @@ class Rules(ctypes.Structure):
 
     _memory = ("first", "last", "most", "calls", "refused", "largest", "mallocs", "callocs", "reallocs", "aligned")
     _devices = ("kinds", "failing_first", "failing_last", "error", "file", "passed", "failed")
-    _fields_ = [(name, ctypes.c_uint64) for name in _memory + _devices]
+    _threads = ("thread_first", "thread_last", "threads")
+    _fields_ = [(name, ctypes.c_uint64) for name in _memory + _devices + _threads]
 
 
 class Memory:
@@ -59,9 +60,13 @@ class Memory:
     def fail_none(self):
         self.rules.kinds = 0
 
+    def refuse_threads(self, first, last=None):
+        """Refuses to begin the thread of this number, or those from this one to the last, counted from 1 over the program's life."""
+        self.rules.thread_first, self.rules.thread_last = first, first if last is None else last
+
     def forget(self):
         """Counts from here on: the next call is the first."""
-        for name in ("calls", "refused", "largest", "mallocs", "callocs", "reallocs", "aligned", "passed", "failed"):
+        for name in ("calls", "refused", "largest", "mallocs", "callocs", "reallocs", "aligned", "passed", "failed", "threads"):
             setattr(self.rules, name, 0)
 
     def told(self):

@@ -75,7 +75,7 @@ def two_answers(lab, is_relay):
 
 
 def waiting(node, memory, number):
-    """So many sessions that ask for an answer for which there is no memory, each seated at the node."""
+    """So many sessions that ask for an answer for which there is no memory, each in a slot of a worker."""
     before = node.child.open_files()
     sessions = [node.session() for _ in range(number)]
     for session in sessions:

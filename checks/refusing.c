@@ -1,15 +1,19 @@
-/* Stands between a program and its allocator and devices: counts the calls that ask for memory, and refuses some of them; and counts the
-   reads and writes of the kinds that are named, and has some of them fail, or pass one byte alone.
+/* Stands between a program and its allocator, its devices and its threads: counts the calls that ask for memory, and refuses some of them;
+   counts the reads and writes of the kinds that are named, and has some of them fail, or pass one byte alone; and counts the threads that
+   are begun, and refuses some of them.
 
    It is preloaded (LD_PRELOAD); memory.py builds it and says what is refused. OVS_REFUSALS names a file of at least the size of a struct
    rules, which this program maps and the check maps too: so what the check writes there holds from the next call on, and what it reads
    there is how far the program is. Without that file nothing is counted or refused.
 
    Calls are numbered from 1, over all threads, in the order in which they come. A refused call gives what malloc(3) says of want of memory:
-   null and ENOMEM, and what was to grow is left as it was. Giving memory back isn't a call for it. A read or write that fails does nothing. */
+   null and ENOMEM, and what was to grow is left as it was. Giving memory back isn't a call for it. A read or write that fails does nothing,
+   and a thread that is refused isn't begun (EAGAIN). */
 #define _GNU_SOURCE
+#include <dlfcn.h>
 #include <errno.h>
 #include <fcntl.h>
+#include <pthread.h>
 #include <stdatomic.h>
 #include <stdbool.h>
 #include <stdint.h>
@@ -33,6 +37,8 @@ struct rules {
     _Atomic uint64_t kinds, failing_first, failing_last, error, file;
     /* What was seen: calls of those kinds, and those that failed or passed one byte. */
     _Atomic uint64_t passed, failed;
+    /* The threads from the first to the last of these numbers are refused; how many were asked for. */
+    _Atomic uint64_t thread_first, thread_last, threads;
 };
 
 enum device { READ = 1, WRITE = 2, RECEIVE = 4, SEND = 8 };
@@ -194,4 +200,15 @@ ssize_t recv(int socket, void *to, size_t count, int flags)
 ssize_t send(int socket, const void *from, size_t count, int flags)
 {
     return goes_on(SEND, socket, &count) ? syscall(SYS_sendto, socket, from, count, flags, NULL, 0) : -1;
+}
+
+int pthread_create(pthread_t *thread, const pthread_attr_t *attributes, void *(*run)(void *), void *given)
+{
+    int (*create)(pthread_t *, const pthread_attr_t *, void *(*)(void *), void *) = dlsym(RTLD_NEXT, "pthread_create");
+    if (rules != NULL) {
+        uint64_t number = atomic_fetch_add(&rules->threads, 1) + 1;
+        if (number >= atomic_load(&rules->thread_first) && number <= atomic_load(&rules->thread_last))
+            return EAGAIN;
+    }
+    return create(thread, attributes, run, given);
 }

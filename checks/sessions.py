@@ -25,16 +25,17 @@ def replies(session, numbers):
     return [session.replies[number]["result"] for number in numbers]
 
 
-@check(120)
+@check(240)
 def answers_before_a_message_that_says_nothing(lab):
-    """What was carried out before is answered, also where the next message says nothing, or bytes begin none; then the session ends."""
-    source = lab.source()
-    for number, rest in enumerate([b'{"foo":1}', b"[", b'{"id":3,"method":7,"params":[]}']):
-        session = source.session()
-        session.send_bytes(said(request(1, "echo", "x"), request(2, "transact", "net", insert(name=f"p{number}"))) + rest)
-        echoed, made = replies(session, [1, 2])
-        equal(echoed, ["x"], "the echo")
-        equal(made[0]["uuid"][0], "uuid", "the insert")
+    """What was asked before is answered, by a relay's source too, also where the next message says nothing, or bytes begin none; then the session
+    ends."""
+    for place, node in enumerate(lab.tier()):
+        for number, rest in enumerate([b'{"foo":1}', b"[", b'{"id":3,"method":7,"params":[]}']):
+            session = node.session()
+            session.send_bytes(said(request(1, "echo", "x"), request(2, "transact", "net", insert(name=f"p{place}{number}"))) + rest)
+            echoed, made = replies(session, [1, 2])
+            equal(echoed, ["x"], "the echo")
+            equal(made[0]["uuid"][0], "uuid", "the insert")
 
 
 @check(240)

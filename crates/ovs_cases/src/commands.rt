@@ -2,7 +2,7 @@
 
 use crate::case::{part, text, word};
 use crate::fault::Fault;
-use ovs_command::{Complaint, RelayOptions, SourceOptions, Task, command, complaint_of};
+use ovs_command_line::{Complaint, RelayOptions, SourceOptions, Task, command, complaint_of};
 use ovs_script::RunEnd;
 use serde_json::Value;
 use std::alloc::Global;

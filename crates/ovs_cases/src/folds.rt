@@ -4,7 +4,7 @@
 use crate::case::list;
 use crate::fault::Fault;
 use crate::streams::add_bytes_of;
-use ovs_fold::fold_run;
+use ovs_fold_script::fold_run;
 use ovs_script::RunEnd;
 use ovs_types::Schema;
 use ovs_wire::Counted;

@@ -3,9 +3,9 @@
 use crate::case::list;
 use crate::fault::Fault;
 use crate::folds::{add_lines, bytes_of_pieces, schema_line, told};
-use ovs_story::world_run;
 use ovs_types::Schema;
 use ovs_wire::Counted;
+use ovs_world_script::world_run;
 use serde_json::Value;
 use std::alloc::Global;
 

@@ -44,7 +44,7 @@ impl<T: Drop, K: FeedName> FeedEnd<T, K> {
         ensures sent { self.new ≡ (self.old.0, self.old.1 ++ value ∷ []) }
     {
         push(rt, queue, &mut self.pass, self.number, value);
-        queue.ring();
+        queue.wake();
     }
 }
 

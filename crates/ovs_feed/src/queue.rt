@@ -54,7 +54,7 @@ impl<T: Drop> OpenFeed<T> {
         (
             FeedQueue {
                 items,
-                bell: Parker::new(),
+                waker: Parker::new(),
                 of: PhantomData,
             },
             Feed {
@@ -71,7 +71,7 @@ impl<T: Drop> OpenFeed<T> {
 #[derive(Drop)]
 pub struct FeedQueue<T: Drop, K: FeedName> {
     pub(crate) items: RuledArrayQueue<Item<T>, Side<T>, InOrder>,
-    bell: Parker,
+    waker: Parker,
     of: PhantomData<K>,
 }
 
@@ -87,14 +87,14 @@ impl<T: Drop, K: FeedName> Model for FeedQueue<T, K> {
 }
 
 impl<T: Drop, K: FeedName> FeedQueue<T, K> {
-    /// Rings the bell. Each `send` rings it, and so does a thread whose end sends no more.
-    pub fn ring(&self) {
-        self.bell.unpark();
+    /// Wakes the folder. Each `send` does, and so does a thread whose end sends no more.
+    pub fn wake(&self) {
+        self.waker.unpark();
     }
 
-    /// Sleeps until the bell was rung since the last call came back, or, if this is the first, at all. Only the folder is to call
+    /// Sleeps until it was woken since the last call came back, or, if this is the first, at all. Only the folder is to call
     /// it, where the queue was empty.
     pub fn wait<R: Wait>(&self, rt: &R) {
-        self.bell.park(rt);
+        self.waker.park(rt);
     }
 }

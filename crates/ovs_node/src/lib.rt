@@ -1,11 +1,21 @@
-//! A node in threads: what its parts are, in one place.
+//! A node: what takes the links of its feed into a store, folds the longest chain and publishes it, with the parts that a program names.
 #![tactic(auto)]
 
+mod intake;
+mod node;
+mod node_link;
+mod open_node;
+mod refused;
+mod report;
+
+pub use intake::{Closed, Intake};
+pub use node::Node;
+pub use node_link::NodeLink;
+pub use open_node::{MAX_UPSTREAMS, MAX_VIEWS, NodeError, OpenNode, Parts};
 pub use ovs_feed::{FeedEnd, FeedName, FeedQueue};
-pub use ovs_folder::{
-    MAX_UPSTREAMS, MAX_VIEWS, Node, NodeError, NodeLink, OpenNode, Parts, Report,
-};
 pub use ovs_history::Opened;
 pub use ovs_views::{
     Board, Front, Gone, Handle, NodeName, Publisher, Told, View, ViewError, ViewSession, teach,
 };
+pub use refused::{RefusedLink, Why};
+pub use report::Report;

@@ -1,7 +1,7 @@
 //! A line by its first word.
 
 use crate::fault::Fault;
-use crate::{engine, hall, many, node, sendings, tier};
+use crate::{engine, many, node, sendings, tier, worker};
 use log::Log;
 use ovs_links::Step;
 use ovs_node::Opened;
@@ -76,14 +76,14 @@ impl<
             }
             ("store", [steps]) => many::stored(alloc, schema, count(steps)?),
             ("make", [steps]) => many::made(alloc, schema, count(steps)?),
-            ("hall", [change, sessions, piece, talk]) => {
-                let scene = hall::Scene {
+            ("worker", [change, sessions, piece, talk]) => {
+                let scene = worker::Scene {
                     change,
                     sessions: count(sessions)?,
                     piece: count(piece)? as usize,
                     talk,
                 };
-                of_hall(rt, alloc, schema, scene)
+                of_worker(rt, alloc, schema, scene)
             }
             ("engine", scene) => {
                 let scene = engine::Scene::read(alloc, schema, scene)?;
@@ -121,15 +121,15 @@ fn of_node<R: Threads + Wait + Sync>(
     node::opened::<Brand, R>(rt, alloc, schema, opened, views, scene)
 }
 
-// What comes of a hall, for which a history is opened here.
-fn of_hall<R: Wait>(
+// What comes of a worker, for which a history is opened here.
+fn of_worker<R: Wait>(
     rt: &R,
     alloc: Global,
     schema: &Schema,
-    scene: hall::Scene,
+    scene: worker::Scene,
 ) -> Result<String, Fault> {
     let opened = Opened::<Step>::new();
-    hall::opened::<Brand, R>(rt, alloc, schema, opened, scene)
+    worker::opened::<Brand, R>(rt, alloc, schema, opened, scene)
 }
 
 // What comes of a node with upstreams, for which a history is opened here.

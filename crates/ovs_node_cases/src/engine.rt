@@ -2,21 +2,21 @@
 
 ghost use Rattle.std.specs.Prelude.{◌≡◌, ◌≤◌, []};
 ghost use Rattle.std.specs.List.{AllByRecursion};
-ghost use Rattle.ovs_folder.specs.Nodes.{NodeInStep, OpenNodeInStep};
-ghost use Rattle.ovs_folder.specs.Ledger.{IsFresh};
+ghost use Rattle.ovs_node.specs.Nodes.{NodeInStep, OpenNodeInStep};
+ghost use Rattle.ovs_node.specs.Ledger.{IsFresh};
 
-use crate::crews::{Stage, crew_of, lines_of};
 use crate::fault::Fault;
+use crate::memory_threads::{SharedParts, senders_of, threads_of};
 use crate::outcome::{Question, shown};
 use crate::readers::request_text;
 use crate::upstreams::{UpSession, Upstream, number_in, read_sessions};
-use ovs_engine::{Line, Shared, Unwatched, run_relay};
 use ovs_json::Text;
 use ovs_links::Step;
 use ovs_node::{
     Board, FeedName, FeedQueue, Handle, Node, NodeLink, NodeName, OpenNode, Opened, Parts, Report,
     View,
 };
+use ovs_node_threads::{NoObserver, Shared, UpstreamSender, run_relay};
 use ovs_query::Select;
 use ovs_recorded_desk::{DeskName, DeskStep, relay_desk_sends};
 use ovs_session::Limits;
@@ -219,19 +219,19 @@ fn run<
     let (until, counts_readers) = (talkers.until, talkers.counts_readers);
     let kept_back = kept_back(alloc, &mut views, questions.len())?;
     let DeskOf { database, opened } = desk;
-    let stage = Stage::<'x, N, R>::new(rt, alloc, talkers.readers, database, opened)?;
-    let lines = lines_of(alloc, ends)?;
-    let outfit = Outfit {
+    let common = SharedParts::<'x, N, R>::new(rt, alloc, talkers.readers, database, opened)?;
+    let senders = senders_of(alloc, ends)?;
+    let own = OwnParts {
         talkers,
-        lines,
+        senders,
         views,
     };
-    let report = staged(rt, alloc, schema, &queue, &board, &stage, node, outfit)?;
+    let report = run_threads(rt, alloc, schema, &queue, &board, &common, node, own)?;
     let told = shown(rt, alloc, &board, &report, kept_back, questions.as_slice())?;
     if !counts_readers {
         return Ok(told);
     }
-    let readers = stage.count_shown(until);
+    let readers = common.count_shown(until);
     Ok(format!(in alloc; "{told} | readers {readers}")?)
 }
 
@@ -250,14 +250,14 @@ fn kept_back<K: NodeName>(
 
 // What the threads of a node are made of.
 #[derive(Drop)]
-struct Outfit<K: NodeName, Q: FeedName> {
+struct OwnParts<K: NodeName, Q: FeedName> {
     talkers: Talkers,
-    lines: Vec<Line<K, Q, Upstream>>,
+    senders: Vec<UpstreamSender<K, Q, Upstream>>,
     views: Vec<View<K>>,
 }
 
 // The same, where all is there that the threads share.
-fn staged<
+fn run_threads<
     'a,
     'x,
     K: NodeName + Send + Sync,
@@ -270,31 +270,31 @@ fn staged<
     schema: &'a Schema,
     queue: &'a FeedQueue<NodeLink<K>, Q>,
     board: &'a Mutex<Board<K>>,
-    stage: &'a Stage<'x, N, R>,
+    common: &'a SharedParts<'x, N, R>,
     node: Node<K, Q, Handle<K, &'x R>>,
-    outfit: Outfit<K, Q>,
+    own: OwnParts<K, Q>,
 ) -> Result<Report<K, Q, Handle<K, &'x R>>, Fault>
     requires schema { schema.now ≡ K.schema }
     requires in_step { NodeInStep node }
     requires none { node.intake.feed.returned ≡ [] }
 {
-    let Outfit {
+    let OwnParts {
         talkers,
-        lines,
+        senders,
         views,
-    } = outfit;
-    let crew = crew_of(alloc, talkers, &*stage, lines, views)?;
+    } = own;
+    let threads = threads_of(alloc, talkers, &*common, senders, views)?;
     let shared = Shared {
         rt: &*rt,
         queue: &*queue,
         board: &*board,
-        desk: &stage.desk,
-        bells: &stage.bells,
-        upward: &stage.upward,
-        counters: &stage.counters,
-        watcher: &Unwatched,
+        desk: &common.desk,
+        wakers: &common.wakers,
+        upward: &common.upward,
+        counters: &common.counters,
+        observer: &NoObserver,
         limits: LIMITS,
     };
     relay_desk_sends();
-    Ok(run_relay(alloc, &shared, schema, node, crew)?)
+    Ok(run_relay(alloc, &shared, schema, node, threads)?)
 }

@@ -1,8 +1,8 @@
 //! Why a line has no answer.
 
-use ovs_engine::NotRun;
 use ovs_node::{Gone, NodeError, ViewError};
-use ovs_tier::TierError;
+use ovs_node_threads::NotRun;
+use ovs_server::ServerError;
 use ovs_types::NoMemory;
 use std::alloc::{AllocError, AllocFailed};
 use std::io;
@@ -85,13 +85,13 @@ impl From<NodeError> for Fault {
     }
 }
 
-impl From<TierError> for Fault {
-    fn from(error: TierError) -> Fault {
+impl From<ServerError> for Fault {
+    fn from(error: ServerError) -> Fault {
         match error {
-            TierError::Listening(_) | TierError::System(_) => Fault::System,
-            TierError::Node(error) => Fault::from(error),
-            TierError::NotBack => Fault::NotDrained,
-            TierError::NoMemory => Fault::NoMemory,
+            ServerError::Listening(_) | ServerError::System(_) => Fault::System,
+            ServerError::Node(error) => Fault::from(error),
+            ServerError::NotBack => Fault::NotDrained,
+            ServerError::NoMemory => Fault::NoMemory,
         }
     }
 }

@@ -1,38 +1,36 @@
 //! What the folder's thread does, and the end of a node.
 
-ghost use Rattle.ovs_folder.specs.Nodes.{NodeInStep};
+ghost use Rattle.ovs_node.specs.Nodes.{NodeInStep};
 
 use crate::fault::Fault;
 use crate::jobs::{Back, Done};
 use ovs_node::{
     Board, FeedEnd, FeedName, FeedQueue, Handle, Node, NodeLink, NodeName, Report, View,
 };
-use ovs_types::NoMemory;
 use std::sync::atomic::{AtomicU64, Ordering};
 use std::sync::{Mutex, Wait};
+use std::thread;
 
-/// Folds until no thread sends any more, and nothing is left to fold.
+/// Folds until no thread sends any more, and nothing is left to fold. Where memory runs out it tries again.
 pub(crate) fn fold_all<K: NodeName, Q: FeedName, H: Wait + Drop, R: Wait>(
     rt: &R,
     queue: &FeedQueue<NodeLink<K>, Q>,
     board: &Mutex<Board<K>>,
     sending: &AtomicU64,
     node: &mut Node<K, Q, Handle<K, H>>,
-) -> Result<(), NoMemory>
+)
     requires in_step { NodeInStep node.old }
     ensures in_step { NodeInStep node.new }
 {
     for _ in rt.forever() {
         let is_last = sending.load(Ordering::SeqCst) == 0;
-        if node.fold_next(rt, queue, board)? {
-            continue;
+        match node.fold_next(rt, queue, board) {
+            Ok(true) => {}
+            Ok(false) if is_last => break,
+            Ok(false) => queue.wait(rt),
+            Err(_) => thread::yield_now(),
         }
-        if is_last {
-            break;
-        }
-        queue.wait(rt);
     }
-    Ok(())
 }
 
 // Takes back what the threads had: the ends in the order of their numbers, and the views.

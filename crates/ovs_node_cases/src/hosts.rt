@@ -1,22 +1,22 @@
-//! A node's service with a desk of its own, for the sessions of one hall.
+//! A node's service with a desk of its own, for the sessions of one worker.
 
 ghost use Rattle.std.specs.Prelude.{◌≡◌, ℕ, List, Contains, true};
 ghost use Rattle.ovs_links.specs.declared.step.Step.{Step};
 ghost use Rattle.ovs_service.specs.Client.{SaysNothing, AnswersTo, TellsNew, MayAsk, IsAnswered, HasAll, HasBegunAnew, new_client};
 
-use ovs_hall::{Host, Receives};
 use ovs_node::NodeName;
 use ovs_service::{Client, Desk, NodeService};
 use ovs_session::{Outbox, Pace, Refusal, Service};
+use ovs_worker::{AcceptingHost, SessionHost};
 
 /// A service of readers, which numbers them as they come.
-pub(crate) struct HallHost<K: NodeName, D: Desk<K>> {
+pub(crate) struct WorkerHost<K: NodeName, D: Desk<K>> {
     pub(crate) service: NodeService<K, D>,
     /// The number of the next session.
     pub(crate) next: u64,
 }
 
-impl<K: NodeName, D: Desk<K>> Service for HallHost<K, D> {
+impl<K: NodeName, D: Desk<K>> Service for WorkerHost<K, D> {
     type Session = Client<K>;
 
     ghost answers = { λ old text said new. AnswersTo K.schema D.replies D.owes old text said new };
@@ -59,7 +59,7 @@ impl<K: NodeName, D: Desk<K>> Service for HallHost<K, D> {
     }
 }
 
-impl<K: NodeName, D: Desk<K>> Host for HallHost<K, D> {
+impl<K: NodeName, D: Desk<K>> SessionHost for WorkerHost<K, D> {
     ghost begins = { λ client. (who : ℕ) × (last : List Step) × (client ≡ new_client who last) };
 
     ghost is_silent = { λ host client. Contains (D.ended host.service.desk) client.who };
@@ -69,7 +69,7 @@ impl<K: NodeName, D: Desk<K>> Host for HallHost<K, D> {
     }
 }
 
-impl<K: NodeName, D: Desk<K>> Receives for HallHost<K, D> {
+impl<K: NodeName, D: Desk<K>> AcceptingHost for WorkerHost<K, D> {
     fn begin(&mut self) -> Option<Client<K>> {
         let who = self.next;
         self.next = who.checked_add(1)?;
@@ -77,5 +77,5 @@ impl<K: NodeName, D: Desk<K>> Receives for HallHost<K, D> {
     }
 
     // What is published is seen at the next entry, so that there is nothing to note.
-    fn rung(&mut self) {}
+    fn woken(&mut self) {}
 }

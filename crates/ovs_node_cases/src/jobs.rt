@@ -99,7 +99,7 @@ impl<'a, K: NodeName, Q: FeedName, R: Wait> Jobs<'a, K, Q, R> {
     // One thread fewer sends, which the folder is to see.
     fn leave(&self) {
         self.sending.fetch_sub(1, Ordering::SeqCst);
-        self.queue.ring();
+        self.queue.wake();
     }
 
     // Asks for the head again and again, until no thread sends any more, and gives how often it was told.

@@ -6,24 +6,24 @@
 
 mod case;
 mod client;
-mod crews;
-mod doors;
 mod engine;
 mod fault;
 mod fold;
-mod hall;
 mod hosts;
 mod ids;
 mod jobs;
 mod links;
 mod many;
+mod memory_threads;
 mod node;
 mod outcome;
+mod poller;
 mod readers;
 mod sendings;
 mod sessions;
 mod tier;
 mod upstreams;
+mod worker;
 
 use case::Table;
 use std::io::{self, BufRead, BufReader};

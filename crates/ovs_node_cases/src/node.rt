@@ -1,8 +1,8 @@
 //! A node is made, runs in threads, and ends.
 
 ghost use Rattle.std.specs.Prelude.{◌≡◌, ◌≤◌, [], IfOk};
-ghost use Rattle.ovs_folder.specs.Nodes.{NodeInStep, OpenNodeInStep};
-ghost use Rattle.ovs_folder.specs.Ledger.{IsFresh};
+ghost use Rattle.ovs_node.specs.Nodes.{NodeInStep, OpenNodeInStep};
+ghost use Rattle.ovs_node.specs.Ledger.{IsFresh};
 
 use crate::fault::Fault;
 use crate::fold::{finished, fold_all};
@@ -169,19 +169,16 @@ fn fold_beside<
         board,
         sending,
     };
-    let folds = move || -> Result<Node<K, Q, Handle<K, H>>, NoMemory>
+    let folds = move || -> Node<K, Q, Handle<K, H>>
         requires { NodeInStep node }
-        ensures { IfOk result NodeInStep }
+        ensures { NodeInStep result }
     {
         let mut node = node;
-        fold_all(rt, queue, board, sending, &mut node)?;
-        Ok(node)
+        fold_all(rt, queue, board, sending, &mut node);
+        node
     };
     match beside_with_views(rt, alloc, jobs, &work, folds) {
-        Ok((backs, node)) => {
-            let node = node?;
-            Ok((backs, node))
-        }
+        Ok(done) => Ok(done),
         Err(_not_begun) => Err(NoMemory),
     }
 }

@@ -1,12 +1,12 @@
 //! A reader over memory, which asks for all rows again and again, and sees which commits they show.
 
 ghost use Rattle.std.specs.Prelude.{◌≡◌, [], ℕ, None, true};
-ghost use Rattle.ovs_hall.specs.Connections.{out_of};
+ghost use Rattle.ovs_worker.specs.Connections.{out_of};
 
 use crate::fault::Fault;
 use crate::ids::last_number_in;
-use ovs_hall::{Bell, Connections, Doors, Ready, Timeout, Woken};
 use ovs_session::Ended;
+use ovs_worker::{Connections, Poller, Ready, Timeout, Wake, Wakeup};
 use serde_json::Value;
 use std::alloc::{AllocError, Global};
 use std::io::{self, ErrorKind, Read, Write};
@@ -129,40 +129,40 @@ impl Write for Seeing {
     }
 }
 
-/// The bell of a worker.
+/// What wakes a worker.
 #[derive(Drop)]
-pub(crate) struct MemoryBell {
-    is_rung: Arc<AtomicBool>,
+pub(crate) struct MemoryWaker {
+    was_woken: Arc<AtomicBool>,
 }
 
-impl MemoryBell {
-    /// It wasn't rung yet.
-    pub(crate) fn new(alloc: Global) -> Result<MemoryBell, AllocError> {
+impl MemoryWaker {
+    /// It wasn't woken yet.
+    pub(crate) fn new(alloc: Global) -> Result<MemoryWaker, AllocError> {
         match Arc::new(alloc, AtomicBool::new(false)) {
-            Ok(is_rung) => Ok(MemoryBell { is_rung }),
+            Ok(was_woken) => Ok(MemoryWaker { was_woken }),
             Err(_) => Err(AllocError),
         }
     }
 
-    /// The same bell.
-    pub(crate) fn again(&self) -> Result<MemoryBell, AllocError> {
-        Ok(MemoryBell {
-            is_rung: self.is_rung.clone()?,
+    /// The same.
+    pub(crate) fn again(&self) -> Result<MemoryWaker, AllocError> {
+        Ok(MemoryWaker {
+            was_woken: self.was_woken.clone()?,
         })
     }
 }
 
-impl Bell for MemoryBell {
-    fn ring(&self) {
-        self.is_rung.store(true, Ordering::SeqCst);
+impl Wake for MemoryWaker {
+    fn wake(&self) {
+        self.was_woken.store(true, Ordering::SeqCst);
     }
 }
 
 /// Lets one reader in.
 #[derive(Drop)]
-pub(crate) struct ReaderDoors {
+pub(crate) struct ReaderPoller {
     chat: Chat,
-    bell: MemoryBell,
+    waker: MemoryWaker,
     request: Option<String>,
     until: u64,
     has_come: bool,
@@ -171,15 +171,15 @@ pub(crate) struct ReaderDoors {
     connections: Connections<Asking, Seeing>,
 }
 
-impl ReaderDoors {
+impl ReaderPoller {
     /// For a reader that asks until an answer showed the commit of this number.
-    pub(crate) fn new(chat: Chat, bell: MemoryBell, request: String, until: u64) -> ReaderDoors
+    pub(crate) fn new(chat: Chat, waker: MemoryWaker, request: String, until: u64) -> ReaderPoller
         ensures none { (key : ℕ) → out_of result.connections key ≡ None }
         ensures none_back { result.connections.back ≡ [] }
     {
-        ReaderDoors {
+        ReaderPoller {
             chat,
-            bell,
+            waker,
             request: Some(request),
             until,
             has_come: false,
@@ -189,27 +189,27 @@ impl ReaderDoors {
     }
 }
 
-impl Doors for ReaderDoors {
+impl Poller for ReaderPoller {
     type In = Asking;
 
     type Out = Seeing;
 
-    ghost out = { λ doors key. out_of doors.connections key };
+    ghost out = { λ poller key. out_of poller.connections key };
 
-    ghost back = { λ doors. doors.connections.back };
+    ghost back = { λ poller. poller.connections.back };
 
-    ghost is_closed = { λ doors. doors.has_come ≡ true };
+    ghost is_closed = { λ poller. poller.has_come ≡ true };
 
     ghost is_over = { λ _. ⊥ };
 
     // The reader may go on at any time, so that nothing is waited for.
-    fn wait(&mut self, timeout: Timeout) -> Woken {
+    fn wait(&mut self, timeout: Timeout) -> Wakeup {
         if timeout != Timeout::Zero {
             thread::yield_now();
         }
         self.is_ready = self.has_come;
-        Woken {
-            is_rung: self.bell.is_rung.swap(false, Ordering::SeqCst),
+        Wakeup {
+            was_woken: self.waker.was_woken.swap(false, Ordering::SeqCst),
             is_any_ready: false,
             may_accept: !self.has_come,
             is_closed: self.has_come,

@@ -1,4 +1,4 @@
-//! What the sessions of a hall send, and what is to come of it.
+//! What the sessions of a worker send, and what is to come of it.
 
 use crate::fault::Fault;
 use serde_json::Value;

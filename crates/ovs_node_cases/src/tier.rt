@@ -6,12 +6,11 @@ use crate::fault::Fault;
 use crate::links::id_of;
 use log::{LevelFilter, Log, Logged};
 use ovs_data::{RowId, TxnId};
-use ovs_tier::{Closing, Relay, RelayPlan, SourceNode, SourcePlan, Stop, TierError};
+use ovs_server::{ExitReport, NodeRuntime, NodeServer, RelayPlan, ServerError, SourcePlan, Stop};
 use ovs_types::Schema;
 use serde_json::Value;
 use std::alloc::Global;
-use std::net::{Net, SocketAddr, TcpListener, TcpStream};
-use std::sync::Wait;
+use std::net::{Net, SocketAddr, TcpStream};
 use std::thread::{Threads, join};
 
 const NO_ROWS: &str = r#"[{"rows":[]}]"#;
@@ -47,7 +46,7 @@ impl Scene {
 }
 
 // What came of a node.
-type NodeEnd = Result<Closing, TierError>;
+type NodeEnd = Result<ExitReport, ServerError>;
 
 // What the client was answered.
 type ClientAnswers = Result<(String, String), Fault>;
@@ -60,16 +59,11 @@ fn any_port() -> Result<SocketAddr, Fault> {
 }
 
 // A source whose first commit and first row have the ids of the scene.
-fn source<
-    R: Threads
-        + Wait
-        + Net<Listener = TcpListener, Stream = TcpStream>
-        + Log
-        + Copy
-        + Drop
-        + Send
-        + Sync,
->(rt: R, alloc: Global, scene: &Scene) -> Result<SourceNode<R>, Fault> {
+fn source<R: NodeRuntime + Log>(
+    rt: R,
+    alloc: Global,
+    scene: &Scene,
+) -> Result<NodeServer<R>, Fault> {
     let plan = SourcePlan {
         listen: any_port()?,
         first_commit: scene.first_commit,
@@ -77,20 +71,15 @@ fn source<
         trim_every: None,
         accepts: Some(MOST_CONNECTIONS),
     };
-    Ok(SourceNode::open(rt, alloc, plan)?)
+    Ok(NodeServer::source(rt, alloc, plan)?)
 }
 
 // A relay of the node at this address.
-fn relay<
-    R: Threads
-        + Wait
-        + Net<Listener = TcpListener, Stream = TcpStream>
-        + Log
-        + Copy
-        + Drop
-        + Send
-        + Sync,
->(rt: R, alloc: Global, upstream: SocketAddr) -> Result<Relay<R>, Fault> {
+fn relay<R: NodeRuntime + Log>(
+    rt: R,
+    alloc: Global,
+    upstream: SocketAddr,
+) -> Result<NodeServer<R>, Fault> {
     let plan = RelayPlan {
         listen: any_port()?,
         upstreams: &[upstream],
@@ -99,7 +88,7 @@ fn relay<
         ends_on_refusal: false,
         prunes: false,
     };
-    Ok(Relay::open(rt, alloc, plan)?)
+    Ok(NodeServer::relay(rt, alloc, plan)?)
 }
 
 // What the client does.
@@ -168,15 +157,15 @@ fn beside<
 fn told(
     alloc: Global,
     answers: &(String, String),
-    closings: &[Result<Closing, TierError>],
+    exit_reports: &[Result<ExitReport, ServerError>],
 ) -> Result<String, Fault> {
     let (inserted, shown) = answers;
     let mut told = format!(in alloc; "{inserted} | {shown}")?;
-    for closing in closings {
-        let Ok(closing) = closing else {
+    for exit_report in exit_reports {
+        let Ok(exit_report) = exit_report else {
             return Err(Fault::NotDrained);
         };
-        let lines = closing.text.as_str().trim().replace(alloc, '\n', " ")?;
+        let lines = exit_report.text.as_str().trim().replace(alloc, '\n', " ")?;
         told.push_str(" | ")?;
         told.push_str(lines.as_str())?;
     }
@@ -184,16 +173,12 @@ fn told(
 }
 
 /// What comes of a tier that runs until the client is shown its row.
-pub(crate) fn run_tier<
-    R: Threads
-        + Wait
-        + Net<Listener = TcpListener, Stream = TcpStream>
-        + Log
-        + Copy
-        + Drop
-        + Send
-        + Sync,
->(rt: R, alloc: Global, schema: &Schema, scene: &Scene) -> Result<String, Fault> {
+pub(crate) fn run_tier<R: NodeRuntime + Log>(
+    rt: R,
+    alloc: Global,
+    schema: &Schema,
+    scene: &Scene,
+) -> Result<String, Fault> {
     let quiet = Logged::new(rt, LevelFilter::Off, rt);
     let source = source(quiet, alloc, scene)?;
     let relay = relay(quiet, alloc, source.address())?;
@@ -207,9 +192,9 @@ pub(crate) fn run_tier<
     let (of_source, (of_relay, answers)) = beside(
         &rt,
         source,
-        |source: SourceNode<Logged<R, R>>| source.run(schema),
+        |source: NodeServer<Logged<R, R>>| source.run(schema),
         relay,
-        |relay: Relay<Logged<R, R>>| relay.run(schema),
+        |relay: NodeServer<Logged<R, R>>| relay.run(schema),
         &talk,
     );
     told(alloc, &answers?, &[of_source, of_relay])

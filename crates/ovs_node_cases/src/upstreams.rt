@@ -2,7 +2,7 @@
 
 use crate::fault::Fault;
 use crate::ids::{number_of, text_of};
-use ovs_engine::Connector;
+use ovs_node_threads::Connector;
 use ovs_types::{Schema, TxnId};
 use serde_json::Value;
 use std::alloc::Global;

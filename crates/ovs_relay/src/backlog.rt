@@ -40,7 +40,7 @@ pub(crate) struct Backlog {
     unsaid: AtomicU64,
     // Those that were dropped, of which it isn't said yet.
     dropped: AtomicU64,
-    bell: Parker,
+    waker: Parker,
 }
 
 impl Backlog {
@@ -50,7 +50,7 @@ impl Backlog {
             lines: ArrayQueue::new(alloc, MOST_WAITING)?,
             unsaid: AtomicU64::new(0),
             dropped: AtomicU64::new(0),
-            bell: Parker::new(),
+            waker: Parker::new(),
         })
     }
 
@@ -76,13 +76,13 @@ impl Backlog {
             self.unsaid.fetch_sub(1, Ordering::SeqCst);
             self.note_dropped();
         }
-        self.bell.unpark();
+        self.waker.unpark();
     }
 
     /// Counts a line that was dropped.
     pub(crate) fn note_dropped(&self) {
         self.dropped.fetch_add(1, Ordering::SeqCst);
-        self.bell.unpark();
+        self.waker.unpark();
     }
 
     // Whether all is said that was put here, and how many lines were dropped.
@@ -110,7 +110,7 @@ impl Backlog {
                 }
                 None => {
                     self.say_dropped(rt);
-                    self.bell.park(rt);
+                    self.waker.park(rt);
                 }
             }
         }

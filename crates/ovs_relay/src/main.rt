@@ -10,10 +10,10 @@ mod schema_file;
 mod timed;
 
 use nodes::{run_relay, run_source};
-use ovs_command::{Complaint, Task, command};
-use ovs_fold::fold_run;
-use ovs_story::world_run;
+use ovs_command_line::{Complaint, Task, command};
+use ovs_fold_script::fold_run;
 use ovs_wire::Counted;
+use ovs_world_script::world_run;
 use saying::{complains, ends, fails, says};
 use std::fs::File;
 use std::io::ErrorKind;

@@ -5,15 +5,14 @@ use crate::log_lines::LogLines;
 use crate::saying::{complains, fails, says};
 use crate::schema_file::schema_of_file;
 use log::{LevelFilter, Logged};
-use ovs_command::{Complaint, RelayOptions, SourceOptions};
-use ovs_tier::{Closing, Relay, RelayPlan, SourceNode, SourcePlan, TierError};
+use ovs_command_line::{Complaint, RelayOptions, SourceOptions};
+use ovs_server::{ExitReport, NodeRuntime, NodeServer, RelayPlan, ServerError, SourcePlan};
 use ovs_types::Schema;
 use std::alloc::Global;
-use std::net::{Net, SocketAddr, TcpListener, TcpStream};
+use std::net::SocketAddr;
 use std::process::ExitCode;
 use std::rt::Runtime;
 use std::sync::Wait;
-use std::thread::Threads;
 use std::time::Clock;
 
 // How much is told while a node runs: all with `--verbose`; what ends it where that is wanted; and that nobody sends it links any
@@ -28,40 +27,46 @@ fn level_of(verbose: bool, ends_on_refusal: bool) -> LevelFilter {
     }
 }
 
-// Tells why a node isn't run that was to listen at an address.
-fn unrun<R: Eprint>(rt: &R, address: SocketAddr, error: TierError) -> ExitCode {
+// Tells why a node isn't begun that was to listen at an address.
+fn unrun<R: Eprint>(rt: &R, address: SocketAddr, error: ServerError) -> ExitCode {
     match error {
-        TierError::Listening(cause) => complains(rt, Complaint::Unlistened { address, cause }),
-        TierError::NoMemory => complains(rt, Complaint::NoMemory),
+        ServerError::Listening(cause) => complains(rt, Complaint::Unlistened { address, cause }),
+        ServerError::NoMemory => complains(rt, Complaint::NoMemory),
         other => fails(rt, &other, 3),
     }
 }
 
-// Says what a node holds at its end, or why it isn't run.
-fn closes<R: Print + Eprint>(
+// Says what a node holds at its end, once its lines are said. Why it gives no report is put behind them, so that nobody waits until that
+// is read.
+fn closes<R: Print + Eprint + Clock + Wait>(
     rt: &R,
-    address: SocketAddr,
-    ran: Result<Closing, TierError>,
+    alloc: Global,
+    backlog: &Backlog,
+    ran: Result<ExitReport, ServerError>,
 ) -> ExitCode {
     match ran {
-        Ok(closing) => says(rt, closing.text.as_str(), closing.status()),
-        Err(error) => unrun(rt, address, error),
+        Ok(exit_report) => {
+            backlog.finish(rt);
+            says(rt, exit_report.text.as_str(), exit_report.status())
+        }
+        Err(error) => {
+            match format!(in alloc; "{error}") {
+                Ok(line) => backlog.put(rt, line),
+                Err(_) => backlog.note_dropped(),
+            }
+            backlog.finish(rt);
+            ExitCode::from(3)
+        }
     }
 }
 
-// A source of this schema.
-fn source<
-    R: Eprint
-        + Clock
-        + Threads
-        + Wait
-        + Net<Listener = TcpListener, Stream = TcpStream>
-        + Copy
-        + Drop
-        + Send
-        + Sync
-        + 'static,
->(rt: R, alloc: Global, schema: &Schema, options: &SourceOptions) -> Result<Closing, TierError> {
+// A source of this schema, from its address to its end.
+fn source<R: NodeRuntime + Print + Eprint + Clock + 'static>(
+    rt: R,
+    alloc: Global,
+    schema: &Schema,
+    options: &SourceOptions,
+) -> Result<ExitCode, ServerError> {
     let plan = SourcePlan {
         listen: options.listen,
         first_commit: options.first_id,
@@ -72,24 +77,17 @@ fn source<
     let backlog = Backlog::begin(rt, alloc)?;
     let level = level_of(options.verbose, false);
     let logged = Logged::new(rt, level, LogLines::new(rt, alloc, &*backlog));
-    let ran = SourceNode::open(logged, alloc, plan)?.run(schema);
-    backlog.finish(&rt);
-    ran
+    let ran = NodeServer::source(logged, alloc, plan)?.run(schema);
+    Ok(closes(&rt, alloc, &*backlog, ran))
 }
 
-// A relay of a database of this schema.
-fn relay<
-    R: Eprint
-        + Clock
-        + Threads
-        + Wait
-        + Net<Listener = TcpListener, Stream = TcpStream>
-        + Copy
-        + Drop
-        + Send
-        + Sync
-        + 'static,
->(rt: R, alloc: Global, schema: &Schema, options: &RelayOptions) -> Result<Closing, TierError> {
+// A relay of a database of this schema, from its address to its end.
+fn relay<R: NodeRuntime + Print + Eprint + Clock + 'static>(
+    rt: R,
+    alloc: Global,
+    schema: &Schema,
+    options: &RelayOptions,
+) -> Result<ExitCode, ServerError> {
     let plan = RelayPlan {
         listen: options.listen,
         upstreams: &options.upstreams,
@@ -101,43 +99,36 @@ fn relay<
     let backlog = Backlog::begin(rt, alloc)?;
     let level = level_of(options.verbose, options.end_on_refusal);
     let logged = Logged::new(rt, level, LogLines::new(rt, alloc, &*backlog));
-    let ran = Relay::open(logged, alloc, plan)?.run(schema);
-    backlog.finish(&rt);
-    ran
+    let ran = NodeServer::relay(logged, alloc, plan)?.run(schema);
+    Ok(closes(&rt, alloc, &*backlog, ran))
 }
 
 /// Runs a source until all its threads have come to their ends.
-pub(crate) fn run_source<
-    R: Runtime
-        + Threads
-        + Wait
-        + Net<Listener = TcpListener, Stream = TcpStream>
-        + Copy
-        + Drop
-        + Send
-        + Sync
-        + 'static,
->(rt: R, alloc: Global, options: &SourceOptions) -> ExitCode {
+pub(crate) fn run_source<R: NodeRuntime + Runtime + 'static>(
+    rt: R,
+    alloc: Global,
+    options: &SourceOptions,
+) -> ExitCode {
     match schema_of_file(&rt, alloc, options.schema.as_str()) {
-        Ok(schema) => closes(&rt, options.listen, source(rt, alloc, &schema, options)),
+        Ok(schema) => match source(rt, alloc, &schema, options) {
+            Ok(status) => status,
+            Err(error) => unrun(&rt, options.listen, error),
+        },
         Err(status) => status,
     }
 }
 
 /// Runs a relay until all its threads have come to their ends.
-pub(crate) fn run_relay<
-    R: Runtime
-        + Threads
-        + Wait
-        + Net<Listener = TcpListener, Stream = TcpStream>
-        + Copy
-        + Drop
-        + Send
-        + Sync
-        + 'static,
->(rt: R, alloc: Global, options: &RelayOptions) -> ExitCode {
+pub(crate) fn run_relay<R: NodeRuntime + Runtime + 'static>(
+    rt: R,
+    alloc: Global,
+    options: &RelayOptions,
+) -> ExitCode {
     match schema_of_file(&rt, alloc, options.schema.as_str()) {
-        Ok(schema) => closes(&rt, options.listen, relay(rt, alloc, &schema, options)),
+        Ok(schema) => match relay(rt, alloc, &schema, options) {
+            Ok(status) => status,
+            Err(error) => unrun(&rt, options.listen, error),
+        },
         Err(status) => status,
     }
 }

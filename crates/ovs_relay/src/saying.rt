@@ -1,6 +1,6 @@
 //! What the program says, and the exit status that goes with it.
 
-use ovs_command::{Complaint, complaint_of};
+use ovs_command_line::{Complaint, complaint_of};
 use ovs_script::RunEnd;
 use std::fmt::{self, Display, Formatter};
 use std::io;

@@ -2,7 +2,7 @@
 
 use crate::noting::Noting;
 use crate::saying::{complains, ends_of_file};
-use ovs_command::Complaint;
+use ovs_command_line::Complaint;
 use ovs_script::read_schema;
 use ovs_types::Schema;
 use ovs_wire::Counted;

@@ -15,7 +15,7 @@ ghost use Rattle.ovs_service.specs.Kept.{Kept};
 use crate::desk::Desk;
 use ovs_views::NodeName;
 
-/// What a session of a reader did since it was new, in however many turns, and whoever made them (a `Seat` of `ovs_hall` keeps
+/// What a session of a reader did since it was new, in however many turns, and whoever made them (a `Slot` of `ovs_worker` keeps
 /// it as a fact of its own), is what users are promised: it wrote a beginning of the text of what its calls gave, and all calls
 /// that were made for it at the desk are those that these called for. It may be told to be closed where it is done and nothing is
 /// due, and bad input where its input is bad.

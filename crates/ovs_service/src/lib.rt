@@ -12,11 +12,11 @@ mod laws;
 mod saying;
 mod service;
 mod settling;
-mod sole;
+mod unshared;
 
 pub use asker::{Asker, DeskCall};
 pub use client::Client;
 pub use desk::Desk;
 pub use laws::{answers_come_behind_what_they_stand_for, reader_laws};
 pub use service::NodeService;
-pub use sole::{Sole, copy_ask};
+pub use unshared::{Unshared, copy_ask};

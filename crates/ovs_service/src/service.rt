@@ -9,10 +9,10 @@ ghost use Rattle.ovs_service.specs.Client.{new_client, SaysNothing, AnswersFrom,
 use crate::asker::Asker;
 use crate::client::Client;
 use crate::desk::Desk;
-use ovs_hall::Host;
 use ovs_session::{Outbox, Pace, Refusal, Service};
 use ovs_views::{NodeName, Told, View};
 use ovs_wire::{Message, MessageError};
+use ovs_worker::SessionHost;
 use std::alloc::Global;
 
 // The message that a text says.
@@ -240,7 +240,7 @@ impl<K: NodeName, D: Desk<K>> Service for NodeService<K, D> {
     }
 }
 
-impl<K: NodeName, D: Desk<K>> Host for NodeService<K, D> {
+impl<K: NodeName, D: Desk<K>> SessionHost for NodeService<K, D> {
     ghost begins = { λ client. (who : ℕ) × (last : List Step) × (client ≡ new_client who last) };
 
     ghost is_silent = { λ service client. Contains (D.ended service.desk) client.who };

@@ -2,8 +2,8 @@
 
 ghost use Rattle.std.specs.Io.{ReadsAtMost, WritesAtMost};
 
-use crate::ending::IsEnding;
 use crate::exchange::Exchange;
+use crate::shutdown::ShutdownFlag;
 use crate::timed_out::has_timed_out;
 use mio::net::TcpStream;
 use mio::{Events, Interest, Poll, Token, Waker};
@@ -19,7 +19,7 @@ const EVENTS: usize = 16;
 
 const STREAM: Token = Token(0);
 
-const BELL: Token = Token(1);
+const WAKER: Token = Token(1);
 
 // So much is read at once while a write has to wait.
 const CHUNK: usize = 16_384;
@@ -27,7 +27,7 @@ const CHUNK: usize = 16_384;
 // So much is read at most before it is taken.
 const MOST_AHEAD: usize = 16_777_216;
 
-/// The connection with an upstream, if there is one, and what its thread waits with: for the connection, and for a bell.
+/// The connection with an upstream, if there is one, and what its thread waits with: for the connection, and for being woken.
 #[derive(Drop)]
 pub(crate) struct Channel {
     alloc: Global,
@@ -37,11 +37,15 @@ pub(crate) struct Channel {
     // What came while a write had to wait. An upstream that writes may read nothing until that is taken.
     ahead: VecDeque<u8>,
     exchange: Exchange,
-    is_ending: IsEnding,
+    shutdown_flag: ShutdownFlag,
 }
 
 impl Channel {
-    pub(crate) fn new<N: Net>(net: &N, alloc: Global, is_ending: IsEnding) -> io::Result<Channel> {
+    pub(crate) fn new<N: Net>(
+        net: &N,
+        alloc: Global,
+        shutdown_flag: ShutdownFlag,
+    ) -> io::Result<Channel> {
         Ok(Channel {
             alloc,
             poll: Poll::new(net)?,
@@ -49,18 +53,18 @@ impl Channel {
             stream: None,
             ahead: VecDeque::new(alloc),
             exchange: Exchange::Opened,
-            is_ending,
+            shutdown_flag,
         })
     }
 
     /// What wakes the thread.
-    pub(crate) fn bell(&self) -> io::Result<Arc<Waker>> {
-        Ok(Arc::new(self.alloc, Waker::new(self.poll.registry(), BELL)?)?)
+    pub(crate) fn waker(&self) -> io::Result<Arc<Waker>> {
+        Ok(Arc::new(self.alloc, Waker::new(self.poll.registry(), WAKER)?)?)
     }
 
     /// Whether all is to end.
-    pub(crate) fn is_ending(&self) -> bool {
-        self.is_ending.is_asked()
+    pub(crate) fn shutdown_flag(&self) -> bool {
+        self.shutdown_flag.is_asked()
     }
 
     /// How far the exchange over the connection has come.
@@ -68,7 +72,7 @@ impl Channel {
         self.exchange
     }
 
-    /// Waits for so long, or less where the bell is rung.
+    /// Waits for so long, or less where it is woken.
     pub(crate) fn pause(&mut self, pause: Duration) {
         let _ = self.poll.poll(&mut self.events, Some(pause));
     }
@@ -103,7 +107,7 @@ impl Channel {
     fn wait_for_stream(&mut self) -> io::Result<()> {
         for _waited in 0..u64::MAX {
             self.poll.poll(&mut self.events, None)?;
-            if self.is_ending() {
+            if self.shutdown_flag() {
                 return Err(ErrorKind::Interrupted.into());
             }
             for event in &self.events {
@@ -115,7 +119,7 @@ impl Channel {
         Ok(())
     }
 
-    // Waits until something is told of the connection, or the bell is rung.
+    // Waits until something is told of the connection, or it is woken.
     fn wait(&mut self) -> io::Result<()> {
         self.poll.poll(&mut self.events, None)
     }
@@ -154,11 +158,11 @@ impl Channel {
         }
     }
 
-    /// Reads what came. Where nothing has, it waits until something comes, or the bell is rung.
+    /// Reads what came. Where nothing has, it waits until something comes, or it is woken.
     pub(crate) fn read(&mut self, buf: &mut [u8]) -> io::Result<usize>
         ensures bound { ReadsAtMost result buf.new }
     {
-        if self.is_ending() {
+        if self.shutdown_flag() {
             return Ok(0);
         }
         if !self.ahead.is_empty() {
@@ -180,7 +184,7 @@ impl Channel {
         let Some(stream) = &self.stream else {
             return Err(ErrorKind::NotConnected.into());
         };
-        if self.is_ending() {
+        if self.shutdown_flag() {
             return Err(ErrorKind::BrokenPipe.into());
         }
         match (&mut &*stream).write(buf) {

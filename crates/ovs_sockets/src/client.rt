@@ -1,6 +1,6 @@
 //! A reader's connection.
 
-use crate::ending::IsEnding;
+use crate::shutdown::ShutdownFlag;
 use crate::timed_out::has_timed_out;
 use mio::net::TcpStream;
 use std::io::{self, ErrorKind, Read, Write};
@@ -10,18 +10,21 @@ use std::sync::Arc;
 #[derive(Drop)]
 pub struct Half {
     stream: Arc<TcpStream>,
-    is_ending: IsEnding,
+    shutdown_flag: ShutdownFlag,
 }
 
 impl Half {
-    pub(crate) fn new(stream: Arc<TcpStream>, is_ending: IsEnding) -> Half {
-        Half { stream, is_ending }
+    pub(crate) fn new(stream: Arc<TcpStream>, shutdown_flag: ShutdownFlag) -> Half {
+        Half {
+            stream,
+            shutdown_flag,
+        }
     }
 }
 
 impl Read for Half {
     fn read(&mut self, buf: &mut [u8]) -> io::Result<usize> {
-        if self.is_ending.is_asked() {
+        if self.shutdown_flag.is_asked() {
             return Ok(0);
         }
         match (&*self.stream).read(buf) {
@@ -33,7 +36,7 @@ impl Read for Half {
 
 impl Write for Half {
     fn write(&mut self, buf: &[u8]) -> io::Result<usize> {
-        if self.is_ending.is_asked() {
+        if self.shutdown_flag.is_asked() {
             return Err(ErrorKind::BrokenPipe.into());
         }
         match (&*self.stream).write(buf) {

@@ -1,22 +1,22 @@
-//! Sockets as the threads of a node use them: the doors at which readers come in, connections with an upstream, and bells.
+//! Sockets as the threads of a node use them: what a worker waits with, connections with an upstream, and what wakes a thread.
 #![tactic(auto)]
 
 mod allowance;
-mod bell;
 mod channel;
 mod client;
-mod crowd;
-mod doors;
-mod ending;
 mod exchange;
 mod listening;
 mod pause;
+mod poller;
+mod shutdown;
 mod timed_out;
 mod upward;
+mod waker;
+mod worker_group;
 
-pub use bell::SocketBell;
 pub use client::Half;
-pub use doors::SocketDoors;
-pub use ending::{Ending, IsEnding};
 pub use listening::Listening;
+pub use poller::SocketPoller;
+pub use shutdown::{Shutdown, ShutdownFlag};
 pub use upward::{FromUpstream, ToUpstream, Upward};
+pub use waker::SocketWaker;

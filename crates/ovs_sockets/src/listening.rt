@@ -1,11 +1,11 @@
 //! Where readers connect.
 
 ghost use Rattle.std.specs.Prelude.{◌≡◌, ℕ, [], None, IfOk};
-ghost use Rattle.ovs_hall.specs.Connections.{out_of};
+ghost use Rattle.ovs_worker.specs.Connections.{out_of};
 
-use crate::crowd::Crowd;
-use crate::doors::SocketDoors;
-use crate::ending::IsEnding;
+use crate::poller::SocketPoller;
+use crate::shutdown::ShutdownFlag;
+use crate::worker_group::WorkerGroup;
 use log::Log;
 use std::alloc::Global;
 use std::io;
@@ -16,7 +16,7 @@ use std::sync::Arc;
 #[derive(Drop)]
 pub struct Listening {
     listener: TcpListener,
-    crowd: Arc<Crowd>,
+    worker_group: Arc<WorkerGroup>,
 }
 
 impl Listening {
@@ -29,7 +29,7 @@ impl Listening {
         let listener = mio::net::TcpListener::bind(net, address)?;
         Ok(Listening {
             listener: TcpListener::from(listener),
-            crowd: Arc::new(alloc, Crowd::new())?,
+            worker_group: Arc::new(alloc, WorkerGroup::new())?,
         })
     }
 
@@ -41,30 +41,30 @@ impl Listening {
         self.listener.local_addr()
     }
 
-    /// Doors for the worker of this number, which takes so many of the connections at most, or any number.
+    /// What the worker of this number waits with, which takes so many of the connections at most, or any number.
     ///
     /// # Errors
     /// The system's; memory ran out.
-    pub fn doors<R: Net + Log + Drop>(
+    pub fn poller<R: Net + Log + Drop>(
         &self,
         rt: R,
         alloc: Global,
         worker: usize,
         accepts: Option<u32>,
-        is_ending: &IsEnding,
-    ) -> io::Result<SocketDoors<R>>
-        ensures count { IfOk result (λ doors. doors.accepts_left ≡ accepts) }
-        ensures none { IfOk result (λ doors. (key : ℕ) → out_of doors.connections key ≡ None) }
-        ensures unback { IfOk result (λ doors. doors.connections.back ≡ []) }
+        shutdown_flag: &ShutdownFlag,
+    ) -> io::Result<SocketPoller<R>>
+        ensures count { IfOk result (λ poller. poller.accepts_left ≡ accepts) }
+        ensures none { IfOk result (λ poller. (key : ℕ) → out_of poller.connections key ≡ None) }
+        ensures unback { IfOk result (λ poller. poller.connections.back ≡ []) }
     {
-        SocketDoors::new(
+        SocketPoller::new(
             rt,
             alloc,
             worker,
             self.listener.try_clone()?,
-            self.crowd.clone()?,
+            self.worker_group.clone()?,
             accepts,
-            is_ending.again()?,
+            shutdown_flag.again()?,
         )
     }
 }

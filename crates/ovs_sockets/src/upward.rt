@@ -4,10 +4,10 @@ ghost use Rattle.std.specs.Prelude.{◌≡◌, true, false, Some, IfOk};
 ghost use Rattle.ovs_sockets.specs.Allowance.{IsOneLess, IsNoMore};
 
 use crate::allowance::one_less;
-use crate::bell::SocketBell;
 use crate::channel::Channel;
-use crate::ending::IsEnding;
 use crate::pause::Pause;
+use crate::shutdown::ShutdownFlag;
+use crate::waker::SocketWaker;
 use log::{Log, info};
 use ovs_session::Ended;
 use std::alloc::Global;
@@ -30,20 +30,20 @@ pub struct Upward<R: Net + Log + Drop> {
     channel: Arc<Mutex<Channel>>,
 }
 
-/// What comes from an upstream. A read waits until something comes, or the thread's bell is rung.
+/// What comes from an upstream. A read waits until something comes, or the thread is woken.
 #[derive(Drop)]
 pub struct FromUpstream {
     channel: Arc<Mutex<Channel>>,
 }
 
-/// What goes to an upstream. A write waits until something can go, or the thread's bell is rung.
+/// What goes to an upstream. A write waits until something can go, or the thread is woken.
 #[derive(Drop)]
 pub struct ToUpstream {
     channel: Arc<Mutex<Channel>>,
 }
 
 impl<R: Net + Log + Drop> Upward<R> {
-    /// So many connections at most, or any number, with the bell of the thread that has them.
+    /// So many connections at most, or any number, with what wakes the thread that has them.
     ///
     /// # Errors
     /// The system's; memory ran out.
@@ -52,12 +52,12 @@ impl<R: Net + Log + Drop> Upward<R> {
         alloc: Global,
         address: SocketAddr,
         tries: Option<u32>,
-        is_ending: &IsEnding,
-    ) -> io::Result<(Upward<R>, SocketBell)>
+        shutdown_flag: &ShutdownFlag,
+    ) -> io::Result<(Upward<R>, SocketWaker)>
         ensures count { IfOk result (λ made. made.0.tries_left ≡ tries) }
     {
-        let channel = Channel::new(&rt, alloc, is_ending.again()?)?;
-        let bell = channel.bell()?;
+        let channel = Channel::new(&rt, alloc, shutdown_flag.again()?)?;
+        let waker = channel.waker()?;
         let upward = Upward {
             rt,
             address,
@@ -67,7 +67,7 @@ impl<R: Net + Log + Drop> Upward<R> {
             pause: Pause::new(),
             channel: Arc::new(alloc, Mutex::new(channel))?,
         };
-        Ok((upward, SocketBell::new(bell)))
+        Ok((upward, SocketWaker::new(waker)))
     }
 
     /// Whether there is to be another; the one before is let go, and then it waits a while.
@@ -80,7 +80,7 @@ impl<R: Net + Log + Drop> Upward<R> {
             return false;
         };
         channel.close();
-        if self.tries_left == Some(0) || channel.is_ending() {
+        if self.tries_left == Some(0) || channel.shutdown_flag() {
             return false;
         }
         self.tries_left = one_less(self.tries_left);
@@ -88,7 +88,7 @@ impl<R: Net + Log + Drop> Upward<R> {
             channel.pause(self.pause.take());
         }
         self.has_tried = true;
-        !channel.is_ending()
+        !channel.shutdown_flag()
     }
 
     /// The connection. `None` where it can't be had now.

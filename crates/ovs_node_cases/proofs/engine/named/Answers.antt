@@ -1,6 +1,6 @@
 use Rattle.std.proofs.Common.{sym, subst}
 use Rattle.std.specs.List.{AllByRecursion}
-use Rattle.ovs_folder.proofs.Ends.{IsUnsent, fresh_ends_are_unsent}
+use Rattle.ovs_node.proofs.Ends.{IsUnsent, fresh_ends_are_unsent}
 use Rattle.ovs_node_cases.proofs.engine.named.Goals as goal
 
 pub run-requires-clause-unsent : goal.run-requires-clause-unsent

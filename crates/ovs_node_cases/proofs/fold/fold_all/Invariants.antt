@@ -1,4 +1,4 @@
-use Rattle.ovs_folder.specs.Nodes.{NodeInStep}
+use Rattle.ovs_node.specs.Nodes.{NodeInStep}
 use Rattle.ovs_node_cases.proofs.fold.fold_all.Given as goal
 
 abbrev pub invariant-loop : goal.invariant-loop

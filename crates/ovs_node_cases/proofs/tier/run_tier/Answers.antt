@@ -1,11 +1,11 @@
 use denote.Exit.{yes}
 use denote.Param.Send.{arg_send, param_send}
-use Rattle.ovs_tier.proofs.Sending.{relay_sends, source_node_sends}
+use Rattle.ovs_server.proofs.Sending.{node_server_sends}
 use Rattle.ovs_node_cases.proofs.Sending.{logged_sends}
 use Rattle.ovs_node_cases.proofs.tier.run_tier.Goals as goal
 
 pub beside-of_source-requires-send-S : goal.beside-of_source-requires-send-S
-beside-of_source-requires-send-S g c κs within = param_send 1 _ (arg_send _ yes _ (source_node_sends _ _ _ _ _ _ _ _ (logged_sends _ c.type_bounds.send-R)))
+beside-of_source-requires-send-S g c κs within = param_send 1 _ (arg_send _ yes _ (node_server_sends _ _ _ _ _ _ _ _ (logged_sends _ c.type_bounds.send-R)))
 
 pub beside-of_source-requires-send-N : goal.beside-of_source-requires-send-N
-beside-of_source-requires-send-N g c κs within = param_send 2 _ (arg_send _ yes _ (relay_sends _ _ _ _ _ _ _ _ (logged_sends _ c.type_bounds.send-R)))
+beside-of_source-requires-send-N g c κs within = param_send 2 _ (arg_send _ yes _ (node_server_sends _ _ _ _ _ _ _ _ (logged_sends _ c.type_bounds.send-R)))

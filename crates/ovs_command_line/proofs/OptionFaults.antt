@@ -1,0 +1,142 @@
+-- Where what stands behind options can be read, nothing is off with them.
+use Rattle.std.proofs.Common.{◌≡◌, ◌≢◌, ◌∙◌, ℕ, zero, suc, ap, sym, subst, refl, arith, List, [], ◌∷◌, Option, Some, None, length, codes, inl, inr, ◌⊎◌, true, false, true≢false}
+use Rattle.std.specs.Prelude.{slice_get, Contains, option_map, option_and_then, find, string_bytes, bytes_eq}
+use Rattle.std.proofs.lemmas.Option.{slice_get_within}
+use Rattle.std.specs.List.{AllZip}
+use Rattle.std.specs.Option.{unwrap_or}
+use Rattle.clap.specs.Words.{Row, Text, first_of}
+use Rattle.std.specs.declared.net.socket_addr.SocketAddr.{SocketAddr}
+use Rattle.ovs_command_line.specs.declared.command_option.CommandOption.{CommandOption}
+use Rattle.ovs_command_line.specs.declared.command_option.CommandOption.TheVariants.{Schema, Listen, Upstream, FirstId, FirstRow, TrimEvery, Accepts, Tries}
+use Rattle.ovs_command_line.specs.declared.command_fault.CommandFault.{CommandFault}
+use Rattle.ovs_command_line.specs.declared.command_fault.CommandFault.TheVariants.{Usage, Missing, BadValue, OneTooMany, OwnAddress, NoMemory}
+use Rattle.ovs_command_line.specs.Values.{SpellsAddress, SpellsCommit, SpellsRow, SpellsCount, SpellsNone}
+use Rattle.ovs_command_line.specs.Options.{is_count, word_of, words_of, Gives, SpellsIfGiven}
+use Rattle.ovs_command_line.specs.CommandLine.{Found, HasCommand}
+use Rattle.ovs_command_line.specs.Faults.{is_of_source, IsReadable, IsNoValue, StandsBehind, IsFaultOf, IsFaultOfSource, IsFaultOfRelay, IsFoundReadable, IsNoValueOf, HasOptionFault}
+
+-- the fault of a number
+pub count_fault : (option : CommandOption) (rows : List Row) (word : Text) → is_count option ≡ true → word_of option rows ≡ Some word → SpellsNone SpellsCount word
+    → (fault : CommandFault) → IsNoValueOf option word fault → IsFaultOf option rows fault
+count_fault option rows word is at none (Usage line) made = absurd (let no : Usage line ≡ NoMemory = made in cc)
+count_fault option rows word is at none (Missing o) made = absurd (let no : Missing o ≡ NoMemory = made in cc)
+count_fault option rows word is at none (OneTooMany w) made = absurd (let no : OneTooMany w ≡ NoMemory = made in cc)
+count_fault option rows word is at none (OwnAddress a) made = absurd (let no : OwnAddress a ≡ NoMemory = made in cc)
+count_fault option rows word is at none NoMemory made = tt
+count_fault TrimEvery rows word is at none (BadValue o w) made = (made.0, at ∙ ap Some (sym made.1), subst (SpellsNone SpellsCount) (sym made.1) none)
+count_fault Accepts rows word is at none (BadValue o w) made = (made.0, at ∙ ap Some (sym made.1), subst (SpellsNone SpellsCount) (sym made.1) none)
+count_fault Tries rows word is at none (BadValue o w) made = (made.0, at ∙ ap Some (sym made.1), subst (SpellsNone SpellsCount) (sym made.1) none)
+count_fault Schema rows word is at none (BadValue o w) made = absurd (true≢false (sym is))
+count_fault Listen rows word is at none (BadValue o w) made = absurd (true≢false (sym is))
+count_fault Upstream rows word is at none (BadValue o w) made = absurd (true≢false (sym is))
+count_fault FirstId rows word is at none (BadValue o w) made = absurd (true≢false (sym is))
+count_fault FirstRow rows word is at none (BadValue o w) made = absurd (true≢false (sym is))
+
+-- two words behind an option are the same
+same_word : (o : Option Text) (v w : Text) → o ≡ Some v → o ≡ Some w → v ≡ w
+same_word o v w is_v is_w = let same : Some v ≡ Some w = sym is_v ∙ is_w in cc
+
+no_word : {X : Type 0} (o : Option X) (w : X) → o ≡ Some w → o ≡ None → ⊥
+no_word o w is none = let no : Some w ≡ None = sym is ∙ none in cc
+
+-- an option with a word that spells a value
+given_alone : {A : Type 0} (Spells : Text → A → Type 0) (option : CommandOption) (rows : List Row) (value : A) → Gives Spells option rows value
+    → (word : Text) → word_of option rows ≡ Some word → ¬ (SpellsNone Spells word)
+given_alone Spells option rows value gives word is none =
+    none value (subst (λ w. Spells w value) (same_word (word_of option rows) gives.0 word gives.1 is) gives.2)
+
+counted_if_given : (o : Option Text) (n : Option ℕ) → SpellsIfGiven o n → (word : Text) → o ≡ Some word → ¬ (SpellsNone SpellsCount word)
+counted_if_given None n counts word is none = let no : None ≡ Some word = is in cc
+counted_if_given (Some w) n counts word is none =
+    let same : w ≡ word = (let some : Some w ≡ Some word = is in cc) in none counts.0 (subst (λ v. SpellsCount v counts.0) same counts.2)
+
+-- each of several words spells a value
+each_spells : {A : Type 0} (Spells : Text → A → Type 0) (words : List Text) (values : List A) → AllZip Spells words values
+    → (word : Text) → Contains words word → ¬ (SpellsNone Spells word)
+each_spells Spells [] values each word (k, lt, at) none = absurd (omega arith)
+each_spells Spells (w ∷ ws) [] each word among none = absurd each
+each_spells Spells (w ∷ ws) (v ∷ vs) each word (zero, lt, at) none = none v (subst (λ x. Spells x v) at each.0)
+each_spells Spells (w ∷ ws) (v ∷ vs) each word (suc k, lt, at) none = each_spells Spells ws vs each.1 word (k, omega arith, at) none
+
+-- as many words as values
+as_many : {A : Type 0} (Spells : Text → A → Type 0) (words : List Text) (values : List A) → AllZip Spells words values → length words ≡ length values
+as_many Spells [] [] each = refl
+as_many Spells [] (v ∷ vs) each = absurd each
+as_many Spells (w ∷ ws) [] each = absurd each
+as_many Spells (w ∷ ws) (v ∷ vs) each = ap suc (as_many Spells ws vs each.1)
+
+-- no first word, no words
+no_first : (rows : List Row) → first_of (codes "upstream") rows ≡ None → length (words_of Upstream rows) ≡ 0
+no_first rows none = by_row (find (λ (r : Row). bytes_eq r.id (codes "upstream")) rows) none
+  where
+    by_row : (r : Option Row) → option_and_then (λ (r : Row). slice_get r.values 0) r ≡ None → length (unwrap_or (option_map (λ (r : Row). r.values) r) []) ≡ 0
+    by_row None none = refl
+    by_row (Some r) none = by_values r.values none
+      where
+        by_values : (values : List Text) → slice_get values 0 ≡ None → length values ≡ 0
+        by_values [] none = refl
+        by_values (v ∷ vs) none = absurd (let no : Some v ≡ None = none in cc)
+
+-- where an option that has to be there can be read, it is there
+is_there : (option : CommandOption) (rows : List Row) → is_count option ≡ false → IsReadable option rows → word_of option rows ≢ None
+is_there Schema rows needed readable none = no_word _ readable.0 readable.1 none
+is_there Listen rows needed readable none = no_word _ readable.1.0 readable.1.1 none
+is_there FirstId rows needed readable none = no_word _ readable.1.0 readable.1.1 none
+is_there FirstRow rows needed readable none = no_word _ readable.1.0 readable.1.1 none
+is_there TrimEvery rows needed readable none = absurd (true≢false needed)
+is_there Accepts rows needed readable none = absurd (true≢false needed)
+is_there Tries rows needed readable none = absurd (true≢false needed)
+is_there Upstream rows needed readable none =
+    let few = as_many SpellsAddress (words_of Upstream rows) readable.0 readable.1.0 in
+    let least = readable.1.1 in
+    let no_words = no_first rows none in
+    absurd (omega arith)
+
+-- and the words behind it are values of it
+is_value : (option : CommandOption) (rows : List Row) → IsReadable option rows → (word : Text) → StandsBehind option rows word → ¬ (IsNoValue option word)
+is_value Schema rows readable word behind none = none
+is_value Listen rows readable word behind none = given_alone SpellsAddress Listen rows readable.0 readable.1 word behind none
+is_value Upstream rows readable word behind none = each_spells SpellsAddress (words_of Upstream rows) readable.0 readable.1.0 word behind none
+is_value FirstId rows readable word behind none = given_alone SpellsCommit FirstId rows readable.0 readable.1 word behind none
+is_value FirstRow rows readable word behind none = given_alone SpellsRow FirstRow rows readable.0 readable.1 word behind none
+is_value TrimEvery rows readable word behind none = counted_if_given (word_of TrimEvery rows) readable.0 readable.1 word behind none
+is_value Accepts rows readable word behind none = counted_if_given (word_of Accepts rows) readable.0 readable.1 word behind none
+is_value Tries rows readable word behind none = counted_if_given (word_of Tries rows) readable.0 readable.1 word behind none
+
+-- and no upstream is the fifth
+no_fifth : (rows : List Row) → IsReadable Upstream rows → (word : Text) → slice_get (words_of Upstream rows) 4 ≢ Some word
+no_fifth rows readable word fifth =
+    let few = as_many SpellsAddress (words_of Upstream rows) readable.0 readable.1.0 in
+    let most = readable.1.2 in
+    let within = slice_get_within (words_of Upstream rows) 4 word fifth in
+    absurd (omega arith)
+
+-- so nothing is off with it, where no upstream is the relay's own address
+pub no_fault : (option : CommandOption) (rows : List Row) (fault : CommandFault) → ((a : SocketAddr) → ¬ (IsFaultOf option rows (OwnAddress a)))
+    → IsReadable option rows → IsFaultOf option rows fault → fault ≡ NoMemory
+no_fault option rows (Usage line) apart readable off = absurd off
+no_fault option rows (Missing o) apart readable off = absurd (is_there option rows off.1 readable off.2)
+no_fault option rows (BadValue o word) apart readable off = absurd (is_value option rows readable (string_bytes word) off.1 off.2)
+no_fault option rows (OneTooMany word) apart readable off = absurd (no_fifth rows (subst (λ o. IsReadable o rows) off.0 readable) (string_bytes word) off.1)
+no_fault option rows (OwnAddress a) apart readable off = absurd (apart a off)
+no_fault option rows NoMemory apart readable off = refl
+
+-- a source has no upstream
+no_upstream : (option : CommandOption) → is_of_source option ≡ true → option ≢ Upstream
+no_upstream option is upstream = absurd (true≢false (sym is ∙ ap is_of_source upstream))
+
+of_command : (found : Found) (fault : CommandFault) → IsFoundReadable found
+    → HasCommand (codes "source") (λ rows. IsFaultOfSource rows fault) found ⊎ HasCommand (codes "relay") (λ rows. IsFaultOfRelay rows fault) found → fault ≡ NoMemory
+of_command found fault readable (inl off) =
+    no_fault off.2.0 off.0 fault (λ a own. no_upstream off.2.0 off.2.1 own.0) (readable.0 off.0 off.1 off.2.0 off.2.1) off.2.2
+of_command found fault readable (inr off) =
+    no_fault off.2.0 off.0 fault (λ a own. readable.2 off.0 off.1 a own.1) (readable.1 off.0 off.1 off.2.0 off.2.1) off.2.2
+
+-- the same of what is found of a command
+pub no_option_fault : (found : Found) (fault : CommandFault) → IsFoundReadable found → HasOptionFault found fault → fault ≡ NoMemory
+no_option_fault found NoMemory readable off = refl
+no_option_fault found (Usage line) readable off = of_command found (Usage line) readable off
+no_option_fault found (Missing o) readable off = of_command found (Missing o) readable off
+no_option_fault found (BadValue o word) readable off = of_command found (BadValue o word) readable off
+no_option_fault found (OneTooMany word) readable off = of_command found (OneTooMany word) readable off
+no_option_fault found (OwnAddress a) readable off = of_command found (OwnAddress a) readable off

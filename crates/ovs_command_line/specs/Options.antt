@@ -1,0 +1,82 @@
+-- The options of `source` and `relay`, and what the words behind them give.
+use Rattle.std.specs.Prelude.{◌≡◌, ◌≢◌, ℕ, ◌≤◌, List, All, [], length, Option, Some, None, Bool, true, false, codes, bytes_eq, string_bytes}
+use Rattle.std.specs.List.{AllZip}
+use Rattle.std.specs.Option.{option_map_or, unwrap_or}
+use Rattle.std.specs.declared.net.socket_addr.SocketAddr.{SocketAddr}
+use Rattle.clap.specs.Words.{Row, Text, first_of, all_of}
+use Rattle.ovs_command_line.specs.declared.command_option.CommandOption.{CommandOption}
+use Rattle.ovs_command_line.specs.declared.command_option.CommandOption.TheVariants.{Schema, Listen, Upstream, FirstId, FirstRow, TrimEvery, Accepts, Tries}
+use Rattle.ovs_command_line.specs.declared.options.SourceOptions.{SourceOptions}
+use Rattle.ovs_command_line.specs.declared.options.RelayOptions.{RelayOptions}
+use Rattle.ovs_command_line.specs.Values.{SpellsAddress, SpellsCommit, SpellsRow, SpellsCount}
+
+abbrev pub option_name : CommandOption → Text
+option_name Schema = codes "schema"
+option_name Listen = codes "listen"
+option_name Upstream = codes "upstream"
+option_name FirstId = codes "first-id"
+option_name FirstRow = codes "first-row"
+option_name TrimEvery = codes "trim-every"
+option_name Accepts = codes "accepts"
+option_name Tries = codes "tries"
+
+-- it has a number behind it
+abbrev pub is_count : CommandOption → Bool
+is_count TrimEvery = true
+is_count Accepts = true
+is_count Tries = true
+is_count _ = false
+
+-- ---- in what `clap` finds of a command
+
+-- the word behind an option, if it has one
+abbrev pub word_of : CommandOption → List Row → Option Text
+word_of option rows = first_of (option_name option) rows
+
+-- the words behind all of an option's uses, in their order
+abbrev pub words_of : CommandOption → List Row → List Text
+words_of option rows = unwrap_or (all_of (option_name option) rows) []
+
+-- a flag is there
+abbrev pub has_flag : Text → List Row → Bool
+has_flag flag rows = option_map_or (λ word. bytes_eq word (codes "true")) (first_of flag rows) false
+
+-- the word behind an option, which has to be there, spells this value
+abbrev pub Gives : {A : Type 0} → (Text → A → Type 0) → CommandOption → List Row → A → Type 0
+Gives Spells option rows value = (word : Text) × (word_of option rows ≡ Some word) × Spells word value
+
+-- the number that the word behind an option spells, or none where it isn't there
+abbrev pub SpellsIfGiven : Option Text → Option ℕ → Type 0
+SpellsIfGiven None n = n ≡ None
+SpellsIfGiven (Some word) n = (count : ℕ) × (n ≡ Some count) × SpellsCount word count
+
+abbrev pub CountsIfGiven : CommandOption → List Row → Option ℕ → Type 0
+CountsIfGiven option rows n = SpellsIfGiven (word_of option rows) n
+
+-- ---- what is asked of each command
+
+-- what `source` is given
+pub record GiveSource (rows : List Row) (o : SourceOptions) : Type 0 where
+  pub schema : word_of Schema rows ≡ Some (string_bytes o.schema)
+  pub listen : Gives SpellsAddress Listen rows o.listen
+  pub first_id : Gives SpellsCommit FirstId rows o.first_id
+  pub first_row : Gives SpellsRow FirstRow rows o.first_row
+  pub trim_every : CountsIfGiven TrimEvery rows o.trim_every
+  pub accepts : CountsIfGiven Accepts rows o.accepts
+  pub verbose : o.verbose ≡ has_flag (codes "verbose") rows
+
+-- one to four addresses, in the order of the words
+abbrev pub AreUpstreams : List Row → List SocketAddr → Type 0
+AreUpstreams rows upstreams = AllZip SpellsAddress (words_of Upstream rows) upstreams × (1 ≤ length upstreams) × (length upstreams ≤ 4)
+
+-- what `relay` is given
+pub record GiveRelay (rows : List Row) (o : RelayOptions) : Type 0 where
+  pub schema : word_of Schema rows ≡ Some (string_bytes o.schema)
+  pub listen : Gives SpellsAddress Listen rows o.listen
+  pub upstreams : AreUpstreams rows o.upstreams.items
+  pub others : All (λ upstream. upstream ≢ o.listen) o.upstreams.items
+  pub accepts : CountsIfGiven Accepts rows o.accepts
+  pub tries : CountsIfGiven Tries rows o.tries
+  pub verbose : o.verbose ≡ has_flag (codes "verbose") rows
+  pub end_on_refusal : o.end_on_refusal ≡ has_flag (codes "end-on-refusal") rows
+  pub prunes : o.prunes ≡ has_flag (codes "prune") rows

@@ -1,0 +1,79 @@
+//! The options that have a word behind them, of the commands `source` and `relay`.
+
+ghost use Rattle.std.specs.Prelude.{◌≡◌};
+ghost use Rattle.ovs_command_line.specs.Options.{option_name};
+
+use std::fmt;
+use std::fmt::{Display, Formatter};
+
+/// An option of `source` or `relay` with a word behind it. It is shown as `--listen <ADDR>`.
+#[derive(Clone, Copy, Debug, PartialEq, Eq)]
+pub enum CommandOption {
+    /// The file whose first line is the schema.
+    Schema,
+    /// Where connections are taken.
+    Listen,
+    /// An upstream of a relay, of which it has one to four.
+    Upstream,
+    /// The id of a source's first commit.
+    FirstId,
+    /// The id of the first row that a source inserts.
+    FirstRow,
+    /// After how many links of one epoch a source begins the next.
+    TrimEvery,
+    /// How many connections each thread of readers takes at most.
+    Accepts,
+    /// How many connections each thread of an upstream tries at most.
+    Tries,
+}
+
+impl CommandOption {
+    // Its name, without the hyphens before it.
+    pub(crate) fn name(self) -> &'static str
+        ensures value { result.now ≡ option_name self }
+    {
+        match self {
+            CommandOption::Schema => "schema",
+            CommandOption::Listen => "listen",
+            CommandOption::Upstream => "upstream",
+            CommandOption::FirstId => "first-id",
+            CommandOption::FirstRow => "first-row",
+            CommandOption::TrimEvery => "trim-every",
+            CommandOption::Accepts => "accepts",
+            CommandOption::Tries => "tries",
+        }
+    }
+
+    // What help calls the word behind it.
+    pub(crate) fn word_name(self) -> &'static str {
+        match self {
+            CommandOption::Schema => "FILE",
+            CommandOption::Listen | CommandOption::Upstream => "ADDR",
+            CommandOption::FirstId | CommandOption::FirstRow => "ID",
+            CommandOption::TrimEvery | CommandOption::Accepts | CommandOption::Tries => "N",
+        }
+    }
+
+    // What the word behind it has to be.
+    pub(crate) fn wanted(self) -> &'static str {
+        match self {
+            CommandOption::Schema => "a file",
+            CommandOption::Listen | CommandOption::Upstream => {
+                "a loopback address and a port, as 127.0.0.1:6640 or [::1]:6640"
+            }
+            CommandOption::FirstId => {
+                "a commit's id, 36 characters with 32 hexadecimal digits, of which the first 16 aren't all 0"
+            }
+            CommandOption::FirstRow => "a row's id, 36 characters with 32 hexadecimal digits",
+            CommandOption::TrimEvery | CommandOption::Accepts | CommandOption::Tries => {
+                "a number from 1 to 1000000"
+            }
+        }
+    }
+}
+
+impl Display for CommandOption {
+    fn fmt<W: fmt::Write>(&self, f: &mut Formatter<W>) -> fmt::Result {
+        write!(f, "--{} <{}>", self.name(), self.word_name())
+    }
+}

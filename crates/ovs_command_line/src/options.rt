@@ -1,0 +1,195 @@
+//! What the commands `source` and `relay` are given.
+
+ghost use Rattle.std.specs.Prelude.{◌≡◌, false, Some, IfOk, IfErr, IsTrue, string_bytes};
+ghost use Rattle.clap.specs.Words.{found_of, rows_of};
+ghost use Rattle.ovs_command_line.specs.declared.command_option.CommandOption.TheVariants as options;
+ghost use Rattle.ovs_command_line.specs.Options.{is_count, word_of, has_flag, Gives, CountsIfGiven, GiveSource, GiveRelay};
+ghost use Rattle.ovs_command_line.specs.Values.{SpellsAddress, SpellsCommit, SpellsRow};
+ghost use Rattle.ovs_command_line.specs.Faults.{IsFaultOf, IsFaultOfSource, IsFaultOfRelay, IsNoValueOf};
+
+use crate::command_fault::CommandFault;
+use crate::command_option::CommandOption;
+use crate::upstreams::other_upstreams_of;
+use crate::values::{read_address, read_commit, read_count, read_row};
+use clap::ArgMatches;
+use ovs_data::{RowId, TxnId};
+use std::alloc::Global;
+use std::net::SocketAddr;
+
+/// What the command `source` is given.
+#[derive(Debug, Drop)]
+pub struct SourceOptions {
+    /// The file whose first line is the schema.
+    pub schema: String,
+    /// Where connections are taken, a loopback address.
+    pub listen: SocketAddr,
+    /// The id of the first commit, which is no start id.
+    pub first_id: TxnId,
+    /// The id of the first row that is inserted.
+    pub first_row: RowId,
+    /// After how many links of one epoch it begins the next, 1 to 1,000,000; none where it has one epoch alone.
+    pub trim_every: Option<u32>,
+    /// How many connections each thread of readers takes, 1 to 1,000,000; none where it takes any number.
+    pub accepts: Option<u32>,
+    /// Whether to tell what happens.
+    pub verbose: bool,
+}
+
+/// What the command `relay` is given.
+#[derive(Debug, Drop)]
+pub struct RelayOptions {
+    /// The file whose first line is the schema.
+    pub schema: String,
+    /// Where connections are taken, a loopback address.
+    pub listen: SocketAddr,
+    /// One to four upstreams at loopback addresses, none of which is where connections are taken, in the order in which they were
+    /// given.
+    pub upstreams: Vec<SocketAddr>,
+    /// How many connections each thread of readers takes, 1 to 1,000,000; none where it takes any number.
+    pub accepts: Option<u32>,
+    /// How many connections each thread of an upstream tries, 1 to 1,000,000; none where it tries any number.
+    pub tries: Option<u32>,
+    /// Whether to tell what happens.
+    pub verbose: bool,
+    /// Whether the program ends once something that an upstream sends is refused.
+    pub end_on_refusal: bool,
+    /// Whether links of older epochs are dropped once a newer one is shown.
+    pub prunes: bool,
+}
+
+// The word behind an option that has to be there.
+fn needed<'a>(found: &ArgMatches<'a>, option: CommandOption) -> Result<&'a str, CommandFault>
+    requires needed { is_count option ≡ false }
+    ensures value { IfOk result (λ word. word_of option (rows_of (found_of found.now)) ≡ Some word.now) }
+    ensures fault { IfErr result (IsFaultOf option (rows_of (found_of found.now))) }
+{
+    match found.get_str(option.name()) {
+        Some(word) => Ok(word),
+        None => Err(CommandFault::Missing(option)),
+    }
+}
+
+/// The fault of a word that is no value of its option.
+pub(crate) fn no_value(alloc: Global, option: CommandOption, word: &str) -> CommandFault
+    ensures value { IsNoValueOf option word.now result }
+{
+    match String::from_str(alloc, word) {
+        Ok(word) => CommandFault::BadValue { option, word },
+        Err(_) => CommandFault::NoMemory,
+    }
+}
+
+// The file with the schema.
+fn schema_of(alloc: Global, found: &ArgMatches<'_>) -> Result<String, CommandFault>
+    ensures value { IfOk result (λ file. word_of options.Schema (rows_of (found_of found.now)) ≡ Some (string_bytes file)) }
+    ensures fault { IfErr result (IsFaultOf options.Schema (rows_of (found_of found.now))) }
+{
+    let word = needed(found, CommandOption::Schema)?;
+    Ok(String::from_str(alloc, word)?)
+}
+
+// The address to listen at.
+fn listen_of(alloc: Global, found: &ArgMatches<'_>) -> Result<SocketAddr, CommandFault>
+    ensures value { IfOk result (Gives SpellsAddress options.Listen (rows_of (found_of found.now))) }
+    ensures fault { IfErr result (IsFaultOf options.Listen (rows_of (found_of found.now))) }
+{
+    let word = needed(found, CommandOption::Listen)?;
+    match read_address(word) {
+        Some(address) => Ok(address),
+        None => Err(no_value(alloc, CommandOption::Listen, word)),
+    }
+}
+
+// The first commit's id.
+fn first_id_of(alloc: Global, found: &ArgMatches<'_>) -> Result<TxnId, CommandFault>
+    ensures value { IfOk result (Gives SpellsCommit options.FirstId (rows_of (found_of found.now))) }
+    ensures fault { IfErr result (IsFaultOf options.FirstId (rows_of (found_of found.now))) }
+{
+    let word = needed(found, CommandOption::FirstId)?;
+    match read_commit(word) {
+        Some(id) => Ok(id),
+        None => Err(no_value(alloc, CommandOption::FirstId, word)),
+    }
+}
+
+// The first row's id.
+fn first_row_of(alloc: Global, found: &ArgMatches<'_>) -> Result<RowId, CommandFault>
+    ensures value { IfOk result (Gives SpellsRow options.FirstRow (rows_of (found_of found.now))) }
+    ensures fault { IfErr result (IsFaultOf options.FirstRow (rows_of (found_of found.now))) }
+{
+    let word = needed(found, CommandOption::FirstRow)?;
+    match read_row(word) {
+        Some(id) => Ok(id),
+        None => Err(no_value(alloc, CommandOption::FirstRow, word)),
+    }
+}
+
+// The number behind this option, if it is there.
+fn count_of(
+    alloc: Global,
+    found: &ArgMatches<'_>,
+    option: CommandOption,
+) -> Result<Option<u32>, CommandFault>
+    requires counts { IsTrue (is_count option) }
+    ensures value { IfOk result (CountsIfGiven option (rows_of (found_of found.now))) }
+    ensures fault { IfErr result (IsFaultOf option (rows_of (found_of found.now))) }
+{
+    match found.get_str(option.name()) {
+        None => Ok(None),
+        Some(word) => match read_count(word) {
+            Some(count) => Ok(Some(count)),
+            None => Err(no_value(alloc, option, word)),
+        },
+    }
+}
+
+// Whether this flag is there.
+fn has_flag(found: &ArgMatches<'_>, flag: &str) -> bool
+    ensures value { result ≡ has_flag flag.now (rows_of (found_of found.now)) }
+{
+    match found.get_str(flag) {
+        None => false,
+        Some(word) => word == "true",
+    }
+}
+
+/// What `source` is given, by what clap finds of it.
+pub(crate) fn source_options(
+    alloc: Global,
+    found: &ArgMatches<'_>,
+) -> Result<SourceOptions, CommandFault>
+    ensures value { IfOk result (GiveSource (rows_of (found_of found.now))) }
+    ensures fault { IfErr result (IsFaultOfSource (rows_of (found_of found.now))) }
+{
+    Ok(SourceOptions {
+        schema: schema_of(alloc, found)?,
+        listen: listen_of(alloc, found)?,
+        first_id: first_id_of(alloc, found)?,
+        first_row: first_row_of(alloc, found)?,
+        trim_every: count_of(alloc, found, CommandOption::TrimEvery)?,
+        accepts: count_of(alloc, found, CommandOption::Accepts)?,
+        verbose: has_flag(found, "verbose"),
+    })
+}
+
+/// What `relay` is given, by what clap finds of it.
+pub(crate) fn relay_options(
+    alloc: Global,
+    found: &ArgMatches<'_>,
+) -> Result<RelayOptions, CommandFault>
+    ensures value { IfOk result (GiveRelay (rows_of (found_of found.now))) }
+    ensures fault { IfErr result (IsFaultOfRelay (rows_of (found_of found.now))) }
+{
+    let schema = schema_of(alloc, found)?;
+    let listen = listen_of(alloc, found)?;
+    Ok(RelayOptions {
+        schema,
+        listen,
+        upstreams: other_upstreams_of(alloc, found, listen)?,
+        accepts: count_of(alloc, found, CommandOption::Accepts)?,
+        tries: count_of(alloc, found, CommandOption::Tries)?,
+        verbose: has_flag(found, "verbose"),
+        end_on_refusal: has_flag(found, "end-on-refusal"),
+        prunes: has_flag(found, "prune"),
+    })
+}

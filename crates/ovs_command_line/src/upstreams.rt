@@ -1,0 +1,95 @@
+//! The upstreams of a relay, as they are given.
+
+ghost use Rattle.std.specs.Prelude.{◌≡◌, ◌≢◌, true, false, map, All, IfOk, IfErr};
+ghost use Rattle.std.specs.List.{AllZip};
+ghost use Rattle.clap.specs.Words.{found_of, rows_of};
+ghost use Rattle.ovs_command_line.specs.declared.command_option.CommandOption.TheVariants as options;
+ghost use Rattle.ovs_command_line.specs.Options.{AreUpstreams, Gives};
+ghost use Rattle.ovs_command_line.specs.Values.{SpellsAddress};
+ghost use Rattle.ovs_command_line.specs.Faults.{IsFaultOf, IsOneTooMany, IsNoAddress, IsFaultAmong};
+
+use crate::command_fault::CommandFault;
+use crate::command_option::CommandOption;
+use crate::options::no_value;
+use crate::values::read_address;
+use clap::ArgMatches;
+use std::alloc::Global;
+use std::net::SocketAddr;
+
+// How many upstreams a relay has at most.
+const MOST_UPSTREAMS: usize = 4;
+
+// The fault of the first upstream past the limit.
+fn one_too_many(alloc: Global, word: &str) -> CommandFault
+    ensures value { IsOneTooMany word.now result }
+{
+    match String::from_str(alloc, word) {
+        Ok(word) => CommandFault::OneTooMany(word),
+        Err(_) => CommandFault::NoMemory,
+    }
+}
+
+fn address_of(alloc: Global, word: &str) -> Result<SocketAddr, CommandFault>
+    ensures value { IfOk result (SpellsAddress word.now) }
+    ensures fault { IfErr result (IsNoAddress word.now) }
+{
+    match read_address(word) {
+        Some(address) => Ok(address),
+        None => Err(no_value(alloc, CommandOption::Upstream, word)),
+    }
+}
+
+// The addresses that words spell, in their order.
+fn addresses_of(alloc: Global, words: &[&str]) -> Result<Vec<SocketAddr>, CommandFault>
+    ensures value { IfOk result (λ addresses. AllZip SpellsAddress (map (λ word. word.now) words.now) addresses.items) }
+    ensures fault { IfErr result (IsFaultAmong (map (λ word. word.now) words.now)) }
+{
+    let mut addresses = Vec::with_capacity(alloc, words.len())?;
+    for word in words {
+        addresses.push_reserved(address_of(alloc, word)?);
+    }
+    Ok(addresses)
+}
+
+// The upstreams that `relay` is given, by what clap finds of it.
+fn upstreams_of(alloc: Global, found: &ArgMatches<'_>) -> Result<Vec<SocketAddr>, CommandFault>
+    ensures value { IfOk result (λ upstreams. AreUpstreams (rows_of (found_of found.now)) upstreams.items) }
+    ensures fault { IfErr result (IsFaultOf options.Upstream (rows_of (found_of found.now))) }
+{
+    let words = found.get_strs("upstream").unwrap_or(&[]);
+    if words.is_empty() {
+        return Err(CommandFault::Missing(CommandOption::Upstream));
+    }
+    if let Some(word) = words.get(MOST_UPSTREAMS) {
+        return Err(one_too_many(alloc, word));
+    }
+    addresses_of(alloc, words)
+}
+
+// Whether two addresses are the same.
+fn is_same(address: SocketAddr, other: SocketAddr) -> bool
+    ensures same { result ≡ true → address ≡ other }
+    ensures another { result ≡ false → address ≢ other }
+{
+    address == other
+}
+
+/// The upstreams that `relay` is given, by what clap finds of it, where it listens at this address, which is none of them.
+pub(crate) fn other_upstreams_of(
+    alloc: Global,
+    found: &ArgMatches<'_>,
+    listen: SocketAddr,
+) -> Result<Vec<SocketAddr>, CommandFault>
+    requires listens { Gives SpellsAddress options.Listen (rows_of (found_of found.now)) listen }
+    ensures value { IfOk result (λ upstreams. AreUpstreams (rows_of (found_of found.now)) upstreams.items) }
+    ensures others { IfOk result (λ upstreams. All (λ upstream. upstream ≢ listen) upstreams.items) }
+    ensures fault { IfErr result (IsFaultOf options.Upstream (rows_of (found_of found.now))) }
+{
+    let upstreams = upstreams_of(alloc, found)?;
+    for upstream in &upstreams {
+        if is_same(*upstream, listen) {
+            return Err(CommandFault::OwnAddress(listen));
+        }
+    }
+    Ok(upstreams)
+}

@@ -1,0 +1,54 @@
+//! What the words behind options stand for.
+
+ghost use Rattle.std.specs.Prelude.{IfSome};
+ghost use Rattle.ovs_command_line.specs.Values.{Stands, SpellsAddress, SpellsCommit, SpellsRow, SpellsCount};
+
+use ovs_data::{RowId, TxnId};
+use std::net::SocketAddr;
+
+/// The loopback address and port that a word spells.
+pub(crate) fn read_address(word: &str) -> Option<SocketAddr>
+    ensures value { Stands SpellsAddress word.now result }
+{
+    let Ok(address) = word.parse::<SocketAddr>() else {
+        return None;
+    };
+    if address.ip().is_loopback() {
+        Some(address)
+    } else {
+        None
+    }
+}
+
+/// The id of a commit that a word spells.
+pub(crate) fn read_commit(word: &str) -> Option<TxnId>
+    ensures value { Stands SpellsCommit word.now result }
+{
+    let Ok(id) = TxnId::read(word) else {
+        return None;
+    };
+    if id.is_start() { None } else { Some(id) }
+}
+
+/// The id of a row that a word spells.
+pub(crate) fn read_row(word: &str) -> Option<RowId>
+    ensures value { Stands SpellsRow word.now result }
+{
+    match RowId::read(word) {
+        Ok(id) => Some(id),
+        Err(_) => None,
+    }
+}
+
+/// The number from 1 to 1,000,000 that a word spells.
+pub(crate) fn read_count(word: &str) -> Option<u32>
+    ensures value { Stands SpellsCount word.now result }
+{
+    let Ok(count) = word.parse::<u32>() else {
+        return None;
+    };
+    if count == 0 || count > 1_000_000 {
+        return None;
+    }
+    Some(count)
+}

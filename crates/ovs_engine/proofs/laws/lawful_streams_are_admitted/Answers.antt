@@ -1,5 +1,0 @@
-use Rattle.ovs_engine.proofs.Lawful.{lawful_admits}
-use Rattle.ovs_engine.proofs.laws.lawful_streams_are_admitted.Goals as goal
-
-pub returns : goal.returns
-returns c = record { admitted = lawful_admits }

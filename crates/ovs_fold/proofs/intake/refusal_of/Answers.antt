@@ -1,5 +1,0 @@
-use Rattle.std.proofs.Common.{rules}
-use Rattle.ovs_fold.proofs.intake.refusal_of.Goals as goal
-
-pub returns-in-Fork : goal.returns-in-Fork
-returns-in-Fork c = search rules

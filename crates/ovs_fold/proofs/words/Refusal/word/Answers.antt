@@ -1,4 +1,0 @@
-use Rattle.ovs_fold.proofs.words.Refusal.word.Goals as goal
-
-pub returns-in-Fork : goal.returns-in-Fork
-returns-in-Fork c = record { text = rw c.in-Fork.is c.fork_word.ensures.text }

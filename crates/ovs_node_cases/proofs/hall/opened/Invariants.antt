@@ -1,5 +1,0 @@
-use Rattle.ovs_node_cases.proofs.hall.opened.Given as goal
-
--- the feed of the node that was just made
-abbrev pub ghosts-published : goal.ghosts-published
-ghosts-published g a = record { table = a.node.feed.items.table.shared.table_id }

@@ -1,0 +1,32 @@
+//! What is told of a node while it runs.
+
+use ovs_node::RefusedLink;
+
+/// Looks on while a node runs.
+pub trait FoldObserver {
+    /// So many of its threads, one or more, couldn't be started.
+    fn unstarted(&self, threads: u64);
+
+    /// A link was refused: it contradicts a held one, or the store has no room for it.
+    fn refused(&self, link: &RefusedLink);
+
+    /// There was no memory to fold or to publish what came, which is tried again.
+    fn put_off(&self);
+
+    /// No thread sends links to the folder any more, though readers are served.
+    fn feeds_ended(&self);
+}
+
+/// Nobody looks on.
+#[derive(Clone, Copy, Debug, PartialEq, Eq)]
+pub struct NoObserver;
+
+impl FoldObserver for NoObserver {
+    fn unstarted(&self, _threads: u64) {}
+
+    fn refused(&self, _link: &RefusedLink) {}
+
+    fn put_off(&self) {}
+
+    fn feeds_ended(&self) {}
+}

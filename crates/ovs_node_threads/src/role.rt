@@ -1,0 +1,53 @@
+//! The jobs of a node's threads. What crosses into a thread and back is told in tuples of what it is made of.
+
+ghost use Rattle.std.specs.Prelude.{◌≡◌, IfOk, IfErr, vec_len};
+
+use left_right::ReadHandle;
+use ovs_threads::{NotBegun, Work, beside};
+use ovs_views::{Front, NodeName, Shown};
+use std::alloc::Global;
+use std::sync::Wait;
+use std::thread::Threads;
+
+/// What a thread beside the folder's is for.
+#[derive(Drop)]
+pub enum ThreadRole<U, W> {
+    /// It sends links to the node's feed: those of an upstream, or at the source those of its own desk.
+    Feed(U),
+    /// It serves readers.
+    Worker(W),
+}
+
+impl<U, W> ThreadRole<U, W> {
+    /// Whether it sends links to the node's feed.
+    pub(crate) fn is_feed(&self) -> bool {
+        matches!(self, ThreadRole::Feed(_))
+    }
+}
+
+/// Does each job that has a view in a thread of its own, beside what is to be done here.
+pub(crate) fn beside_with_views<
+    K: NodeName + Send + Sync,
+    E: Send + Drop,
+    F: Send + Drop,
+    W: Work<(E, ReadHandle<Shown<K>>, Front<K>), (F, ReadHandle<Shown<K>>, Front<K>)> + Sync,
+    R: Threads + Wait + Sync,
+    S: FnOnce() -> Z,
+    Z,
+>(
+    rt: &R,
+    alloc: Global,
+    jobs: Vec<(E, ReadHandle<Shown<K>>, Front<K>)>,
+    work: &W,
+    here: S,
+) -> Result<
+    (Vec<(F, ReadHandle<Shown<K>>, Front<K>)>, Z),
+    NotBegun<(E, ReadHandle<Shown<K>>, Front<K>), S>,
+>
+    requires here { S.pre here }
+    ensures all { IfOk result (λ r. vec_len r.0 ≡ vec_len jobs) }
+    ensures here { IfOk result (λ r. S.post here r.1) }
+    ensures handed_back { IfErr result (λ n. (n.jobs ≡ jobs) × (n.here ≡ here)) }
+{
+    beside(rt, alloc, jobs, work, here)
+}

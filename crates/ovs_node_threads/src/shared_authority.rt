@@ -1,0 +1,278 @@
+//! A node's desk, which its threads share.
+
+ghost use Rattle.std.specs.Prelude.{◌≡◌, ℕ, Bool, true, false, List, Option, Some, None, Ok, IfOk, IfSome, OnOk, OnErr};
+ghost use Rattle.ovs_authority.specs.declared.ask.Ask.{Ask};
+ghost use mathlib.Core.List.{IsPrefix};
+ghost use Rattle.ovs_desk.specs.Ledger.{next_standing};
+ghost use Rattle.ovs_desk.specs.declared.source_message.SourceMessage.{SourceMessage};
+ghost use Rattle.ovs_recorded_desk.specs.Steps.{EndsRun, EndsWith};
+ghost use Rattle.ovs_recorded_desk.specs.declared.step.DeskStep.TheVariants as steps;
+ghost use Rattle.ovs_links.specs.declared.step.Step.{Step};
+ghost use Rattle.ovs_service.specs.Replies.{RepliesTo, IsAnswer};
+ghost use Rattle.ovs_wire.specs.declared.message.Message.{Message};
+ghost use Rattle.std.specs.Option.{ForSome};
+ghost use Rattle.ovs_views.specs.Published.{is_shown};
+ghost use Rattle.ovs_node_threads.specs.Collecting.{HasNone, IsCollected, IsHeldBack};
+ghost use Rattle.ovs_node_threads.specs.Refusing.{IsBadReply};
+
+use ovs_authority::Ask;
+use ovs_desk::{BadReply, SourceMessage};
+use ovs_json::NoMemory;
+use ovs_recorded_desk::{DeskFront, DeskName, RecordedDesk};
+use ovs_views::{Gone, NodeName, View, ViewError, ViewSession};
+use ovs_wire::Message;
+use std::alloc::Global;
+use std::sync::{Mutex, Wait};
+
+/// A desk that threads share, of whose calls each caller may know some.
+pub trait KnownDesk {
+    /// What a caller knows of the calls that were made on the desk. It is lent to each of the caller's own.
+    type Known: Drop;
+
+    /// What was called by now, for one caller more to know.
+    fn known(&self) -> Self::Known;
+}
+
+/// A desk that threads share: each calls it by itself, so that no caller knows what it holds. What each call does is what its
+/// `Authority` says of the one of its name.
+pub trait SharedAuthority<K: NodeName>: KnownDesk {
+    // What a session asks may be replied to so at once, or not.
+    ghost replies: { ℕ → Ask → Option Message → Type 0 };
+
+    // This may be collected for a session that was shown these steps, where answers are held back until what they stand for is
+    // shown, or where they aren't.
+    ghost owes: { Bool → ℕ → List Step → Message → Type 0 };
+
+    /// Asks for a session, and gives the reply where it is known at once.
+    ///
+    /// # Errors
+    /// `NoMemory` alone; then nothing was asked.
+    fn ask(
+        &self,
+        alloc: Global,
+        who: u64,
+        ask: Ask,
+        known: &mut Self::Known,
+    ) -> Result<Option<Message>, NoMemory>
+        ensures replied { IfOk result (λ r. replies who ask r × RepliesTo ask.id r) };
+
+    /// The next message for a session, where one is owed. Where answers are held back it is none while the first answer stands
+    /// where the session wasn't shown the chain yet.
+    ///
+    /// # Errors
+    /// `Gone` where the view is gone that knows what the session was shown, or `NoMemory`; then nothing was given.
+    fn collect(
+        &self,
+        alloc: Global,
+        who: u64,
+        is_held_back: bool,
+        view: &mut View<K>,
+        session: &ViewSession<K>,
+        known: &mut Self::Known,
+    ) -> Result<Option<Message>, ViewError>
+        ensures given { IfOk result (λ r. IfSome r (λ m. owes is_held_back who session.now.last m × IsAnswer m)) }
+        ensures view { view.new ≡ view.old };
+
+    /// Ends a session.
+    fn end_session(&self, who: u64, known: &mut Self::Known);
+}
+
+/// A relay's desk, as the thread of the upstream shares it that is the source.
+pub trait UpwardDesk: KnownDesk {
+    // The source may not say this.
+    ghost refuses: { SourceMessage → Type 0 };
+
+    /// The next request to go up.
+    ///
+    /// # Errors
+    /// `NoMemory` alone; then nothing went up.
+    fn take_up(&self, alloc: Global, known: &mut Self::Known) -> Result<Option<Message>, NoMemory>;
+
+    /// What the source says, and whom it is for: the session whose transaction it answers, `None` where it is of locks, or for
+    /// nobody.
+    ///
+    /// # Errors
+    /// `BadReply` where that is no answer to what is open; nothing is changed then.
+    fn heard(
+        &self,
+        message: SourceMessage,
+        known: &mut Self::Known,
+    ) -> Result<Option<u64>, BadReply>
+        ensures refused { OnErr result (refuses message) };
+
+    /// There is a source.
+    fn found_source(&self, known: &mut Self::Known);
+
+    /// The source is lost.
+    fn lost_source(&self, known: &mut Self::Known);
+}
+
+// Whether a session may be given what it is given next: where answers are held back, the answer that is due to it first only once it
+// was shown where that stands. `Gone` where the view is gone that knows it.
+fn may_be_given<K: NodeName, N: DeskName, R: Wait>(
+    rt: &R,
+    desk: &RecordedDesk<N>,
+    who: u64,
+    is_held_back: bool,
+    view: &mut View<K>,
+    session: &ViewSession<K>,
+    known: &mut DeskFront<N>,
+) -> Result<bool, Gone>
+    ensures shown { result ≡ Ok true → is_held_back ≡ true
+        → ForSome (next_standing who desk.now.desk.forwards.ledger) (λ id. is_shown session.now.last id ≡ true) }
+    ensures unshown { result ≡ Ok false → (is_held_back ≡ true) × IsHeldBack N.database who session.now.last known.old known.new }
+    ensures learnt { IsPrefix known.old known.new }
+    ensures view { view.new ≡ view.old }
+{
+    if !is_held_back {
+        return Ok(true);
+    }
+    match desk.standing(rt, who, known) {
+        Some(id) => view.has_shown(session, id),
+        None => Ok(true),
+    }
+}
+
+// The next message that a desk owes a session, where that may be given.
+fn collect_shown<K: NodeName, N: DeskName, R: Wait>(
+    rt: &R,
+    alloc: Global,
+    desk: &mut RecordedDesk<N>,
+    who: u64,
+    is_held_back: bool,
+    view: &mut View<K>,
+    session: &ViewSession<K>,
+    known: &mut DeskFront<N>,
+) -> Result<Option<Message>, ViewError>
+    ensures given { IfOk result (λ r. IfSome r (λ m. IsCollected N.database is_held_back who session.now.last m × IsAnswer m)) }
+    ensures ends { IfOk result (λ r. IfSome r (λ m. EndsWith (steps.Collected who (Some m)) known.old known.new)) }
+    ensures none { result ≡ Ok None → HasNone N.database is_held_back who session.now.last known.old known.new }
+    ensures view { view.new ≡ view.old }
+{
+    if !may_be_given(rt, &*desk, who, is_held_back, view, session, known)? {
+        return Ok(None);
+    }
+    Ok(desk.collect(rt, alloc, who, known)?)
+}
+
+// Whose transaction it answers, if it does.
+fn asker_of<N: DeskName>(desk: &RecordedDesk<N>, message: &SourceMessage) -> Option<u64> {
+    match message {
+        SourceMessage::ReplyFor { number, .. } => desk.asker_of(*number),
+        _ => None,
+    }
+}
+
+/// A relay's desk behind a lock, which is taken for one call at a time. All calls on it are steps of one run, of which each caller
+/// knows those that were made up to its last.
+#[derive(Drop)]
+pub struct LockedDesk<'a, N: DeskName, R: Wait> {
+    rt: &'a R,
+    desk: Mutex<RecordedDesk<N>>,
+}
+
+impl<'a, N: DeskName, R: Wait> LockedDesk<'a, N, R> {
+    /// This desk.
+    pub fn new(rt: &'a R, desk: RecordedDesk<N>) -> LockedDesk<'a, N, R> {
+        LockedDesk {
+            rt,
+            desk: Mutex::new(desk),
+        }
+    }
+}
+
+impl<'a, N: DeskName, R: Wait> KnownDesk for LockedDesk<'a, N, R> {
+    type Known = DeskFront<N>;
+
+    fn known(&self) -> DeskFront<N> {
+        self.desk.lock(self.rt).known()
+    }
+}
+
+impl<'a, K: NodeName, N: DeskName, R: Wait> SharedAuthority<K> for LockedDesk<'a, N, R> {
+    ghost replies = { λ who ask r. EndsRun N.database (steps.Asked who ask r) };
+
+    ghost owes = { λ held who steps m. IsCollected N.database held who steps m };
+
+    fn ask(
+        &self,
+        alloc: Global,
+        who: u64,
+        ask: Ask,
+        known: &mut DeskFront<N>,
+    ) -> Result<Option<Message>, NoMemory>
+        ensures replied { IfOk result (λ r. EndsRun N.database (steps.Asked who ask r) × RepliesTo ask.id r) }
+        ensures ends { IfOk result (λ r. EndsWith (steps.Asked who ask r) known.old known.new) }
+    {
+        self.desk.lock(self.rt).ask(self.rt, alloc, who, ask, known)
+    }
+
+    fn collect(
+        &self,
+        alloc: Global,
+        who: u64,
+        is_held_back: bool,
+        view: &mut View<K>,
+        session: &ViewSession<K>,
+        known: &mut DeskFront<N>,
+    ) -> Result<Option<Message>, ViewError>
+        ensures given { IfOk result (λ r. IfSome r (λ m. IsCollected N.database is_held_back who session.now.last m × IsAnswer m)) }
+        ensures view { view.new ≡ view.old }
+        ensures ends { IfOk result (λ r. IfSome r (λ m. EndsWith (steps.Collected who (Some m)) known.old known.new)) }
+        ensures none { result ≡ Ok None → HasNone N.database is_held_back who session.now.last known.old known.new }
+    {
+        let mut desk = self.desk.lock(self.rt);
+        collect_shown(
+            self.rt,
+            alloc,
+            &mut *desk,
+            who,
+            is_held_back,
+            view,
+            session,
+            known,
+        )
+    }
+
+    fn end_session(&self, who: u64, known: &mut DeskFront<N>)
+        ensures ends { EndsWith (steps.Ended who) known.old known.new }
+    {
+        self.desk.lock(self.rt).end_session(self.rt, who, known);
+    }
+}
+
+impl<'a, N: DeskName, R: Wait> UpwardDesk for LockedDesk<'a, N, R> {
+    ghost refuses = { λ message. IsBadReply message };
+
+    fn take_up(&self, alloc: Global, known: &mut DeskFront<N>) -> Result<Option<Message>, NoMemory>
+        ensures ends { IfOk result (λ m. EndsWith (steps.WentUp m) known.old known.new) }
+    {
+        self.desk.lock(self.rt).take_up(self.rt, alloc, known)
+    }
+
+    fn heard(
+        &self,
+        message: SourceMessage,
+        known: &mut DeskFront<N>,
+    ) -> Result<Option<u64>, BadReply>
+        ensures refused { OnErr result (IsBadReply message) }
+        ensures ends { OnOk result (EndsWith (steps.Heard message (Ok tt)) known.old known.new) }
+    {
+        let mut desk = self.desk.lock(self.rt);
+        let asker = asker_of(&*desk, &message);
+        desk.heard(self.rt, message, known)?;
+        Ok(asker)
+    }
+
+    fn found_source(&self, known: &mut DeskFront<N>)
+        ensures ends { EndsWith steps.FoundSource known.old known.new }
+    {
+        self.desk.lock(self.rt).found_source(self.rt, known);
+    }
+
+    fn lost_source(&self, known: &mut DeskFront<N>)
+        ensures ends { EndsWith steps.LostSource known.old known.new }
+    {
+        self.desk.lock(self.rt).lost_source(self.rt, known);
+    }
+}

@@ -1,0 +1,154 @@
+//! The threads of a node's upstreams.
+
+ghost use Rattle.std.specs.Prelude.{◌≡◌};
+ghost use Rattle.ovs_node_threads.specs.Lines.{AdmitsBytes};
+
+use crate::connector::Connector;
+use crate::epoch_side::EpochSide;
+use crate::feed_sink::FeedSink;
+use crate::folded_count::FoldedCount;
+use crate::serving::Feeds;
+use crate::upstream_sender::UpstreamSender;
+use ovs_feed::{FeedName, FeedQueue};
+use ovs_follow::{Followed, InputFault, SourceSide, follow_upstream};
+use ovs_node::NodeLink;
+use ovs_session::{Ended, Limits};
+use ovs_types::{Schema, TxnId};
+use ovs_views::{Board, NodeName, View, teach};
+use ovs_wire::Counted;
+use std::alloc::Global;
+use std::sync::{Mutex, Wait};
+
+// How many turns a session with an upstream has: as many as there can be. A session that ends loses the requests that are open,
+// and a busy one would come to the end of fewer.
+const TURNS: u32 = u32::MAX;
+
+/// What follows an upstream: what it sends with, where its connections come from, and the desk's side, which has a desk where the
+/// upstream is the source.
+#[derive(Drop)]
+pub struct Upstream<K: NodeName, Q: FeedName, C: Connector + Drop, D: SourceSide + Drop> {
+    /// What it sends with.
+    pub sender: UpstreamSender<K, Q, C>,
+    /// Where its connections come from.
+    pub connector: C,
+    /// The desk's side.
+    pub source: D,
+}
+
+/// What the threads of upstreams share.
+#[derive(Drop)]
+pub(crate) struct UpstreamFeeds<'a, K: NodeName, Q: FeedName, R: Wait> {
+    pub(crate) rt: &'a R,
+    pub(crate) alloc: Global,
+    pub(crate) schema: &'a Schema,
+    pub(crate) queue: &'a FeedQueue<NodeLink<K>, Q>,
+    pub(crate) board: &'a Mutex<Board<K>>,
+    pub(crate) counts: &'a FoldedCount,
+    pub(crate) limits: Limits,
+    pub ghost schema_is: { schema.now ≡ K.schema },
+}
+
+// What is left of one session.
+#[derive(Drop)]
+struct SessionEnd<K: NodeName, Q: FeedName, C: Connector, D: SourceSide + Drop> {
+    sender: UpstreamSender<K, Q, C>,
+    // How it ended, if there was one, and what was wrong with what the upstream said.
+    ended: Option<(Ended, Option<InputFault>)>,
+    source: D,
+}
+
+impl<'a, K: NodeName, Q: FeedName, R: Wait> UpstreamFeeds<'a, K, Q, R> {
+    // Follows one connection, which was asked for what comes after this id.
+    fn follow<C: Connector, D: SourceSide + Drop>(
+        &self,
+        asked: TxnId,
+        connection: (C::In, C::Out),
+        sender: UpstreamSender<K, Q, C>,
+        source: EpochSide<'_, K, D>,
+    ) -> SessionEnd<K, Q, C, D>
+        requires lawful { AdmitsBytes C.admits asked (C.In.remaining connection.0) }
+    {
+        let (reader, writer) = connection;
+        let (mut reader, mut writer) = (Counted::new(reader), Counted::new(writer));
+        let sink = FeedSink::new(self.rt, self.queue, self.counts, sender.into_end());
+        let followed = follow_upstream(
+            self.alloc,
+            self.schema,
+            asked,
+            sink,
+            source,
+            &mut reader,
+            &mut writer,
+            self.limits,
+            TURNS,
+        );
+        let Followed {
+            sink,
+            source,
+            counts: _,
+            ended,
+            fault,
+            made: _,
+        } = followed;
+        SessionEnd {
+            sender: UpstreamSender::again(sink.into_end()),
+            ended: Some((ended, fault)),
+            source: source.into_side(),
+        }
+    }
+
+    // The next connection, if it can be had, which is asked for what comes after what the node has folded, once the folder is done
+    // with all that those before sent.
+    fn follow_next<C: Connector, D: SourceSide + Drop>(
+        &self,
+        connector: &mut C,
+        view: &mut View<K>,
+        back: SessionEnd<K, Q, C, D>,
+    ) -> SessionEnd<K, Q, C, D> {
+        self.counts.wait_for_sent(self.rt);
+        teach(self.rt, self.board, view);
+        let Ok((start, asked)) = view.ends() else {
+            return back;
+        };
+        let Some(connection) = connector.open(asked) else {
+            return back;
+        };
+        let side = EpochSide::new(back.source, view, start);
+        let back = self.follow(asked, connection, back.sender, side);
+        if let Some((ended, fault)) = back.ended {
+            connector.lost(ended, fault);
+        }
+        back
+    }
+}
+
+impl<'a, K: NodeName, Q: FeedName, R: Wait, C: Connector + Drop, D: SourceSide + Drop> Feeds<
+    K,
+    Upstream<K, Q, C, D>,
+    UpstreamSender<K, Q, C>,
+> for UpstreamFeeds<'a, K, Q, R> {
+    // All connections with an upstream, one after another.
+    fn feed(&self, upstream: Upstream<K, Q, C, D>, view: &mut View<K>) -> UpstreamSender<K, Q, C> {
+        let Upstream {
+            sender,
+            mut connector,
+            source,
+        } = upstream;
+        let mut back = SessionEnd {
+            sender,
+            ended: None,
+            source,
+        };
+        for _ in self.rt.forever() {
+            if !connector.next() {
+                break;
+            }
+            back = self.follow_next(&mut connector, view, back);
+        }
+        back.sender
+    }
+
+    fn refuse(&self, upstream: Upstream<K, Q, C, D>) -> UpstreamSender<K, Q, C> {
+        upstream.sender
+    }
+}

@@ -1,9 +1,0 @@
-use Rattle.std.proofs.Common.{◌≡◌}
-use Rattle.ovs_origin.specs.Sent.{HasSent}
-use Rattle.ovs_origin.proofs.sending.send_all.Given as goal
-
--- what was sent was taken out, and the desk may give it
-abbrev pub invariant-loop : goal.invariant-loop
-invariant-loop g l =
-    HasSent (g.S.LinkSink.sent l.fn.sink) (g.S.LinkSink.sent l.sink) l.fn.counts.messages l.counts.messages
-    × (g.S.LinkSink.sent l.sink ≡ g.L.OriginDesk.links l.taken) × g.L.OriginDesk.gives (g.L.OriginDesk.links l.taken)

@@ -1,0 +1,23 @@
+//! Nodes over sockets: a source or a relay, and what is left of it when all its threads have come to their ends.
+#![tactic(auto)]
+
+mod error;
+mod exit_report;
+mod node;
+mod observer;
+mod refusals;
+mod relay;
+mod runtime;
+mod site;
+mod sockets;
+mod source;
+mod stop;
+mod upstreams;
+
+pub use error::ServerError;
+pub use exit_report::{Cause, ExitReport};
+pub use node::NodeServer;
+pub use relay::RelayPlan;
+pub use runtime::NodeRuntime;
+pub use source::SourcePlan;
+pub use stop::Stop;

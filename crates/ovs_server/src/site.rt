@@ -1,0 +1,43 @@
+//! Where a node is served, and how it is ended.
+
+use crate::error::ServerError;
+use crate::sockets::WorkerSockets;
+use log::Log;
+use ovs_sockets::{Shutdown, ShutdownFlag, SocketPoller, SocketWaker};
+use ovs_worker::Poller;
+use std::alloc::Global;
+use std::net::Net;
+use std::sync::Arc;
+
+/// Where a node's readers come in, and what brings it to its end.
+#[derive(Drop)]
+pub(crate) struct Site<R: Log + Drop>
+where
+    SocketPoller<R>: Poller,
+{
+    /// Where memory comes from.
+    pub(crate) alloc: Global,
+    /// Where its workers take readers in.
+    pub(crate) sockets: WorkerSockets<R>,
+    /// What brings its threads to their ends.
+    pub(crate) shutdown: Arc<Shutdown>,
+}
+
+impl<R: Net + Log + Drop> Site<R> {
+    /// With readers in these places. What ends the node wakes their threads, and these of its upstreams.
+    pub(crate) fn new(
+        alloc: Global,
+        sockets: WorkerSockets<R>,
+        shutdown_flag: ShutdownFlag,
+        upward: &[SocketWaker],
+    ) -> Result<Site<R>, ServerError> {
+        let mut shutdown = Shutdown::new(alloc, shutdown_flag);
+        shutdown.add(&sockets.wakers)?;
+        shutdown.add(upward)?;
+        Ok(Site {
+            alloc,
+            sockets,
+            shutdown: Arc::new(alloc, shutdown)?,
+        })
+    }
+}

@@ -1,0 +1,58 @@
+//! The sockets of a node.
+
+use crate::error::ServerError;
+use log::Log;
+use ovs_node_threads::UnusedPoller;
+use ovs_session::Limits;
+use ovs_sockets::{Listening, ShutdownFlag, SocketPoller, SocketWaker};
+use ovs_worker::Poller;
+use std::alloc::Global;
+use std::net::{Net, SocketAddr};
+
+/// What waits to be written to a reader at most before it is read again, and how many messages it is answered in a turn.
+pub(crate) const LIMITS: Limits = Limits {
+    most_unsent: 1_048_576,
+    messages: 64,
+};
+
+/// How many workers a node has that serve readers.
+pub(crate) const WORKERS: usize = 8;
+
+/// Where a node's workers take readers in, and what wakes them.
+#[derive(Drop)]
+pub(crate) struct WorkerSockets<R: Log + Drop>
+where
+    SocketPoller<R>: Poller,
+{
+    pub(crate) address: SocketAddr,
+    pub(crate) pollers: Vec<UnusedPoller<SocketPoller<R>>>,
+    pub(crate) wakers: Vec<SocketWaker>,
+}
+
+impl<R: Net + Log + Copy + Drop> WorkerSockets<R> {
+    /// At this address, each of which takes so many connections, or any number.
+    pub(crate) fn new(
+        rt: R,
+        alloc: Global,
+        listen: SocketAddr,
+        accepts: Option<u32>,
+        shutdown_flag: &ShutdownFlag,
+    ) -> Result<WorkerSockets<R>, ServerError> {
+        let listening = match Listening::at(&rt, alloc, listen) {
+            Ok(listening) => listening,
+            Err(error) => return Err(ServerError::Listening(error)),
+        };
+        let mut pollers = Vec::with_capacity(alloc, WORKERS)?;
+        let mut wakers = Vec::with_capacity(alloc, WORKERS)?;
+        for worker in 0..WORKERS {
+            let poller = listening.poller(rt, alloc, worker, accepts, shutdown_flag)?;
+            wakers.push(poller.waker()?)?;
+            pollers.push(UnusedPoller::new(poller))?;
+        }
+        Ok(WorkerSockets {
+            address: listening.address()?,
+            pollers,
+            wakers,
+        })
+    }
+}

@@ -1,0 +1,129 @@
+//! Where a relay's upstreams are.
+
+use crate::error::ServerError;
+use crate::refusals::UpstreamRefusals;
+use log::{Log, error, info};
+use ovs_follow::InputFault;
+use ovs_node_threads::Connector;
+use ovs_session::Ended;
+use ovs_sockets::{FromUpstream, ShutdownFlag, SocketWaker, ToUpstream, Upward};
+use ovs_types::TxnId;
+use ovs_upstream::UpError;
+use ovs_wire::{FrameError, MAX_MESSAGE_BYTES};
+use std::alloc::{AllocError, Global};
+use std::net::{Net, SocketAddr};
+use std::sync::Arc;
+
+/// Connections over sockets with one upstream. They don't tell their bytes, so that any link may come of them.
+#[derive(Drop)]
+pub(crate) struct UpstreamSockets<R: Net + Log + Drop> {
+    rt: R,
+    address: SocketAddr,
+    upward: Upward<R>,
+    // What was wrong with what it said in the session before, if anything was.
+    fault: Option<InputFault>,
+    refusals: Option<Arc<UpstreamRefusals>>,
+}
+
+// Whether an upstream of which this was refused can't be followed as long as it is as it is: it has another schema, or a database that
+// doesn't go into one message.
+fn is_unfit(fault: InputFault) -> bool {
+    matches!(
+        fault,
+        InputFault::Message(UpError::OtherSchema) | InputFault::Stream(FrameError::TooLong)
+    )
+}
+
+impl<R: Net + Log + Drop> UpstreamSockets<R> {
+    // Notes that the upstream can't be followed as long as it is as it is.
+    fn note_unfit(&self) {
+        if let Some(refusals) = &self.refusals {
+            refusals.note();
+        }
+    }
+
+    // Tells what was wrong with what the upstream said, where that is news: an upstream that can't be followed in any case.
+    fn tell(&self, fault: InputFault) {
+        let (rt, address) = (&self.rt, self.address);
+        if self.fault == Some(fault) {
+            return;
+        }
+        match fault {
+            InputFault::Message(UpError::OtherSchema) => {
+                error!(rt; "upstream {address} has another schema");
+            }
+            InputFault::Stream(FrameError::TooLong) => {
+                error!(rt; "upstream {address} sent a message above {MAX_MESSAGE_BYTES} bytes");
+            }
+            other => info!(rt; "upstream {address} is refused: {other}"),
+        }
+    }
+}
+
+impl<R: Net + Log + Drop> Connector for UpstreamSockets<R> {
+    type In = FromUpstream;
+
+    type Out = ToUpstream;
+
+    ghost admits = { λ _ _. Unit {0} };
+
+    fn next(&mut self) -> bool {
+        self.upward.next()
+    }
+
+    fn open(&mut self, _asked: TxnId) -> Option<(FromUpstream, ToUpstream)> {
+        self.upward.open()
+    }
+
+    fn lost(&mut self, ended: Ended, fault: Option<InputFault>) {
+        self.upward.lost(ended);
+        if let Some(fault) = fault {
+            self.tell(fault);
+            if is_unfit(fault) {
+                self.note_unfit();
+            }
+        }
+        self.fault = fault;
+    }
+}
+
+/// The connections with a relay's upstreams, and what wakes their threads.
+#[derive(Drop)]
+pub(crate) struct Upstreams<R: Net + Log + Drop> {
+    pub(crate) connectors: Vec<UpstreamSockets<R>>,
+    pub(crate) wakers: Vec<SocketWaker>,
+}
+
+impl<R: Net + Log + Copy + Drop> Upstreams<R> {
+    /// At these addresses, so many connections with each, or any number.
+    pub(crate) fn new(
+        rt: R,
+        alloc: Global,
+        addresses: &[SocketAddr],
+        tries: Option<u32>,
+        shutdown_flag: &ShutdownFlag,
+    ) -> Result<Upstreams<R>, ServerError> {
+        let mut connectors = Vec::new(alloc);
+        let mut wakers = Vec::new(alloc);
+        for address in addresses {
+            let (upward, waker) = Upward::new(rt, alloc, *address, tries, shutdown_flag)?;
+            connectors.push(UpstreamSockets {
+                rt,
+                address: *address,
+                upward,
+                fault: None,
+                refusals: None,
+            })?;
+            wakers.push(waker)?;
+        }
+        Ok(Upstreams { connectors, wakers })
+    }
+
+    /// From now on it is noted there that an upstream can't be followed.
+    pub(crate) fn note_at(&mut self, refusals: &Arc<UpstreamRefusals>) -> Result<(), AllocError> {
+        for connector in &mut self.connectors {
+            connector.refusals = Some(refusals.clone()?);
+        }
+        Ok(())
+    }
+}

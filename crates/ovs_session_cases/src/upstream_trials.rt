@@ -1,0 +1,246 @@
+//! A relay's session with its source over devices that fail, with a desk at which a transaction and a lock were asked for.
+
+use crate::devices::{Exchange, Giving, Manner, Taking, called_of_reader, called_of_writer};
+use crate::fault::Fault;
+use crate::links::id_of_text;
+use crate::stand_in::{WHO, ask_for_lock, is_quiet};
+use crate::talks::Talk;
+use crate::trials::{Outcome, Trial, kind_of, tried};
+use ovs_authority::{Ask, Authority, Verb};
+use ovs_desk::{BadReply, RelayDesk, SourceMessage};
+use ovs_follow::{
+    Followed, LinkSink, SideCall, SourceSide, follow_upstream, note_found, note_heard, note_taken,
+};
+use ovs_history::GhostList;
+use ovs_json::{NoMemory, Text};
+use ovs_links::Link;
+use ovs_session::Limits;
+use ovs_types::{Schema, TxnId};
+use ovs_wire::{Counted, Id, Message};
+use serde_json::Value;
+use std::alloc::Global;
+use std::snapshot::Snapshot;
+use std::sync::Arc;
+
+const LIMITS: Limits = Limits {
+    most_unsent: 65_536,
+    messages: 64,
+};
+
+// So many turns a session has at most.
+const MOST_TURNS: u32 = 4_000;
+
+// So many messages are collected at the desk at most.
+const MOST_COLLECTED: u32 = 64;
+
+// Takes links, and keeps them.
+#[derive(Drop)]
+struct Keeping {
+    links: Vec<Link>,
+    // There was no memory for one.
+    is_short: bool,
+    sent: GhostList<Link>,
+    exchange: Arc<Exchange>,
+}
+
+impl Keeping {
+    fn new(alloc: Global, exchange: Arc<Exchange>) -> Keeping {
+        Keeping {
+            links: Vec::new(alloc),
+            is_short: false,
+            sent: GhostList::new(),
+            exchange,
+        }
+    }
+}
+
+impl LinkSink for Keeping {
+    ghost takes = { λ _. Unit {0} };
+
+    ghost sent = { λ keeping. keeping.sent };
+
+    fn send(&mut self, link: Link) {
+        self.sent.push(&link);
+        self.exchange.note_link();
+        self.is_short |= self.links.push(link).is_err();
+    }
+}
+
+// A relay's desk as the side of the source.
+#[derive(Drop)]
+struct DeskSide {
+    alloc: Global,
+    desk: RelayDesk,
+}
+
+impl SourceSide for DeskSide {
+    ghost hears = { λ _ _ _. Unit {0} };
+
+    ghost refuses = { λ _. Unit {0} };
+
+    ghost finds = { λ _ _ _. Unit {0} };
+
+    ghost loses = { λ _ _. Unit {0} };
+
+    fn take_up(&mut self, made: &mut GhostList<SideCall>) -> Result<Option<Message>, NoMemory> {
+        let taken = self.desk.take_up(self.alloc)?;
+        Ok(note_taken(taken, made))
+    }
+
+    fn heard(
+        &mut self,
+        message: SourceMessage,
+        made: &mut GhostList<SideCall>,
+    ) -> Result<(), BadReply> {
+        let said = Snapshot::of(&message);
+        self.desk.heard(message)?;
+        note_heard(&said, made);
+        Ok(())
+    }
+
+    fn found_source(&mut self, from: TxnId, made: &mut GhostList<SideCall>) {
+        self.desk.found_source();
+        note_found(from, made);
+    }
+
+    fn lost_source(&mut self) {
+        self.desk.lost_source();
+    }
+}
+
+// A desk at which a session asked for a transaction and for the lock.
+fn asked_desk(alloc: Global, operations: &Value) -> Result<RelayDesk, Fault> {
+    let mut desk = RelayDesk::new(alloc, Text::new(alloc, "net")?);
+    let operations = operations.as_array().ok_or(Fault::Malformed)?;
+    let ask = Ask {
+        id: Id::from_number(1),
+        verb: Verb::Transact(operations.clone()?),
+    };
+    desk.ask(alloc, WHO, ask)?;
+    ask_for_lock(alloc, &mut desk, WHO)?;
+    Ok(desk)
+}
+
+// How many replies the session is owed.
+fn replies(alloc: Global, desk: &mut RelayDesk) -> Result<u64, Fault> {
+    let mut replies = 0u64;
+    for _collected in 0..MOST_COLLECTED {
+        match desk.collect(alloc, WHO)? {
+            Some(Message::Reply { .. }) => replies = replies.saturating_add(1),
+            Some(_) => {}
+            None => break,
+        }
+    }
+    Ok(replies)
+}
+
+// Whether the transaction has its one reply, now that the source is lost; and whether the desk is quiet once the session that asked for it
+// has ended and there is a source again.
+fn is_settled(alloc: Global, side: DeskSide) -> Result<bool, Fault> {
+    let mut desk = side.desk;
+    if replies(alloc, &mut desk)? != 1 {
+        return Ok(false);
+    }
+    desk.end_session(WHO);
+    desk.found_source();
+    is_quiet(alloc, &mut desk)
+}
+
+// What a relay is asked and told by its source.
+#[derive(Drop)]
+struct UpstreamTrial<'a> {
+    schema: &'a Schema,
+    asked: TxnId,
+    operations: &'a Value,
+    talk: &'a Talk,
+}
+
+// A session from one end to the other.
+fn run_session(
+    alloc: Global,
+    schema: &Schema,
+    asked: TxnId,
+    operations: &Value,
+    talk: &Talk,
+    manner: Manner,
+) -> Result<Outcome, Fault> {
+    let exchange = Arc::new(alloc, Exchange::new())?;
+    let parts = talk.parts.as_slice();
+    let mut reader = Counted::new(Giving::new(alloc, parts, manner, exchange.clone()?));
+    let mut writer = Counted::new(Taking::new(alloc, manner, exchange.clone()?));
+    let side = DeskSide {
+        alloc,
+        desk: asked_desk(alloc, operations)?,
+    };
+    let followed = follow_upstream(
+        alloc,
+        schema,
+        asked,
+        Keeping::new(alloc, exchange),
+        side,
+        &mut reader,
+        &mut writer,
+        LIMITS,
+        MOST_TURNS,
+    );
+    let Followed {
+        sink,
+        source,
+        ended,
+        ..
+    } = followed;
+    let Keeping {
+        links,
+        is_short,
+        ..
+    } = sink;
+    if is_short {
+        return Err(Fault::NoMemory);
+    }
+    let (written, writes) = called_of_writer(writer);
+    Ok(Outcome {
+        ended: Some(ended),
+        written,
+        links,
+        reads: called_of_reader(reader),
+        writes,
+        is_quiet: is_settled(alloc, source)?,
+    })
+}
+
+impl<'a> Trial for UpstreamTrial<'a> {
+    fn run(&mut self, alloc: Global, manner: Manner) -> Result<Outcome, Fault> {
+        run_session(
+            alloc,
+            self.schema,
+            self.asked,
+            self.operations,
+            self.talk,
+            manner,
+        )
+    }
+
+    fn wanted(&self) -> &str {
+        self.talk.wanted.as_str()
+    }
+}
+
+/// `[KIND, PIECE, ASKED, OPERATIONS, PARTS]`: what comes of a session that asks for what comes after this id, with a desk that was asked
+/// for a transaction of these operations and for the lock, where the source says these parts.
+pub(crate) fn told(alloc: Global, schema: &Schema, parts: &[Value]) -> Result<String, Fault> {
+    let [kind, piece, asked, operations, parts] = parts else {
+        return Err(Fault::Malformed);
+    };
+    let piece = piece.as_u64().ok_or(Fault::Malformed)? as usize;
+    if piece == 0 {
+        return Err(Fault::Malformed);
+    }
+    let talk = Talk::read(alloc, parts)?;
+    let mut trial = UpstreamTrial {
+        schema,
+        asked: id_of_text(asked.as_str().ok_or(Fault::Malformed)?)?,
+        operations,
+        talk: &talk,
+    };
+    tried(alloc, &mut trial, piece, kind_of(kind)?)
+}

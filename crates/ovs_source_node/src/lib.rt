@@ -1,0 +1,15 @@
+//! The source in threads: its own desk, whose links go to its node's feed, workers that serve readers, and the folder in the
+//! caller's thread.
+#![tactic(auto)]
+
+mod locked_source;
+mod origin_desk;
+mod sending;
+mod source_sender;
+mod source_threads;
+
+pub use locked_source::LockedSource;
+pub use origin_desk::OriginDesk;
+pub use sending::{SourceFollowed, follow_source};
+pub use source_sender::{SourceSender, SourceSent};
+pub use source_threads::run_source;

@@ -1,5 +1,0 @@
-use Rattle.ovs_tier.proofs.relay.Relay.run.Given as goal
-
--- the history that was just opened, and the schema
-abbrev pub ghosts-open : goal.ghosts-open
-ghosts-open g a = record { book = a.opened.seen.book; schema = a.schema.now }

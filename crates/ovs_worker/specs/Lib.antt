@@ -1,0 +1,4 @@
+pub mod Calling
+pub mod Connections
+pub mod Slots
+pub mod Totals
