@@ -9,10 +9,11 @@ use ovs_command_line::{Complaint, RelayOptions, SourceOptions};
 use ovs_server::{ExitReport, NodeRuntime, NodeServer, RelayPlan, ServerError, SourcePlan};
 use ovs_types::Schema;
 use std::alloc::Global;
-use std::net::SocketAddr;
+use std::net::{Net, SocketAddr, TcpListener, TcpStream};
 use std::process::ExitCode;
 use std::rt::Runtime;
 use std::sync::Wait;
+use std::thread::Threads;
 use std::time::Clock;
 
 // How much is told while a node runs: all with `--verbose`; what ends it where that is wanted; and that nobody sends it links any
@@ -103,12 +104,19 @@ fn relay<R: NodeRuntime + Print + Eprint + Clock + 'static>(
     Ok(closes(&rt, alloc, &*backlog, ran))
 }
 
-/// Runs a source until all its threads have come to their ends.
-pub(crate) fn run_source<R: NodeRuntime + Runtime + 'static>(
-    rt: R,
-    alloc: Global,
-    options: &SourceOptions,
-) -> ExitCode {
+/// Runs a source until all its threads have come to their ends. Its bounds are those of `NodeRuntime`, one by one: the checker doesn't
+/// take a call from `main` by that trait.
+pub(crate) fn run_source<
+    R: Runtime
+        + Threads
+        + Wait
+        + Net<Listener = TcpListener, Stream = TcpStream>
+        + Copy
+        + Drop
+        + Send
+        + Sync
+        + 'static,
+>(rt: R, alloc: Global, options: &SourceOptions) -> ExitCode {
     match schema_of_file(&rt, alloc, options.schema.as_str()) {
         Ok(schema) => match source(rt, alloc, &schema, options) {
             Ok(status) => status,
@@ -118,12 +126,18 @@ pub(crate) fn run_source<R: NodeRuntime + Runtime + 'static>(
     }
 }
 
-/// Runs a relay until all its threads have come to their ends.
-pub(crate) fn run_relay<R: NodeRuntime + Runtime + 'static>(
-    rt: R,
-    alloc: Global,
-    options: &RelayOptions,
-) -> ExitCode {
+/// Runs a relay until all its threads have come to their ends, with bounds as those of `run_source`.
+pub(crate) fn run_relay<
+    R: Runtime
+        + Threads
+        + Wait
+        + Net<Listener = TcpListener, Stream = TcpStream>
+        + Copy
+        + Drop
+        + Send
+        + Sync
+        + 'static,
+>(rt: R, alloc: Global, options: &RelayOptions) -> ExitCode {
     match schema_of_file(&rt, alloc, options.schema.as_str()) {
         Ok(schema) => match relay(rt, alloc, &schema, options) {
             Ok(status) => status,
