@@ -2,7 +2,9 @@
 
 use crate::case::{part, text, word};
 use crate::fault::Fault;
-use ovs_command_line::{Complaint, RelayOptions, SourceOptions, Task, command, complaint_of};
+use ovs_command_line::{
+    Complaint, RelayOptions, SchemaOrigin, SourceOptions, Task, command, complaint_of,
+};
 use ovs_script::RunEnd;
 use serde_json::Value;
 use std::alloc::Global;
@@ -41,7 +43,11 @@ fn source_told(alloc: Global, given: &SourceOptions) -> Result<String, Fault> {
 
 // What a relay is given.
 fn relay_told(alloc: Global, given: &RelayOptions) -> Result<String, Fault> {
-    let (schema, listen) = (&given.schema, given.listen);
+    let schema = match &given.schema {
+        SchemaOrigin::File(file) => format!(in alloc; "{file}")?,
+        SchemaOrigin::FirstUpstream(database) => format!(in alloc; "of {database}")?,
+    };
+    let listen = given.listen;
     let mut told = format!(in alloc; "relay {schema} at {listen}, follows")?;
     for upstream in &given.upstreams {
         let upstream = format!(in alloc; " {upstream}")?;

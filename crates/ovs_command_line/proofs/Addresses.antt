@@ -1,19 +1,22 @@
 -- Addresses that are read one after another.
-use Rattle.std.proofs.Common.{◌≡◌, ◌∙◌, ◌<◌, ◌≤◌, ◌+◌, ℕ, zero, suc, ap, sym, subst, refl, arith, codes, List, [], ◌∷◌, ◌++◌, map, length, take, get_or, Option, Some, None}
+use Rattle.std.proofs.Common.{◌≡◌, ◌∙◌, ◌<◌, ◌≤◌, ◌+◌, ℕ, zero, suc, ap, sym, subst, refl, arith, codes, List, [], ◌∷◌, ◌++◌, map, length, take, get_or, Option, Some, None, Bool, true, false, true≢false}
 use Rattle.std.specs.Borrow.{Bor}
 use Rattle.std.specs.Prelude.{option_map, option_and_then, find, slice_get, bytes_eq, Contains}
 use Rattle.std.specs.Option.{unwrap_or}
 use Rattle.std.specs.List.{AllZip}
 use Rattle.std.proofs.Math.Seq.{take-suc}
 use Rattle.std.proofs.lemmas.List.{map-append}
+use Rattle.std.specs.Net.Addr.{MatchIp, IsLoopbackV4, IsLoopbackV6}
+use Rattle.std.specs.Net.Grammar.{IsSocketText}
+use Rattle.std.specs.Net.Socket.{socket_ip}
 use Rattle.std.specs.declared.net.socket_addr.SocketAddr.{SocketAddr}
 use Rattle.std.proofs.lemmas.Slice.Zip.{AllZip-long}
 use Rattle.clap.specs.Words.{Row, Text, all_of}
 use Rattle.ovs_command_line.specs.declared.command_option.CommandOption.TheVariants.{Upstream}
 use Rattle.ovs_command_line.specs.declared.command_fault.CommandFault.{CommandFault}
-use Rattle.ovs_command_line.specs.declared.command_fault.CommandFault.TheVariants.{Usage, Missing, BadValue, OneTooMany, OwnAddress, NoMemory}
+use Rattle.ovs_command_line.specs.declared.command_fault.CommandFault.TheVariants.{Usage, Missing, TwoOrigins, BadValue, OneTooMany, OwnAddress, NoMemory}
 use Rattle.ovs_command_line.specs.Values.{SpellsAddress}
-use Rattle.ovs_command_line.specs.Options.{word_of, words_of, AreUpstreams}
+use Rattle.ovs_command_line.specs.Options.{word_of, words_of, goes_beyond, SpellsAllowed, AreUpstreams}
 use Rattle.ovs_command_line.specs.Faults.{IsFaultOf, IsOneTooMany, IsFaultAmong}
 
 abbrev pub texts_of : List (Bor Text) → List Text
@@ -26,16 +29,27 @@ zip_push R (w ∷ ws) [] x y each so = absurd each
 zip_push R (w ∷ ws) (z ∷ zs) x y each so = (each.0, zip_push R ws zs x y each.1 so)
 
 -- one more address
-pub one_more : (words : List (Bor Text)) (i : ℕ) (d : Bor Text) (read after : List SocketAddr) (address : SocketAddr) → i < length words
-    → AllZip SpellsAddress (texts_of (take i words)) read → after ≡ read ++ address ∷ [] → SpellsAddress (get_or words i d).now address
-    → AllZip SpellsAddress (texts_of (take (i + 1) words)) after
-one_more words i d read after address within each more spells =
+pub one_more : (beyond : Bool) (words : List (Bor Text)) (i : ℕ) (d : Bor Text) (read after : List SocketAddr) (address : SocketAddr) → i < length words
+    → AllZip (SpellsAddress beyond) (texts_of (take i words)) read → after ≡ read ++ address ∷ [] → SpellsAddress beyond (get_or words i d).now address
+    → AllZip (SpellsAddress beyond) (texts_of (take (i + 1) words)) after
+one_more beyond words i d read after address within each more spells =
     let w = get_or words i d in
     let next : i + 1 ≡ suc i = omega arith in
     let taken : take (i + 1) words ≡ take i words ++ w ∷ [] = ap (λ n. take n words) next ∙ take-suc words i d within in
     let texts : texts_of (take (i + 1) words) ≡ texts_of (take i words) ++ w.now ∷ [] = ap texts_of taken ∙ map-append (λ (x : Bor Text). x.now) (take i words) (w ∷ []) in
-    subst (λ ts. AllZip SpellsAddress ts after) (sym texts)
-    (subst (AllZip SpellsAddress (texts_of (take i words) ++ w.now ∷ [])) (sym more) (zip_push SpellsAddress (texts_of (take i words)) read w.now address each spells))
+    subst (λ ts. AllZip (SpellsAddress beyond) ts after) (sym texts)
+    (subst (AllZip (SpellsAddress beyond) (texts_of (take i words) ++ w.now ∷ [])) (sym more) (zip_push (SpellsAddress beyond) (texts_of (take i words)) read w.now address each spells))
+
+-- whatever address is allowed, the word spells it with its port
+pub is_text : (beyond : Bool) (word : Text) (address : SocketAddr) → SpellsAddress beyond word address → IsSocketText word address
+is_text true word address spells = spells
+is_text false word address spells = spells.0
+
+-- where only loopback is, it is one of these
+pub is_of_loopback : (beyond : Bool) (word : Text) (address : SocketAddr) → beyond ≡ false → SpellsAddress beyond word address
+    → MatchIp (socket_ip address) IsLoopbackV4 IsLoopbackV6
+is_of_loopback true word address is spells = absurd (true≢false is)
+is_of_loopback false word address is spells = spells.1
 
 -- ---- the words behind `--upstream`
 
@@ -61,24 +75,26 @@ pub fifth_fault : (rows : List Row) (word : Text) → slice_get (words_of Upstre
 fifth_fault rows word at (OneTooMany w) made = (refl, at ∙ ap Some (sym made))
 fifth_fault rows word at NoMemory made = tt
 fifth_fault rows word at (Usage line) made = absurd (let no : Usage line ≡ NoMemory = made in cc)
+fifth_fault rows word at TwoOrigins made = absurd (let no : TwoOrigins ≡ NoMemory = made in cc)
 fifth_fault rows word at (Missing o) made = absurd (let no : Missing o ≡ NoMemory = made in cc)
 fifth_fault rows word at (BadValue o w) made = absurd (let no : BadValue o w ≡ NoMemory = made in cc)
 fifth_fault rows word at (OwnAddress a) made = absurd (let no : OwnAddress a ≡ NoMemory = made in cc)
 
 -- one of them is no address
-pub address_fault : (rows : List Row) (fault : CommandFault) → IsFaultAmong (words_of Upstream rows) fault → IsFaultOf Upstream rows fault
+pub address_fault : (rows : List Row) (fault : CommandFault) → IsFaultAmong (goes_beyond rows) (words_of Upstream rows) fault → IsFaultOf Upstream rows fault
 address_fault rows (BadValue o w) made = made
 address_fault rows NoMemory made = tt
 address_fault rows (OneTooMany w) made = absurd (let no : OneTooMany w ≡ NoMemory = made in cc)
 address_fault rows (OwnAddress a) made = absurd (let no : OwnAddress a ≡ NoMemory = made in cc)
 address_fault rows (Usage line) made = absurd (let no : Usage line ≡ NoMemory = made in cc)
+address_fault rows TwoOrigins made = absurd (let no : TwoOrigins ≡ NoMemory = made in cc)
 address_fault rows (Missing o) made = absurd (let no : Missing o ≡ NoMemory = made in cc)
 
 -- all are addresses, and as many as may be
 pub all_addresses : (rows : List Row) (upstreams : List SocketAddr) → 1 ≤ length (words_of Upstream rows) → length (words_of Upstream rows) ≤ 4
-    → AllZip SpellsAddress (words_of Upstream rows) upstreams → AreUpstreams rows upstreams
+    → AllZip (SpellsAllowed rows) (words_of Upstream rows) upstreams → AreUpstreams rows upstreams
 all_addresses rows upstreams least most each =
-    let long = AllZip-long SpellsAddress (words_of Upstream rows) upstreams each in (each, omega (arith, long, least), omega (arith, long, most))
+    let long = AllZip-long (SpellsAllowed rows) (words_of Upstream rows) upstreams each in (each, omega (arith, long, least), omega (arith, long, most))
 
 -- ---- how many words there are
 
@@ -91,11 +107,11 @@ one_at_least zero some = absurd (some refl)
 one_at_least (suc n) some = omega arith
 
 -- a word spells each of them
-pub spelled_at : (words : List Text) (addresses : List SocketAddr) → AllZip SpellsAddress words addresses → (i : ℕ) (d : SocketAddr) → i < length addresses
-    → (word : Text) × Contains words word × SpellsAddress word (get_or addresses i d)
-spelled_at [] [] each i d within = absurd (omega (arith, within))
-spelled_at [] (b ∷ bs) each i d within = absurd each
-spelled_at (w ∷ ws) [] each i d within = absurd each
-spelled_at (w ∷ ws) (b ∷ bs) each zero d within = (w, (zero, omega arith, refl), each.0)
-spelled_at (w ∷ ws) (b ∷ bs) each (suc i) d within =
-    let rest = spelled_at ws bs each.1 i d (omega (arith, within)) in (rest.0, (suc rest.1.0, omega (arith, rest.1.1), rest.1.2), rest.2)
+pub spelled_at : (Spells : Text → SocketAddr → Type 0) (words : List Text) (addresses : List SocketAddr) → AllZip Spells words addresses → (i : ℕ) (d : SocketAddr)
+    → i < length addresses → (word : Text) × Contains words word × Spells word (get_or addresses i d)
+spelled_at Spells [] [] each i d within = absurd (omega (arith, within))
+spelled_at Spells [] (b ∷ bs) each i d within = absurd each
+spelled_at Spells (w ∷ ws) [] each i d within = absurd each
+spelled_at Spells (w ∷ ws) (b ∷ bs) each zero d within = (w, (zero, omega arith, refl), each.0)
+spelled_at Spells (w ∷ ws) (b ∷ bs) each (suc i) d within =
+    let rest = spelled_at Spells ws bs each.1 i d (omega (arith, within)) in (rest.0, (suc rest.1.0, omega (arith, rest.1.1), rest.1.2), rest.2)

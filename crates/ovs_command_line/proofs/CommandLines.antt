@@ -7,7 +7,7 @@ use Rattle.clap.specs.declared.error.kind.ErrorKind.TheVariants.{DisplayHelp, Di
 use Rattle.ovs_command_line.specs.declared.command_line.Task.{Task}
 use Rattle.ovs_command_line.specs.declared.command_line.Task.TheVariants.{Fold, World, Source, Relay, Help, Version}
 use Rattle.ovs_command_line.specs.declared.command_fault.CommandFault.{CommandFault}
-use Rattle.ovs_command_line.specs.declared.command_fault.CommandFault.TheVariants.{Usage, Missing, BadValue, OneTooMany, OwnAddress, NoMemory}
+use Rattle.ovs_command_line.specs.declared.command_fault.CommandFault.TheVariants.{Usage, Missing, TwoOrigins, BadValue, OneTooMany, OwnAddress, NoMemory}
 use Rattle.ovs_command_line.specs.CommandLine.{AskForText, found_for, is_task, program}
 use Rattle.ovs_command_line.specs.Faults.{HaveFault, IsRefusal}
 use Rattle.ovs_command_line.proofs.CommandFaults.{help_is_all, version_is_all}
@@ -55,6 +55,7 @@ module _ (e : Error) (a : App) (words : List Text) (is : a ≡ program) (has : H
   fault_of_error (Ok task) refusal = tt
   fault_of_error (Err NoMemory) refusal = tt
   fault_of_error (Err (Missing o)) refusal = absurd refusal
+  fault_of_error (Err TwoOrigins) refusal = absurd refusal
   fault_of_error (Err (BadValue o word)) refusal = absurd refusal
   fault_of_error (Err (OneTooMany word)) refusal = absurd refusal
   fault_of_error (Err (OwnAddress a)) refusal = absurd refusal
@@ -79,6 +80,7 @@ module _ (e : Error) (a : App) (words : List Text) (is : a ≡ program) (has : H
   asked_of_error asks (Ok (Relay o)) refusal = absurd refusal
   asked_of_error asks (Err NoMemory) refusal = (tt, refl)
   asked_of_error asks (Err (Missing o)) refusal = absurd refusal
+  asked_of_error asks (Err TwoOrigins) refusal = absurd refusal
   asked_of_error asks (Err (BadValue o word)) refusal = absurd refusal
   asked_of_error asks (Err (OneTooMany word)) refusal = absurd refusal
   asked_of_error asks (Err (OwnAddress a)) refusal = absurd refusal
@@ -95,6 +97,7 @@ module _ (e : Error) (a : App) (words : List Text) (is : a ≡ program) (has : H
   memory_of_error none P (Ok (Relay o)) refusal = absurd refusal
   memory_of_error none P (Err NoMemory) refusal = (tt, refl)
   memory_of_error none P (Err (Missing o)) refusal = absurd refusal
+  memory_of_error none P (Err TwoOrigins) refusal = absurd refusal
   memory_of_error none P (Err (BadValue o word)) refusal = absurd refusal
   memory_of_error none P (Err (OneTooMany word)) refusal = absurd refusal
   memory_of_error none P (Err (OwnAddress a)) refusal = absurd refusal

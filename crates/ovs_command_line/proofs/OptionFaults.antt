@@ -1,19 +1,23 @@
 -- Where what stands behind options can be read, nothing is off with them.
-use Rattle.std.proofs.Common.{◌≡◌, ◌≢◌, ◌∙◌, ℕ, zero, suc, ap, sym, subst, refl, arith, List, [], ◌∷◌, Option, Some, None, length, codes, inl, inr, ◌⊎◌, true, false, true≢false}
-use Rattle.std.specs.Prelude.{slice_get, Contains, option_map, option_and_then, find, string_bytes, bytes_eq}
+use Rattle.std.proofs.Common.{◌≡◌, ◌≢◌, ◌∙◌, ℕ, zero, suc, ap, sym, subst, refl, arith, List, [], ◌∷◌, Option, Some, None, Result, Ok, Err, length, codes, inl, inr, ◌⊎◌, IsTrue, true, false, true≢false}
+use Rattle.std.specs.Result.{IsErrAnd}
+use Rattle.std.specs.Prelude.{IfErr, slice_get, Contains, option_map, option_and_then, find, string_bytes, bytes_eq}
 use Rattle.std.proofs.lemmas.Option.{slice_get_within}
 use Rattle.std.specs.List.{AllZip}
 use Rattle.std.specs.Option.{unwrap_or}
 use Rattle.clap.specs.Words.{Row, Text, first_of}
 use Rattle.std.specs.declared.net.socket_addr.SocketAddr.{SocketAddr}
+use Rattle.ovs_command_line.specs.declared.options.SchemaOrigin.{SchemaOrigin}
+use Rattle.ovs_command_line.specs.declared.options.SchemaOrigin.TheVariants as origins
 use Rattle.ovs_command_line.specs.declared.command_option.CommandOption.{CommandOption}
-use Rattle.ovs_command_line.specs.declared.command_option.CommandOption.TheVariants.{Schema, Listen, Upstream, FirstId, FirstRow, TrimEvery, Accepts, Tries}
+use Rattle.ovs_command_line.specs.declared.command_option.CommandOption.TheVariants.{Schema, Database, Listen, Upstream, FirstId, FirstRow, TrimEvery, Accepts, Tries}
 use Rattle.ovs_command_line.specs.declared.command_fault.CommandFault.{CommandFault}
-use Rattle.ovs_command_line.specs.declared.command_fault.CommandFault.TheVariants.{Usage, Missing, BadValue, OneTooMany, OwnAddress, NoMemory}
-use Rattle.ovs_command_line.specs.Values.{SpellsAddress, SpellsCommit, SpellsRow, SpellsCount, SpellsNone}
-use Rattle.ovs_command_line.specs.Options.{is_count, word_of, words_of, Gives, SpellsIfGiven}
+use Rattle.ovs_command_line.specs.declared.command_fault.CommandFault.TheVariants.{Usage, Missing, TwoOrigins, BadValue, OneTooMany, OwnAddress, NoMemory}
+use Rattle.ovs_command_line.specs.Values.{SpellsCommit, SpellsRow, SpellsCount, SpellsNone}
+use Rattle.ovs_command_line.specs.Options.{is_count, word_of, words_of, Gives, SpellsIfGiven, SpellsAllowed, GivesOrigin}
+use Rattle.ovs_command_line.specs.declared.command_line.Task.{Task}
 use Rattle.ovs_command_line.specs.CommandLine.{Found, HasCommand}
-use Rattle.ovs_command_line.specs.Faults.{is_of_source, IsReadable, IsNoValue, StandsBehind, IsFaultOf, IsFaultOfSource, IsFaultOfRelay, IsFoundReadable, IsNoValueOf, HasOptionFault}
+use Rattle.ovs_command_line.specs.Faults.{is_of_source, is_of_relay, IsReadable, IsNoValue, StandsBehind, HasOwnAddress, IsFaultOf, IsFaultOfOrigin, IsFaultOfSource, IsFaultOfRelay, IsFoundReadable, IsNoValueOf, HasOptionFault}
 
 -- the fault of a number
 pub count_fault : (option : CommandOption) (rows : List Row) (word : Text) → is_count option ≡ true → word_of option rows ≡ Some word → SpellsNone SpellsCount word
@@ -22,11 +26,13 @@ count_fault option rows word is at none (Usage line) made = absurd (let no : Usa
 count_fault option rows word is at none (Missing o) made = absurd (let no : Missing o ≡ NoMemory = made in cc)
 count_fault option rows word is at none (OneTooMany w) made = absurd (let no : OneTooMany w ≡ NoMemory = made in cc)
 count_fault option rows word is at none (OwnAddress a) made = absurd (let no : OwnAddress a ≡ NoMemory = made in cc)
+count_fault option rows word is at none TwoOrigins made = absurd (let no : TwoOrigins ≡ NoMemory = made in cc)
 count_fault option rows word is at none NoMemory made = tt
 count_fault TrimEvery rows word is at none (BadValue o w) made = (made.0, at ∙ ap Some (sym made.1), subst (SpellsNone SpellsCount) (sym made.1) none)
 count_fault Accepts rows word is at none (BadValue o w) made = (made.0, at ∙ ap Some (sym made.1), subst (SpellsNone SpellsCount) (sym made.1) none)
 count_fault Tries rows word is at none (BadValue o w) made = (made.0, at ∙ ap Some (sym made.1), subst (SpellsNone SpellsCount) (sym made.1) none)
 count_fault Schema rows word is at none (BadValue o w) made = absurd (true≢false (sym is))
+count_fault Database rows word is at none (BadValue o w) made = absurd (true≢false (sym is))
 count_fault Listen rows word is at none (BadValue o w) made = absurd (true≢false (sym is))
 count_fault Upstream rows word is at none (BadValue o w) made = absurd (true≢false (sym is))
 count_fault FirstId rows word is at none (BadValue o w) made = absurd (true≢false (sym is))
@@ -80,6 +86,7 @@ no_first rows none = by_row (find (λ (r : Row). bytes_eq r.id (codes "upstream"
 -- where an option that has to be there can be read, it is there
 is_there : (option : CommandOption) (rows : List Row) → is_count option ≡ false → IsReadable option rows → word_of option rows ≢ None
 is_there Schema rows needed readable none = no_word _ readable.0 readable.1 none
+is_there Database rows needed readable none = no_word _ readable.0 readable.1 none
 is_there Listen rows needed readable none = no_word _ readable.1.0 readable.1.1 none
 is_there FirstId rows needed readable none = no_word _ readable.1.0 readable.1.1 none
 is_there FirstRow rows needed readable none = no_word _ readable.1.0 readable.1.1 none
@@ -87,16 +94,17 @@ is_there TrimEvery rows needed readable none = absurd (true≢false needed)
 is_there Accepts rows needed readable none = absurd (true≢false needed)
 is_there Tries rows needed readable none = absurd (true≢false needed)
 is_there Upstream rows needed readable none =
-    let few = as_many SpellsAddress (words_of Upstream rows) readable.0 readable.1.0 in
+    let few = as_many (SpellsAllowed rows) (words_of Upstream rows) readable.0 readable.1.0 in
     let least = readable.1.1 in
     let no_words = no_first rows none in
     absurd (omega arith)
 
 -- and the words behind it are values of it
-is_value : (option : CommandOption) (rows : List Row) → IsReadable option rows → (word : Text) → StandsBehind option rows word → ¬ (IsNoValue option word)
+is_value : (option : CommandOption) (rows : List Row) → IsReadable option rows → (word : Text) → StandsBehind option rows word → ¬ (IsNoValue option rows word)
 is_value Schema rows readable word behind none = none
-is_value Listen rows readable word behind none = given_alone SpellsAddress Listen rows readable.0 readable.1 word behind none
-is_value Upstream rows readable word behind none = each_spells SpellsAddress (words_of Upstream rows) readable.0 readable.1.0 word behind none
+is_value Database rows readable word behind none = none
+is_value Listen rows readable word behind none = given_alone (SpellsAllowed rows) Listen rows readable.0 readable.1 word behind none
+is_value Upstream rows readable word behind none = each_spells (SpellsAllowed rows) (words_of Upstream rows) readable.0 readable.1.0 word behind none
 is_value FirstId rows readable word behind none = given_alone SpellsCommit FirstId rows readable.0 readable.1 word behind none
 is_value FirstRow rows readable word behind none = given_alone SpellsRow FirstRow rows readable.0 readable.1 word behind none
 is_value TrimEvery rows readable word behind none = counted_if_given (word_of TrimEvery rows) readable.0 readable.1 word behind none
@@ -106,7 +114,7 @@ is_value Tries rows readable word behind none = counted_if_given (word_of Tries 
 -- and no upstream is the fifth
 no_fifth : (rows : List Row) → IsReadable Upstream rows → (word : Text) → slice_get (words_of Upstream rows) 4 ≢ Some word
 no_fifth rows readable word fifth =
-    let few = as_many SpellsAddress (words_of Upstream rows) readable.0 readable.1.0 in
+    let few = as_many (SpellsAllowed rows) (words_of Upstream rows) readable.0 readable.1.0 in
     let most = readable.1.2 in
     let within = slice_get_within (words_of Upstream rows) 4 word fifth in
     absurd (omega arith)
@@ -115,6 +123,7 @@ no_fifth rows readable word fifth =
 pub no_fault : (option : CommandOption) (rows : List Row) (fault : CommandFault) → ((a : SocketAddr) → ¬ (IsFaultOf option rows (OwnAddress a)))
     → IsReadable option rows → IsFaultOf option rows fault → fault ≡ NoMemory
 no_fault option rows (Usage line) apart readable off = absurd off
+no_fault option rows TwoOrigins apart readable off = absurd off
 no_fault option rows (Missing o) apart readable off = absurd (is_there option rows off.1 readable off.2)
 no_fault option rows (BadValue o word) apart readable off = absurd (is_value option rows readable (string_bytes word) off.1 off.2)
 no_fault option rows (OneTooMany word) apart readable off = absurd (no_fifth rows (subst (λ o. IsReadable o rows) off.0 readable) (string_bytes word) off.1)
@@ -125,18 +134,52 @@ no_fault option rows NoMemory apart readable off = refl
 no_upstream : (option : CommandOption) → is_of_source option ≡ true → option ≢ Upstream
 no_upstream option is upstream = absurd (true≢false (sym is ∙ ap is_of_source upstream))
 
+-- where it is said where a relay's schema comes from, nothing is off with that
+origin_fault : (rows : List Row) (origin : SchemaOrigin) (fault : CommandFault) → GivesOrigin rows origin → IsFaultOfOrigin rows fault → fault ≡ NoMemory
+origin_fault rows (origins.File file) (Missing o) gives off = absurd (no_word (word_of Schema rows) (string_bytes file) gives.0 off.1)
+origin_fault rows (origins.FirstUpstream name) (Missing o) gives off = absurd (no_word (word_of Database rows) (string_bytes name) gives.1 off.2)
+origin_fault rows (origins.File file) TwoOrigins gives off = absurd (off.1 gives.1)
+origin_fault rows (origins.FirstUpstream name) TwoOrigins gives off = absurd (off.0 gives.0)
+origin_fault rows origin (Usage line) gives off = off
+origin_fault rows origin (BadValue o word) gives off = off
+origin_fault rows origin (OneTooMany word) gives off = off
+origin_fault rows origin (OwnAddress a) gives off = off
+origin_fault rows origin NoMemory gives off = refl
+
+of_relay : (rows : List Row) (fault : CommandFault) → ((a : SocketAddr) → ¬ (HasOwnAddress rows a))
+    → ((option : CommandOption) → IsTrue (is_of_relay option) → IsReadable option rows) → (origin : SchemaOrigin) → GivesOrigin rows origin
+    → IsFaultOfRelay rows fault → fault ≡ NoMemory
+of_relay rows fault apart readable origin gives (inl off) = origin_fault rows origin fault gives off
+of_relay rows fault apart readable origin gives (inr off) = no_fault off.0 rows fault (λ a own. apart a own.1) (readable off.0 off.1) off.2
+
 of_command : (found : Found) (fault : CommandFault) → IsFoundReadable found
     → HasCommand (codes "source") (λ rows. IsFaultOfSource rows fault) found ⊎ HasCommand (codes "relay") (λ rows. IsFaultOfRelay rows fault) found → fault ≡ NoMemory
 of_command found fault readable (inl off) =
     no_fault off.2.0 off.0 fault (λ a own. no_upstream off.2.0 off.2.1 own.0) (readable.0 off.0 off.1 off.2.0 off.2.1) off.2.2
 of_command found fault readable (inr off) =
-    no_fault off.2.0 off.0 fault (λ a own. readable.2 off.0 off.1 a own.1) (readable.1 off.0 off.1 off.2.0 off.2.1) off.2.2
+    let origin = readable.3 off.0 off.1 in of_relay off.0 fault (readable.2 off.0 off.1) (readable.1 off.0 off.1) origin.0 origin.1 off.2
+
+-- what is off with `relay` is off with what is found
+pub relay_fault : (found : Found) (rows : List Row) (fault : CommandFault) → found ≡ Some (codes "relay", rows) → IsFaultOfRelay rows fault → HasOptionFault found fault
+relay_fault found rows NoMemory is off = tt
+relay_fault found rows (Usage line) is off = inr (rows, is, off)
+relay_fault found rows (Missing o) is off = inr (rows, is, off)
+relay_fault found rows TwoOrigins is off = inr (rows, is, off)
+relay_fault found rows (BadValue o word) is off = inr (rows, is, off)
+relay_fault found rows (OneTooMany word) is off = inr (rows, is, off)
+relay_fault found rows (OwnAddress a) is off = inr (rows, is, off)
+
+-- an answer that bears this fault
+pub with_fault : (Q : CommandFault → Type 0) (r : Result Task CommandFault) (fault : CommandFault) → IsErrAnd r (λ e. e ≡ fault) → Q fault → IfErr r Q
+with_fault Q (Ok task) fault is off = tt
+with_fault Q (Err e) fault is off = subst Q (sym is) off
 
 -- the same of what is found of a command
 pub no_option_fault : (found : Found) (fault : CommandFault) → IsFoundReadable found → HasOptionFault found fault → fault ≡ NoMemory
 no_option_fault found NoMemory readable off = refl
 no_option_fault found (Usage line) readable off = of_command found (Usage line) readable off
 no_option_fault found (Missing o) readable off = of_command found (Missing o) readable off
+no_option_fault found TwoOrigins readable off = of_command found TwoOrigins readable off
 no_option_fault found (BadValue o word) readable off = of_command found (BadValue o word) readable off
 no_option_fault found (OneTooMany word) readable off = of_command found (OneTooMany word) readable off
 no_option_fault found (OwnAddress a) readable off = of_command found (OwnAddress a) readable off

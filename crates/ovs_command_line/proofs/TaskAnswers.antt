@@ -1,13 +1,13 @@
 -- What an answer that was made from `clap`'s matches says of the words.
 use Rattle.std.proofs.Common.{◌≡◌, sym, subst, refl, List, [], Result, Ok, Err, IfOk, IsTrue, inl, inr, true≢false}
 use Rattle.std.specs.Prelude.{IfErr}
-use Rattle.clap.specs.Words.{Text, fault_of, subcommand_of}
+use Rattle.clap.specs.Words.{Row, Text, fault_of, subcommand_of}
 use Rattle.ovs_command_line.specs.declared.command_line.Task.{Task}
 use Rattle.ovs_command_line.specs.declared.command_line.Task.TheVariants.{Fold, World, Source, Relay, Help, Version}
 use Rattle.ovs_command_line.specs.declared.command_fault.CommandFault.{CommandFault}
-use Rattle.ovs_command_line.specs.declared.command_fault.CommandFault.TheVariants.{Usage, Missing, BadValue, OneTooMany, OwnAddress, NoMemory}
+use Rattle.ovs_command_line.specs.declared.command_fault.CommandFault.TheVariants.{Usage, Missing, TwoOrigins, BadValue, OneTooMany, OwnAddress, NoMemory}
 use Rattle.ovs_command_line.specs.CommandLine.{Found, Asks, AskToRun, found_for, is_task, program}
-use Rattle.ovs_command_line.specs.Faults.{CanBeRead, HasOptionFault, HaveFault}
+use Rattle.ovs_command_line.specs.Faults.{CanBeRead, HasOptionFault, HaveFault, IsFaultOfRelay}
 use Rattle.ovs_command_line.proofs.OptionFaults.{no_option_fault}
 
 found_for_task : (task : Task) → IsTrue (is_task task) → found_for task ≡ []
@@ -18,14 +18,19 @@ found_for_task (Relay o) is = refl
 found_for_task (Help text) is = absurd (true≢false (sym is))
 found_for_task (Version text) is = absurd (true≢false (sym is))
 
+no_usage : (rows : List Row) (line : _) → ¬ (IsFaultOfRelay rows (Usage line))
+no_usage rows line (inl off) = let no : Usage line ≡ NoMemory = off in cc
+no_usage rows line (inr off) = off.2
+
 option_fault : (words : List Text) (fault : CommandFault) → fault_of program words ≡ [] → HasOptionFault (subcommand_of program words) fault → HaveFault words fault
 option_fault words NoMemory nothing off = tt
 option_fault words (Missing o) nothing off = (nothing, off)
+option_fault words TwoOrigins nothing off = (nothing, off)
 option_fault words (BadValue o word) nothing off = (nothing, off)
 option_fault words (OneTooMany word) nothing off = (nothing, off)
 option_fault words (OwnAddress a) nothing off = (nothing, off)
 option_fault words (Usage line) nothing (inl off) = absurd off.2.2
-option_fault words (Usage line) nothing (inr off) = absurd off.2.2
+option_fault words (Usage line) nothing (inr off) = absurd (no_usage off.0 line off.2)
 
 -- an answer that was made from what is found of the command that is named
 module _ (words : List Text) (found : Found) (is : found ≡ subcommand_of program words) where

@@ -37,15 +37,16 @@ source_words = with_rule (with_rule (with_rule (with_rule (with_rule (with_rule 
     (word_rule (codes "listen"))) (word_rule (codes "first-id"))) (word_rule (codes "first-row"))) (word_rule (codes "trim-every"))) (word_rule (codes "accepts"))
 
 abbrev pub source_app : App
-source_app = with_rule source_words (flag_rule (codes "verbose"))
+source_app = with_rule (with_rule source_words (flag_rule (codes "verbose"))) (flag_rule (codes "beyond-loopback"))
 
--- a schema, an address to listen at and upstreams
+-- a schema or the name of a database, an address to listen at and upstreams
 abbrev pub relay_words : App
-relay_words = with_rule (with_rule (with_rule (with_rule (with_rule (new_app (codes "relay")) (word_rule (codes "schema"))) (word_rule (codes "listen")))
-    (list_rule (codes "upstream"))) (word_rule (codes "accepts"))) (word_rule (codes "tries"))
+relay_words = with_rule (with_rule (with_rule (with_rule (with_rule (with_rule (new_app (codes "relay")) (word_rule (codes "schema")))
+    (word_rule (codes "database"))) (word_rule (codes "listen"))) (list_rule (codes "upstream"))) (word_rule (codes "accepts"))) (word_rule (codes "tries"))
 
 abbrev pub relay_app : App
-relay_app = with_rule (with_rule (with_rule relay_words (flag_rule (codes "verbose"))) (flag_rule (codes "end-on-refusal"))) (flag_rule (codes "prune"))
+relay_app = with_rule (with_rule (with_rule (with_rule relay_words (flag_rule (codes "verbose"))) (flag_rule (codes "end-on-refusal"))) (flag_rule (codes "prune")))
+    (flag_rule (codes "beyond-loopback"))
 
 abbrev pub with_commands : App
 with_commands = with_subcommand (with_subcommand (with_subcommand (with_subcommand (new_app (codes "ovs_relay")) fold_app.top) world_app.top)

@@ -5,13 +5,14 @@ use Rattle.clap.specs.Words.{Row, Text, fault_of, subcommand_of}
 use Rattle.clap.specs.declared.error.kind.ErrorKind.{ErrorKind}
 use Rattle.clap.specs.declared.error.kind.ErrorKind.TheVariants.{DisplayHelp, DisplayVersion, OutOfMemory}
 use Rattle.ovs_command_line.specs.declared.command_option.CommandOption.{CommandOption}
-use Rattle.ovs_command_line.specs.declared.command_option.CommandOption.TheVariants.{Schema, Listen, Upstream, FirstId, FirstRow, TrimEvery, Accepts, Tries}
+use Rattle.ovs_command_line.specs.declared.command_option.CommandOption.TheVariants.{Schema, Database, Listen, Upstream, FirstId, FirstRow, TrimEvery, Accepts, Tries}
 use Rattle.ovs_command_line.specs.declared.command_fault.CommandFault.{CommandFault}
-use Rattle.ovs_command_line.specs.declared.command_fault.CommandFault.TheVariants.{Usage, Missing, BadValue, OneTooMany, OwnAddress, NoMemory}
+use Rattle.ovs_command_line.specs.declared.command_fault.CommandFault.TheVariants.{Usage, Missing, TwoOrigins, BadValue, OneTooMany, OwnAddress, NoMemory}
+use Rattle.ovs_command_line.specs.declared.options.SchemaOrigin.{SchemaOrigin}
 use Rattle.ovs_command_line.specs.declared.command_line.Task.{Task}
 use Rattle.ovs_command_line.specs.declared.command_line.Task.TheVariants.{Help, Version}
 use Rattle.ovs_command_line.specs.Values.{SpellsAddress, SpellsCommit, SpellsRow, SpellsCount, SpellsNone}
-use Rattle.ovs_command_line.specs.Options.{is_count, word_of, words_of, Gives, CountsIfGiven, AreUpstreams}
+use Rattle.ovs_command_line.specs.Options.{is_count, word_of, words_of, Gives, CountsIfGiven, SpellsAllowed, GivesOrigin, AreUpstreams}
 use Rattle.ovs_command_line.specs.CommandLine.{Found, HasCommand, AskForText, program}
 
 -- the exit status beside a fault: 2 a fault of the command line, 3 memory gave out
@@ -22,11 +23,15 @@ fault_status _ = 2
 -- ---- the options of each command
 
 abbrev pub is_of_source : CommandOption → Bool
+is_of_source Database = false
 is_of_source Upstream = false
 is_of_source Tries = false
 is_of_source _ = true
 
+-- those that are read alone: what says where the schema comes from is read together
 abbrev pub is_of_relay : CommandOption → Bool
+is_of_relay Schema = false
+is_of_relay Database = false
 is_of_relay FirstId = false
 is_of_relay FirstRow = false
 is_of_relay TrimEvery = false
@@ -37,7 +42,8 @@ is_of_relay _ = true
 -- what stands behind an option, in what is found of a command, gives a value
 abbrev pub IsReadable : CommandOption → List Row → Type 0
 IsReadable Schema rows = (word : Text) × (word_of Schema rows ≡ Some word)
-IsReadable Listen rows = (address : SocketAddr) × Gives SpellsAddress Listen rows address
+IsReadable Database rows = (word : Text) × (word_of Database rows ≡ Some word)
+IsReadable Listen rows = (address : SocketAddr) × Gives (SpellsAllowed rows) Listen rows address
 IsReadable Upstream rows = (upstreams : List SocketAddr) × AreUpstreams rows upstreams
 IsReadable FirstId rows = (id : ℕ) × Gives SpellsCommit FirstId rows id
 IsReadable FirstRow rows = (id : ℕ) × Gives SpellsRow FirstRow rows id
@@ -47,14 +53,15 @@ IsReadable Tries rows = (n : Option ℕ) × CountsIfGiven Tries rows n
 
 -- an upstream is the address at which the relay listens
 abbrev pub HasOwnAddress : List Row → SocketAddr → Type 0
-HasOwnAddress rows address = Gives SpellsAddress Listen rows address × ((word : Text) × Contains (words_of Upstream rows) word × SpellsAddress word address)
+HasOwnAddress rows address = Gives (SpellsAllowed rows) Listen rows address × ((word : Text) × Contains (words_of Upstream rows) word × SpellsAllowed rows word address)
 
--- the options of `source`, or of `relay`, give values, where that is the command, and no upstream of the latter is its own address; the
--- other commands have words that give any
+-- the options of `source`, or of `relay`, give values, where that is the command, and of the latter no upstream is its own address, and it
+-- is said where its schema comes from; the other commands have words that give any
 abbrev pub IsFoundReadable : Found → Type 0
 IsFoundReadable found = ((rows : List Row) → found ≡ Some (codes "source", rows) → (option : CommandOption) → IsTrue (is_of_source option) → IsReadable option rows)
     × ((rows : List Row) → found ≡ Some (codes "relay", rows) → (option : CommandOption) → IsTrue (is_of_relay option) → IsReadable option rows)
     × ((rows : List Row) → found ≡ Some (codes "relay", rows) → (address : SocketAddr) → ¬ (HasOwnAddress rows address))
+    × ((rows : List Row) → found ≡ Some (codes "relay", rows) → (origin : SchemaOrigin) × GivesOrigin rows origin)
 
 -- the words behind the options can be read
 abbrev pub CanBeRead : List Text → Type 0
@@ -62,16 +69,17 @@ CanBeRead words = IsFoundReadable (subcommand_of program words)
 
 -- ---- faults of options
 
--- no value of this option
-abbrev pub IsNoValue : CommandOption → Text → Type 0
-IsNoValue Schema word = ⊥
-IsNoValue Listen word = SpellsNone SpellsAddress word
-IsNoValue Upstream word = SpellsNone SpellsAddress word
-IsNoValue FirstId word = SpellsNone SpellsCommit word
-IsNoValue FirstRow word = SpellsNone SpellsRow word
-IsNoValue TrimEvery word = SpellsNone SpellsCount word
-IsNoValue Accepts word = SpellsNone SpellsCount word
-IsNoValue Tries word = SpellsNone SpellsCount word
+-- no value of this option, among these
+abbrev pub IsNoValue : CommandOption → List Row → Text → Type 0
+IsNoValue Schema rows word = ⊥
+IsNoValue Database rows word = ⊥
+IsNoValue Listen rows word = SpellsNone (SpellsAllowed rows) word
+IsNoValue Upstream rows word = SpellsNone (SpellsAllowed rows) word
+IsNoValue FirstId rows word = SpellsNone SpellsCommit word
+IsNoValue FirstRow rows word = SpellsNone SpellsRow word
+IsNoValue TrimEvery rows word = SpellsNone SpellsCount word
+IsNoValue Accepts rows word = SpellsNone SpellsCount word
+IsNoValue Tries rows word = SpellsNone SpellsCount word
 
 -- the word stands behind this option, one of its words where there may be several
 abbrev pub StandsBehind : CommandOption → List Row → Text → Type 0
@@ -82,7 +90,8 @@ StandsBehind option rows word = word_of option rows ≡ Some word
 abbrev pub IsFaultOf : CommandOption → List Row → CommandFault → Type 0
 IsFaultOf option rows (Usage line) = ⊥
 IsFaultOf option rows (Missing o) = (o ≡ option) × (is_count option ≡ false) × (word_of option rows ≡ None)
-IsFaultOf option rows (BadValue o word) = (o ≡ option) × StandsBehind option rows (string_bytes word) × IsNoValue option (string_bytes word)
+IsFaultOf option rows TwoOrigins = ⊥
+IsFaultOf option rows (BadValue o word) = (o ≡ option) × StandsBehind option rows (string_bytes word) × IsNoValue option rows (string_bytes word)
 IsFaultOf option rows (OneTooMany word) = (option ≡ Upstream) × (slice_get (words_of Upstream rows) 4 ≡ Some (string_bytes word))
 IsFaultOf option rows (OwnAddress address) = (option ≡ Upstream) × HasOwnAddress rows address
 IsFaultOf option rows NoMemory = Unit {0}
@@ -91,8 +100,14 @@ IsFaultOf option rows NoMemory = Unit {0}
 abbrev pub IsFaultOfSource : List Row → CommandFault → Type 0
 IsFaultOfSource rows fault = (option : CommandOption) × IsTrue (is_of_source option) × IsFaultOf option rows fault
 
+-- nothing says where a relay's schema comes from, or two options do, or memory ran out
+abbrev pub IsFaultOfOrigin : List Row → CommandFault → Type 0
+IsFaultOfOrigin rows (Missing o) = (o ≡ Schema) × (word_of Schema rows ≡ None) × (word_of Database rows ≡ None)
+IsFaultOfOrigin rows TwoOrigins = (word_of Schema rows ≢ None) × (word_of Database rows ≢ None)
+IsFaultOfOrigin rows fault = fault ≡ NoMemory
+
 abbrev pub IsFaultOfRelay : List Row → CommandFault → Type 0
-IsFaultOfRelay rows fault = (option : CommandOption) × IsTrue (is_of_relay option) × IsFaultOf option rows fault
+IsFaultOfRelay rows fault = IsFaultOfOrigin rows fault ⊎ ((option : CommandOption) × IsTrue (is_of_relay option) × IsFaultOf option rows fault)
 
 -- an option of the command that is named is off
 abbrev pub HasOptionFault : Found → CommandFault → Type 0
@@ -117,14 +132,14 @@ IsNoValueOf option word (BadValue o w) = (o ≡ option) × (string_bytes w ≡ w
 IsNoValueOf option word fault = fault ≡ NoMemory
 
 -- that this word is no address of an upstream, or memory ran out
-abbrev pub IsNoAddress : Text → CommandFault → Type 0
-IsNoAddress word (BadValue o w) = (o ≡ Upstream) × (string_bytes w ≡ word) × SpellsNone SpellsAddress word
-IsNoAddress word fault = fault ≡ NoMemory
+abbrev pub IsNoAddress : Bool → Text → CommandFault → Type 0
+IsNoAddress beyond word (BadValue o w) = (o ≡ Upstream) × (string_bytes w ≡ word) × SpellsNone (SpellsAddress beyond) word
+IsNoAddress beyond word fault = fault ≡ NoMemory
 
 -- the same of one of several words
-abbrev pub IsFaultAmong : List Text → CommandFault → Type 0
-IsFaultAmong words (BadValue o w) = (o ≡ Upstream) × Contains words (string_bytes w) × SpellsNone SpellsAddress (string_bytes w)
-IsFaultAmong words fault = fault ≡ NoMemory
+abbrev pub IsFaultAmong : Bool → List Text → CommandFault → Type 0
+IsFaultAmong beyond words (BadValue o w) = (o ≡ Upstream) × Contains words (string_bytes w) × SpellsNone (SpellsAddress beyond) (string_bytes w)
+IsFaultAmong beyond words fault = fault ≡ NoMemory
 
 -- that this word is one too many, or memory ran out
 abbrev pub IsOneTooMany : Text → CommandFault → Type 0

@@ -5,13 +5,16 @@ use Rattle.std.specs.Option.{option_map_or, unwrap_or}
 use Rattle.std.specs.declared.net.socket_addr.SocketAddr.{SocketAddr}
 use Rattle.clap.specs.Words.{Row, Text, first_of, all_of}
 use Rattle.ovs_command_line.specs.declared.command_option.CommandOption.{CommandOption}
-use Rattle.ovs_command_line.specs.declared.command_option.CommandOption.TheVariants.{Schema, Listen, Upstream, FirstId, FirstRow, TrimEvery, Accepts, Tries}
+use Rattle.ovs_command_line.specs.declared.command_option.CommandOption.TheVariants.{Schema, Database, Listen, Upstream, FirstId, FirstRow, TrimEvery, Accepts, Tries}
 use Rattle.ovs_command_line.specs.declared.options.SourceOptions.{SourceOptions}
 use Rattle.ovs_command_line.specs.declared.options.RelayOptions.{RelayOptions}
+use Rattle.ovs_command_line.specs.declared.options.SchemaOrigin.{SchemaOrigin}
+use Rattle.ovs_command_line.specs.declared.options.SchemaOrigin.TheVariants as origins
 use Rattle.ovs_command_line.specs.Values.{SpellsAddress, SpellsCommit, SpellsRow, SpellsCount}
 
 abbrev pub option_name : CommandOption → Text
 option_name Schema = codes "schema"
+option_name Database = codes "database"
 option_name Listen = codes "listen"
 option_name Upstream = codes "upstream"
 option_name FirstId = codes "first-id"
@@ -41,6 +44,14 @@ words_of option rows = unwrap_or (all_of (option_name option) rows) []
 abbrev pub has_flag : Text → List Row → Bool
 has_flag flag rows = option_map_or (λ word. bytes_eq word (codes "true")) (first_of flag rows) false
 
+-- addresses beyond loopback are allowed
+abbrev pub goes_beyond : List Row → Bool
+goes_beyond rows = has_flag (codes "beyond-loopback") rows
+
+-- an address as these options allow it, and a port
+abbrev pub SpellsAllowed : List Row → Text → SocketAddr → Type 0
+SpellsAllowed rows = SpellsAddress (goes_beyond rows)
+
 -- the word behind an option, which has to be there, spells this value
 abbrev pub Gives : {A : Type 0} → (Text → A → Type 0) → CommandOption → List Row → A → Type 0
 Gives Spells option rows value = (word : Text) × (word_of option rows ≡ Some word) × Spells word value
@@ -58,21 +69,26 @@ CountsIfGiven option rows n = SpellsIfGiven (word_of option rows) n
 -- what `source` is given
 pub record GiveSource (rows : List Row) (o : SourceOptions) : Type 0 where
   pub schema : word_of Schema rows ≡ Some (string_bytes o.schema)
-  pub listen : Gives SpellsAddress Listen rows o.listen
+  pub listen : Gives (SpellsAllowed rows) Listen rows o.listen
   pub first_id : Gives SpellsCommit FirstId rows o.first_id
   pub first_row : Gives SpellsRow FirstRow rows o.first_row
   pub trim_every : CountsIfGiven TrimEvery rows o.trim_every
   pub accepts : CountsIfGiven Accepts rows o.accepts
   pub verbose : o.verbose ≡ has_flag (codes "verbose") rows
 
+-- where a relay has its schema from: the file that is named, or its first upstream, by the name of the database
+abbrev pub GivesOrigin : List Row → SchemaOrigin → Type 0
+GivesOrigin rows (origins.File file) = (word_of Schema rows ≡ Some (string_bytes file)) × (word_of Database rows ≡ None)
+GivesOrigin rows (origins.FirstUpstream name) = (word_of Schema rows ≡ None) × (word_of Database rows ≡ Some (string_bytes name))
+
 -- one to four addresses, in the order of the words
 abbrev pub AreUpstreams : List Row → List SocketAddr → Type 0
-AreUpstreams rows upstreams = AllZip SpellsAddress (words_of Upstream rows) upstreams × (1 ≤ length upstreams) × (length upstreams ≤ 4)
+AreUpstreams rows upstreams = AllZip (SpellsAllowed rows) (words_of Upstream rows) upstreams × (1 ≤ length upstreams) × (length upstreams ≤ 4)
 
 -- what `relay` is given
 pub record GiveRelay (rows : List Row) (o : RelayOptions) : Type 0 where
-  pub schema : word_of Schema rows ≡ Some (string_bytes o.schema)
-  pub listen : Gives SpellsAddress Listen rows o.listen
+  pub schema : GivesOrigin rows o.schema
+  pub listen : Gives (SpellsAllowed rows) Listen rows o.listen
   pub upstreams : AreUpstreams rows o.upstreams.items
   pub others : All (λ upstream. upstream ≢ o.listen) o.upstreams.items
   pub accepts : CountsIfGiven Accepts rows o.accepts

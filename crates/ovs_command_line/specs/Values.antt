@@ -1,5 +1,5 @@
 -- What the words behind options stand for.
-use Rattle.std.specs.Prelude.{◌≡◌, ℕ, ◌≤◌, ◌^◌, Option, Some, MatchOption}
+use Rattle.std.specs.Prelude.{◌≡◌, ℕ, ◌≤◌, ◌^◌, Option, Some, Bool, true, false, MatchOption}
 use Rattle.std.specs.Str.Parse.{IsNumeral, digits_value, without_leading_plus}
 use Rattle.std.specs.Net.Addr.{MatchIp, IsLoopbackV4, IsLoopbackV6}
 use Rattle.std.specs.Net.Grammar.{IsSocketText}
@@ -8,9 +8,10 @@ use Rattle.std.specs.declared.net.socket_addr.SocketAddr.{SocketAddr}
 use Rattle.clap.specs.Words.{Text}
 use Rattle.ovs_data.specs.Id.{read_id}
 
--- a loopback address and a port
-abbrev pub SpellsAddress : Text → SocketAddr → Type 0
-SpellsAddress word address = IsSocketText word address × MatchIp (socket_ip address) IsLoopbackV4 IsLoopbackV6
+-- an address and a port; one of loopback, where no other is allowed
+abbrev pub SpellsAddress : Bool → Text → SocketAddr → Type 0
+SpellsAddress true word address = IsSocketText word address
+SpellsAddress false word address = IsSocketText word address × MatchIp (socket_ip address) IsLoopbackV4 IsLoopbackV6
 
 -- an id that a commit may have
 abbrev pub SpellsCommit : Text → ℕ → Type 0

@@ -17,6 +17,9 @@ pub enum CommandFault {
     /// The command needs this option.
     #[error("'{0}' is missing")]
     Missing(CommandOption),
+    /// A relay's schema comes from a file or from its first upstream.
+    #[error("'{}' and '{}' exclude each other", CommandOption::Schema, CommandOption::Database)]
+    TwoOrigins,
     /// The word behind this option isn't what it has to be.
     #[error("{word:?} is no value for '{option}': wanted {}", .option.wanted())]
     BadValue { option: CommandOption, word: String },

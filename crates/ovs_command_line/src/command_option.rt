@@ -11,6 +11,8 @@ use std::fmt::{Display, Formatter};
 pub enum CommandOption {
     /// The file whose first line is the schema.
     Schema,
+    /// The database whose schema the first upstream is asked for.
+    Database,
     /// Where connections are taken.
     Listen,
     /// An upstream of a relay, of which it has one to four.
@@ -34,6 +36,7 @@ impl CommandOption {
     {
         match self {
             CommandOption::Schema => "schema",
+            CommandOption::Database => "database",
             CommandOption::Listen => "listen",
             CommandOption::Upstream => "upstream",
             CommandOption::FirstId => "first-id",
@@ -48,6 +51,7 @@ impl CommandOption {
     pub(crate) fn word_name(self) -> &'static str {
         match self {
             CommandOption::Schema => "FILE",
+            CommandOption::Database => "NAME",
             CommandOption::Listen | CommandOption::Upstream => "ADDR",
             CommandOption::FirstId | CommandOption::FirstRow => "ID",
             CommandOption::TrimEvery | CommandOption::Accepts | CommandOption::Tries => "N",
@@ -58,8 +62,9 @@ impl CommandOption {
     pub(crate) fn wanted(self) -> &'static str {
         match self {
             CommandOption::Schema => "a file",
+            CommandOption::Database => "the name of a database",
             CommandOption::Listen | CommandOption::Upstream => {
-                "a loopback address and a port, as 127.0.0.1:6640 or [::1]:6640"
+                "a loopback address and a port, as 127.0.0.1:6640 or [::1]:6640, or any with --beyond-loopback"
             }
             CommandOption::FirstId => {
                 "a commit's id, 36 characters with 32 hexadecimal digits, of which the first 16 aren't all 0"

@@ -14,10 +14,13 @@ const MERGE_HELP: &str = "A file of links for a second store, which is merged in
 
 const SCHEMA_HELP: &str = "A file whose first line is the schema";
 
-const LISTEN_HELP: &str = "Where connections are taken, a loopback address and a port";
+const DATABASE_HELP: &str =
+    "The database whose schema the first upstream is asked for, in the place of a file with it";
+
+const LISTEN_HELP: &str = "Where connections are taken, an address and a port";
 
 const UPSTREAM_HELP: &str =
-    "A node to follow, at a loopback address and a port; four of them at most, the first is the way to the source";
+    "A node to follow, at an address and a port; four of them at most, the first is the way to the source";
 
 const FIRST_ID_HELP: &str =
     "The id of the first commit, from which those after it count on; no commit may have had any of them";
@@ -38,6 +41,9 @@ const VERBOSE_HELP: &str = "Tells on standard error what happens";
 const END_ON_REFUSAL_HELP: &str = "Ends once something that an upstream sends is refused";
 
 const PRUNE_HELP: &str = "Drops links of older epochs once a newer one is shown";
+
+const BEYOND_LOOPBACK_HELP: &str =
+    "Allows addresses beyond loopback; whoever reaches the program there may read and write, since it has no TLS";
 
 // The command with one option more, which has a word behind it and stands once at most.
 fn with_word<'a>(
@@ -125,7 +131,8 @@ fn source_command<'a>(alloc: Global) -> Result<Command<'a>, AllocError>
     let command = with_word(alloc, command, "first-row", "ID", FIRST_ROW_HELP)?;
     let command = with_word(alloc, command, "trim-every", "N", TRIM_EVERY_HELP)?;
     let command = with_word(alloc, command, "accepts", "N", ACCEPTS_HELP)?;
-    with_flag(alloc, command, "verbose", VERBOSE_HELP)
+    let command = with_flag(alloc, command, "verbose", VERBOSE_HELP)?;
+    with_flag(alloc, command, "beyond-loopback", BEYOND_LOOPBACK_HELP)
 }
 
 // The command `relay`.
@@ -137,16 +144,18 @@ fn relay_command<'a>(alloc: Global) -> Result<Command<'a>, AllocError>
             "Follows one to four upstreams, serves readers and passes on what only the source can answer",
         )
         .override_usage(
-            "ovs_relay relay --schema <FILE> --listen <ADDR> --upstream <ADDR> [--upstream <ADDR> ..] [OPTIONS]",
+            "ovs_relay relay <--schema <FILE>|--database <NAME>> --listen <ADDR> --upstream <ADDR> [--upstream <ADDR> ..] [OPTIONS]",
         );
     let command = with_word(alloc, command, "schema", "FILE", SCHEMA_HELP)?;
+    let command = with_word(alloc, command, "database", "NAME", DATABASE_HELP)?;
     let command = with_word(alloc, command, "listen", "ADDR", LISTEN_HELP)?;
     let command = with_list(alloc, command, "upstream", "ADDR", UPSTREAM_HELP)?;
     let command = with_word(alloc, command, "accepts", "N", ACCEPTS_HELP)?;
     let command = with_word(alloc, command, "tries", "N", TRIES_HELP)?;
     let command = with_flag(alloc, command, "verbose", VERBOSE_HELP)?;
     let command = with_flag(alloc, command, "end-on-refusal", END_ON_REFUSAL_HELP)?;
-    with_flag(alloc, command, "prune", PRUNE_HELP)
+    let command = with_flag(alloc, command, "prune", PRUNE_HELP)?;
+    with_flag(alloc, command, "beyond-loopback", BEYOND_LOOPBACK_HELP)
 }
 
 /// The program's commands.

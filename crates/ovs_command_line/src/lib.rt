@@ -14,4 +14,4 @@ pub use command_fault::CommandFault;
 pub use command_line::{Task, command};
 pub use command_option::CommandOption;
 pub use complaint::{Complaint, complaint_of};
-pub use options::{RelayOptions, SourceOptions};
+pub use options::{RelayOptions, SchemaOrigin, SourceOptions};

@@ -1,11 +1,11 @@
 //! What the commands `source` and `relay` are given.
 
-ghost use Rattle.std.specs.Prelude.{◌≡◌, false, Some, IfOk, IfErr, IsTrue, string_bytes};
+ghost use Rattle.std.specs.Prelude.{◌≡◌, false, Some, option_map, IfOk, IfErr, IsTrue, string_bytes};
 ghost use Rattle.clap.specs.Words.{found_of, rows_of};
 ghost use Rattle.ovs_command_line.specs.declared.command_option.CommandOption.TheVariants as options;
-ghost use Rattle.ovs_command_line.specs.Options.{is_count, word_of, has_flag, Gives, CountsIfGiven, GiveSource, GiveRelay};
-ghost use Rattle.ovs_command_line.specs.Values.{SpellsAddress, SpellsCommit, SpellsRow};
-ghost use Rattle.ovs_command_line.specs.Faults.{IsFaultOf, IsFaultOfSource, IsFaultOfRelay, IsNoValueOf};
+ghost use Rattle.ovs_command_line.specs.Options.{is_count, word_of, has_flag, goes_beyond, Gives, CountsIfGiven, SpellsAllowed, GivesOrigin, GiveSource, GiveRelay};
+ghost use Rattle.ovs_command_line.specs.Values.{SpellsCommit, SpellsRow};
+ghost use Rattle.ovs_command_line.specs.Faults.{IsFaultOf, IsFaultOfOrigin, IsFaultOfSource, IsFaultOfRelay, IsNoValueOf};
 
 use crate::command_fault::CommandFault;
 use crate::command_option::CommandOption;
@@ -21,7 +21,7 @@ use std::net::SocketAddr;
 pub struct SourceOptions {
     /// The file whose first line is the schema.
     pub schema: String,
-    /// Where connections are taken, a loopback address.
+    /// Where connections are taken, a loopback address unless others are allowed.
     pub listen: SocketAddr,
     /// The id of the first commit, which is no start id.
     pub first_id: TxnId,
@@ -35,15 +35,24 @@ pub struct SourceOptions {
     pub verbose: bool,
 }
 
+/// Where a relay has its schema from.
+#[derive(Debug, Drop)]
+pub enum SchemaOrigin {
+    /// The first line of this file.
+    File(String),
+    /// Its first upstream, which is asked for the schema of the database of this name.
+    FirstUpstream(String),
+}
+
 /// What the command `relay` is given.
 #[derive(Debug, Drop)]
 pub struct RelayOptions {
-    /// The file whose first line is the schema.
-    pub schema: String,
-    /// Where connections are taken, a loopback address.
+    /// Where its schema comes from.
+    pub schema: SchemaOrigin,
+    /// Where connections are taken, a loopback address unless others are allowed.
     pub listen: SocketAddr,
-    /// One to four upstreams at loopback addresses, none of which is where connections are taken, in the order in which they were
-    /// given.
+    /// One to four upstreams, none of which is where connections are taken, in the order in which they were given; at loopback
+    /// addresses unless others are allowed.
     pub upstreams: Vec<SocketAddr>,
     /// How many connections each thread of readers takes, 1 to 1,000,000; none where it takes any number.
     pub accepts: Option<u32>,
@@ -55,6 +64,13 @@ pub struct RelayOptions {
     pub end_on_refusal: bool,
     /// Whether links of older epochs are dropped once a newer one is shown.
     pub prunes: bool,
+}
+
+// The word behind an option, if it is there.
+fn word_of<'a>(found: &ArgMatches<'a>, option: CommandOption) -> Option<&'a str>
+    ensures value { option_map (λ word. word.now) result ≡ word_of option (rows_of (found_of found.now)) }
+{
+    found.get_str(option.name())
 }
 
 // The word behind an option that has to be there.
@@ -88,13 +104,28 @@ fn schema_of(alloc: Global, found: &ArgMatches<'_>) -> Result<String, CommandFau
     Ok(String::from_str(alloc, word)?)
 }
 
+// Where a relay has its schema from.
+fn origin_of(alloc: Global, found: &ArgMatches<'_>) -> Result<SchemaOrigin, CommandFault>
+    ensures value { IfOk result (GivesOrigin (rows_of (found_of found.now))) }
+    ensures fault { IfErr result (IsFaultOfOrigin (rows_of (found_of found.now))) }
+{
+    let file = word_of(found, CommandOption::Schema);
+    let database = word_of(found, CommandOption::Database);
+    match (file, database) {
+        (Some(file), None) => Ok(SchemaOrigin::File(String::from_str(alloc, file)?)),
+        (None, Some(name)) => Ok(SchemaOrigin::FirstUpstream(String::from_str(alloc, name)?)),
+        (None, None) => Err(CommandFault::Missing(CommandOption::Schema)),
+        (Some(_), Some(_)) => Err(CommandFault::TwoOrigins),
+    }
+}
+
 // The address to listen at.
 fn listen_of(alloc: Global, found: &ArgMatches<'_>) -> Result<SocketAddr, CommandFault>
-    ensures value { IfOk result (Gives SpellsAddress options.Listen (rows_of (found_of found.now))) }
+    ensures value { IfOk result (Gives (SpellsAllowed (rows_of (found_of found.now))) options.Listen (rows_of (found_of found.now))) }
     ensures fault { IfErr result (IsFaultOf options.Listen (rows_of (found_of found.now))) }
 {
     let word = needed(found, CommandOption::Listen)?;
-    match read_address(word) {
+    match read_address(word, goes_beyond(found)) {
         Some(address) => Ok(address),
         None => Err(no_value(alloc, CommandOption::Listen, word)),
     }
@@ -153,6 +184,13 @@ fn has_flag(found: &ArgMatches<'_>, flag: &str) -> bool
     }
 }
 
+/// Whether addresses beyond loopback are allowed.
+pub(crate) fn goes_beyond(found: &ArgMatches<'_>) -> bool
+    ensures value { result ≡ goes_beyond (rows_of (found_of found.now)) }
+{
+    has_flag(found, "beyond-loopback")
+}
+
 /// What `source` is given, by what clap finds of it.
 pub(crate) fn source_options(
     alloc: Global,
@@ -180,7 +218,7 @@ pub(crate) fn relay_options(
     ensures value { IfOk result (GiveRelay (rows_of (found_of found.now))) }
     ensures fault { IfErr result (IsFaultOfRelay (rows_of (found_of found.now))) }
 {
-    let schema = schema_of(alloc, found)?;
+    let schema = origin_of(alloc, found)?;
     let listen = listen_of(alloc, found)?;
     Ok(RelayOptions {
         schema,

@@ -4,13 +4,13 @@ ghost use Rattle.std.specs.Prelude.{◌≡◌, ◌≢◌, true, false, map, All,
 ghost use Rattle.std.specs.List.{AllZip};
 ghost use Rattle.clap.specs.Words.{found_of, rows_of};
 ghost use Rattle.ovs_command_line.specs.declared.command_option.CommandOption.TheVariants as options;
-ghost use Rattle.ovs_command_line.specs.Options.{AreUpstreams, Gives};
+ghost use Rattle.ovs_command_line.specs.Options.{AreUpstreams, Gives, SpellsAllowed};
 ghost use Rattle.ovs_command_line.specs.Values.{SpellsAddress};
 ghost use Rattle.ovs_command_line.specs.Faults.{IsFaultOf, IsOneTooMany, IsNoAddress, IsFaultAmong};
 
 use crate::command_fault::CommandFault;
 use crate::command_option::CommandOption;
-use crate::options::no_value;
+use crate::options::{goes_beyond, no_value};
 use crate::values::read_address;
 use clap::ArgMatches;
 use std::alloc::Global;
@@ -29,24 +29,28 @@ fn one_too_many(alloc: Global, word: &str) -> CommandFault
     }
 }
 
-fn address_of(alloc: Global, word: &str) -> Result<SocketAddr, CommandFault>
-    ensures value { IfOk result (SpellsAddress word.now) }
-    ensures fault { IfErr result (IsNoAddress word.now) }
+fn address_of(alloc: Global, word: &str, beyond_loopback: bool) -> Result<SocketAddr, CommandFault>
+    ensures value { IfOk result (SpellsAddress beyond_loopback word.now) }
+    ensures fault { IfErr result (IsNoAddress beyond_loopback word.now) }
 {
-    match read_address(word) {
+    match read_address(word, beyond_loopback) {
         Some(address) => Ok(address),
         None => Err(no_value(alloc, CommandOption::Upstream, word)),
     }
 }
 
 // The addresses that words spell, in their order.
-fn addresses_of(alloc: Global, words: &[&str]) -> Result<Vec<SocketAddr>, CommandFault>
-    ensures value { IfOk result (λ addresses. AllZip SpellsAddress (map (λ word. word.now) words.now) addresses.items) }
-    ensures fault { IfErr result (IsFaultAmong (map (λ word. word.now) words.now)) }
+fn addresses_of(
+    alloc: Global,
+    words: &[&str],
+    beyond_loopback: bool,
+) -> Result<Vec<SocketAddr>, CommandFault>
+    ensures value { IfOk result (λ addresses. AllZip (SpellsAddress beyond_loopback) (map (λ word. word.now) words.now) addresses.items) }
+    ensures fault { IfErr result (IsFaultAmong beyond_loopback (map (λ word. word.now) words.now)) }
 {
     let mut addresses = Vec::with_capacity(alloc, words.len())?;
     for word in words {
-        addresses.push_reserved(address_of(alloc, word)?);
+        addresses.push_reserved(address_of(alloc, word, beyond_loopback)?);
     }
     Ok(addresses)
 }
@@ -63,7 +67,7 @@ fn upstreams_of(alloc: Global, found: &ArgMatches<'_>) -> Result<Vec<SocketAddr>
     if let Some(word) = words.get(MOST_UPSTREAMS) {
         return Err(one_too_many(alloc, word));
     }
-    addresses_of(alloc, words)
+    addresses_of(alloc, words, goes_beyond(found))
 }
 
 // Whether two addresses are the same.
@@ -80,7 +84,7 @@ pub(crate) fn other_upstreams_of(
     found: &ArgMatches<'_>,
     listen: SocketAddr,
 ) -> Result<Vec<SocketAddr>, CommandFault>
-    requires listens { Gives SpellsAddress options.Listen (rows_of (found_of found.now)) listen }
+    requires listens { Gives (SpellsAllowed (rows_of (found_of found.now))) options.Listen (rows_of (found_of found.now)) listen }
     ensures value { IfOk result (λ upstreams. AreUpstreams (rows_of (found_of found.now)) upstreams.items) }
     ensures others { IfOk result (λ upstreams. All (λ upstream. upstream ≢ listen) upstreams.items) }
     ensures fault { IfErr result (IsFaultOf options.Upstream (rows_of (found_of found.now))) }

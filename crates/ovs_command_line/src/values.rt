@@ -6,13 +6,16 @@ ghost use Rattle.ovs_command_line.specs.Values.{Stands, SpellsAddress, SpellsCom
 use ovs_data::{RowId, TxnId};
 use std::net::SocketAddr;
 
-/// The loopback address and port that a word spells.
-pub(crate) fn read_address(word: &str) -> Option<SocketAddr>
-    ensures value { Stands SpellsAddress word.now result }
+/// The address and port that a word spells, where no address but one of loopback is allowed, or any is.
+pub(crate) fn read_address(word: &str, beyond_loopback: bool) -> Option<SocketAddr>
+    ensures value { Stands (SpellsAddress beyond_loopback) word.now result }
 {
     let Ok(address) = word.parse::<SocketAddr>() else {
         return None;
     };
+    if beyond_loopback {
+        return Some(address);
+    }
     if address.ip().is_loopback() {
         Some(address)
     } else {

@@ -90,6 +90,7 @@ impl From<ServerError> for Fault {
         match error {
             ServerError::Listening(_) | ServerError::System(_) => Fault::System,
             ServerError::Node(error) => Fault::from(error),
+            ServerError::NoSchema(_) => Fault::Disconnected,
             ServerError::NotBack => Fault::NotDrained,
             ServerError::NoMemory => Fault::NoMemory,
         }

@@ -5,10 +5,13 @@ use crate::log_lines::LogLines;
 use crate::saying::{complains, fails, says};
 use crate::schema_file::schema_of_file;
 use log::{LevelFilter, Logged};
-use ovs_command_line::{Complaint, RelayOptions, SourceOptions};
-use ovs_server::{ExitReport, NodeRuntime, NodeServer, RelayPlan, ServerError, SourcePlan};
+use ovs_command_line::{Complaint, RelayOptions, SchemaOrigin, SourceOptions};
+use ovs_server::{
+    ExitReport, NodeRuntime, NodeServer, RelayPlan, ServerError, SourcePlan, schema_of_upstream,
+};
 use ovs_types::Schema;
 use std::alloc::Global;
+use std::fs::Files;
 use std::net::{Net, SocketAddr, TcpListener, TcpStream};
 use std::process::ExitCode;
 use std::rt::Runtime;
@@ -61,6 +64,20 @@ fn closes<R: Print + Eprint + Clock + Wait>(
     }
 }
 
+// Says that whoever reaches the node may write, where that isn't this host alone.
+fn warns<R: Wait>(rt: &R, alloc: Global, backlog: &Backlog, address: SocketAddr) {
+    if address.ip().is_loopback() {
+        return;
+    }
+    let line = format!(in alloc;
+        "listening at {address} without TLS or access control: whoever reaches it may write"
+    );
+    match line {
+        Ok(line) => backlog.put(rt, line),
+        Err(_) => backlog.note_dropped(),
+    }
+}
+
 // A source of this schema, from its address to its end.
 fn source<R: NodeRuntime + Print + Eprint + Clock + 'static>(
     rt: R,
@@ -78,15 +95,36 @@ fn source<R: NodeRuntime + Print + Eprint + Clock + 'static>(
     let backlog = Backlog::begin(rt, alloc)?;
     let level = level_of(options.verbose, false);
     let logged = Logged::new(rt, level, LogLines::new(rt, alloc, &*backlog));
-    let ran = NodeServer::source(logged, alloc, plan)?.run(schema);
+    let server = NodeServer::source(logged, alloc, plan)?;
+    warns(&rt, alloc, &*backlog, server.address());
+    let ran = server.run(schema);
     Ok(closes(&rt, alloc, &*backlog, ran))
 }
 
-// A relay of a database of this schema, from its address to its end.
-fn relay<R: NodeRuntime + Print + Eprint + Clock + 'static>(
+// The schema of a relay, or the exit status of the program, once it has told why there is none.
+fn schema_of<R: NodeRuntime + Print + Eprint + Clock + Files + 'static>(
     rt: R,
     alloc: Global,
-    schema: &Schema,
+    backlog: &Backlog,
+    options: &RelayOptions,
+) -> Result<Schema, ExitCode> {
+    let database = match &options.schema {
+        SchemaOrigin::File(path) => return schema_of_file(&rt, alloc, path.as_str()),
+        SchemaOrigin::FirstUpstream(database) => database.as_str(),
+    };
+    let (upstreams, tries) = (options.upstreams.as_slice(), options.tries);
+    let level = level_of(options.verbose, options.end_on_refusal);
+    let logged = Logged::new(rt, level, LogLines::new(rt, alloc, backlog));
+    match schema_of_upstream(logged, alloc, upstreams, database, tries) {
+        Ok(schema) => Ok(schema),
+        Err(error) => Err(closes(&rt, alloc, backlog, Err(error))),
+    }
+}
+
+// A relay, from its schema to its end. It listens once it has the schema.
+fn relay<R: NodeRuntime + Print + Eprint + Clock + Files + 'static>(
+    rt: R,
+    alloc: Global,
     options: &RelayOptions,
 ) -> Result<ExitCode, ServerError> {
     let plan = RelayPlan {
@@ -98,9 +136,15 @@ fn relay<R: NodeRuntime + Print + Eprint + Clock + 'static>(
         prunes: options.prunes,
     };
     let backlog = Backlog::begin(rt, alloc)?;
+    let schema = match schema_of(rt, alloc, &*backlog, options) {
+        Ok(schema) => schema,
+        Err(status) => return Ok(status),
+    };
     let level = level_of(options.verbose, options.end_on_refusal);
     let logged = Logged::new(rt, level, LogLines::new(rt, alloc, &*backlog));
-    let ran = NodeServer::relay(logged, alloc, plan)?.run(schema);
+    let server = NodeServer::relay(logged, alloc, plan)?;
+    warns(&rt, alloc, &*backlog, server.address());
+    let ran = server.run(&schema);
     Ok(closes(&rt, alloc, &*backlog, ran))
 }
 
@@ -138,11 +182,8 @@ pub(crate) fn run_relay<
         + Sync
         + 'static,
 >(rt: R, alloc: Global, options: &RelayOptions) -> ExitCode {
-    match schema_of_file(&rt, alloc, options.schema.as_str()) {
-        Ok(schema) => match relay(rt, alloc, &schema, options) {
-            Ok(status) => status,
-            Err(error) => unrun(&rt, options.listen, error),
-        },
-        Err(status) => status,
+    match relay(rt, alloc, options) {
+        Ok(status) => status,
+        Err(error) => unrun(&rt, options.listen, error),
     }
 }

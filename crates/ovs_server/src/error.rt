@@ -5,6 +5,7 @@ use ovs_node_threads::NotRun;
 use ovs_types::NoMemory;
 use std::alloc::{AllocError, AllocFailed};
 use std::io;
+use std::net::SocketAddr;
 use thiserror::Error;
 
 /// Why a node over sockets isn't run, or didn't come to its end as it should.
@@ -19,6 +20,9 @@ pub enum ServerError {
     /// There is no node of so many upstreams and workers.
     #[error("{0}")]
     Node(NodeError),
+    /// The upstream told no schema, and isn't tried any more.
+    #[error("upstream {0} told no schema, and isn't tried any more")]
+    NoSchema(SocketAddr),
     /// Not all that the node's threads had came back.
     #[error("a thread was lost")]
     NotBack,

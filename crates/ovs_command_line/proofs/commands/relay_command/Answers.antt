@@ -13,10 +13,12 @@ pub returns : goal.returns
 returns c =
     let start : app_of c.override_usage-command.result ≡ new_app (codes "relay") =
     ap app_of_fields c.override_usage-command.ensures ∙ ap app_of_fields c.about.ensures ∙ c.new.ensures.app in
-    let listens = c.in_ok-command-2.ensures.value ∙ more (word_rule (codes "listen")) (c.in_ok-command.ensures.value ∙ more (word_rule (codes "schema")) start) in
-    let accepts = c.in_ok-command-4.ensures.value
-    ∙ more (word_rule (codes "accepts")) (c.in_ok-command-3.ensures.value ∙ more (list_rule (codes "upstream")) listens) in
-    let words : app_of c.in_ok-command-5.command ≡ relay_words = c.in_ok-command-5.ensures.value ∙ more (word_rule (codes "tries")) accepts in
-    let tells = c.in_ok-command-6.ensures.value ∙ more (flag_rule (codes "verbose")) words in
-    let ends = c.in_ok-command-7.ensures.value ∙ more (flag_rule (codes "end-on-refusal")) tells in
-    record { value = IfOk-weaker c.with_flag-3.result _ _ (λ m is. is ∙ more (flag_rule (codes "prune")) ends) c.with_flag-3.ensures.value }
+    let origin = c.in_ok-command-2.ensures.value ∙ more (word_rule (codes "database")) (c.in_ok-command.ensures.value ∙ more (word_rule (codes "schema")) start) in
+    let listens = c.in_ok-command-3.ensures.value ∙ more (word_rule (codes "listen")) origin in
+    let accepts = c.in_ok-command-5.ensures.value
+    ∙ more (word_rule (codes "accepts")) (c.in_ok-command-4.ensures.value ∙ more (list_rule (codes "upstream")) listens) in
+    let words : app_of c.in_ok-command-6.command ≡ relay_words = c.in_ok-command-6.ensures.value ∙ more (word_rule (codes "tries")) accepts in
+    let tells = c.in_ok-command-7.ensures.value ∙ more (flag_rule (codes "verbose")) words in
+    let ends = c.in_ok-command-8.ensures.value ∙ more (flag_rule (codes "end-on-refusal")) tells in
+    let prunes = c.in_ok-command-9.ensures.value ∙ more (flag_rule (codes "prune")) ends in
+    record { value = IfOk-weaker c.with_flag-4.result _ _ (λ m is. is ∙ more (flag_rule (codes "beyond-loopback")) prunes) c.with_flag-4.ensures.value }

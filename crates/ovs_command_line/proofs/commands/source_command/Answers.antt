@@ -17,4 +17,5 @@ returns c =
     let ids = c.in_ok-command-4.ensures.value ∙ more (word_rule (codes "first-row")) (c.in_ok-command-3.ensures.value ∙ more (word_rule (codes "first-id")) listens) in
     let trims = c.in_ok-command-5.ensures.value ∙ more (word_rule (codes "trim-every")) ids in
     let words : app_of c.in_ok-command-6.command ≡ source_words = c.in_ok-command-6.ensures.value ∙ more (word_rule (codes "accepts")) trims in
-    record { value = IfOk-weaker c.with_flag.result _ _ (λ m is. is ∙ more (flag_rule (codes "verbose")) words) c.with_flag.ensures.value }
+    let tells = c.in_ok-command-7.ensures.value ∙ more (flag_rule (codes "verbose")) words in
+    record { value = IfOk-weaker c.with_flag-2.result _ _ (λ m is. is ∙ more (flag_rule (codes "beyond-loopback")) tells) c.with_flag-2.ensures.value }

@@ -9,7 +9,7 @@ use Rattle.ovs_command_line.proofs.upstreams.addresses_of.Given as goal
 abbrev pub invariant-loop-word : goal.invariant-loop-word
 invariant-loop-word l =
     record {
-      each : AllZip SpellsAddress (texts_of (take l.word-index l.fn.words)) l.addresses.items;
+      each : AllZip (SpellsAddress l.fn.beyond_loopback) (texts_of (take l.word-index l.fn.words)) l.addresses.items;
       room : length l.fn.words ≤ vec_capacity l.addresses;
       so_far : vec_len l.addresses ≡ l.word-index;
     }

@@ -1,4 +1,4 @@
-use Rattle.std.proofs.Common.{◌≡◌, ◌∙◌, ◌<◌, ◌≤◌, ap, sym, subst, refl, arith, length, codes, List, [], Some}
+use Rattle.std.proofs.Common.{◌≡◌, ◌∙◌, ◌<◌, ◌≤◌, ap, sym, subst, refl, arith, length, codes, List, [], Some, Bool}
 use Rattle.std.specs.Prelude.{slice_get, option_map}
 use Rattle.std.proofs.lemmas.Bool.{ltb-true, ltb-false, eqb-true, eqb-false}
 use Rattle.std.proofs.lemmas.List.{length-map}
@@ -44,12 +44,15 @@ returns-clause-value c =
     let least : 1 ≤ length words = one_at_least (length words) (eqb-false (length words) 0 (sym c.is_empty.ensures ∙ c.if-is_empty.false)) in
     let most : length words ≤ 4 = ltb-false 4 (length words) (sym c.in_default.ensures.lookup.0) in
     IfOk-weaker c.addresses_of.result _ _ (λ upstreams each. all_addresses (rows_of found) upstreams.items (omega (arith, long, least)) (omega (arith, long, most))
-    (subst (λ (ts : List Text). AllZip SpellsAddress ts upstreams.items) met each)) c.addresses_of.ensures.value
+    (subst (λ (beyond : Bool). AllZip (SpellsAddress beyond) (words_of Upstream (rows_of found)) upstreams.items) c.goes_beyond.ensures.value
+    (subst (λ (ts : List Text). AllZip (SpellsAddress c.goes_beyond.result) ts upstreams.items) met each))) c.addresses_of.ensures.value
 
 pub returns-clause-fault : goal.returns-clause-fault
 returns-clause-fault c =
     let found = found_of c.args.found.now in
     let met = words_met (rows_of found) c.get_strs.result _ c.unwrap_or-words.result c.unwrap_or-words.ensures refl
     (c.get_strs.ensures ∙ raw_values-rows found (codes "upstream")) in
-    IfErr-weaker c.addresses_of.result _ _ (λ fault made. address_fault (rows_of found) fault (subst (λ (ts : List Text). IsFaultAmong ts fault) met made))
+    IfErr-weaker c.addresses_of.result _ _ (λ fault made. address_fault (rows_of found) fault
+    (subst (λ (beyond : Bool). IsFaultAmong beyond (words_of Upstream (rows_of found)) fault) c.goes_beyond.ensures.value
+    (subst (λ (ts : List Text). IsFaultAmong c.goes_beyond.result ts fault) met made)))
     c.addresses_of.ensures.fault

@@ -1,0 +1,54 @@
+//! What a message says to the request for a schema.
+
+ghost use Rattle.std.specs.Prelude.{◌≡◌, IfOk, Err};
+ghost use Rattle.ovs_wire.specs.Message.{Says};
+ghost use Rattle.ovs_schema_query.specs.Query.{IsHeard, IsSaid, SaysNone};
+
+use crate::reply::{SchemaReply, reply_of};
+use crate::request::REQUEST_ID;
+use ovs_json::{NoMemory, is_word};
+use ovs_session::Refusal;
+use ovs_wire::{Message, MessageError};
+use std::alloc::Global;
+
+// The message that a text says.
+fn read(alloc: Global, text: &[u8]) -> Result<Message, Refusal>
+    ensures says { IfOk result (Says text.now) }
+    ensures none { result ≡ Err Refusal.BadInput → SaysNone text.now }
+    ensures never_gone { result ≡ Err Refusal.Gone → ⊥ }
+    ensures never_epoch { result ≡ Err Refusal.Epoch → ⊥ }
+{
+    match Message::read(alloc, text) {
+        Ok(message) => Ok(message),
+        Err(MessageError::NoMemory) => Err(Refusal::NoMemory),
+        Err(_) => Err(Refusal::BadInput),
+    }
+}
+
+// What a message says to the request: `None` where it isn't the reply.
+fn reply_in(alloc: Global, message: &Message) -> Result<Option<SchemaReply>, NoMemory>
+    ensures value { IfOk result (IsSaid message.now) }
+{
+    match message {
+        Message::Reply { result, error, id } if is_word(REQUEST_ID, id.as_value()) => {
+            Ok(Some(reply_of(alloc, result.as_value(), error.as_value())?))
+        }
+        _ => Ok(None),
+    }
+}
+
+/// What the text of a message says to the request: `None` where it isn't the reply.
+///
+/// - `BadInput`: the text says no message.
+/// - `NoMemory`.
+pub(crate) fn hear(alloc: Global, text: &[u8]) -> Result<Option<SchemaReply>, Refusal>
+    ensures heard { IfOk result (IsHeard text.now) }
+    ensures none { result ≡ Err Refusal.BadInput → SaysNone text.now }
+    ensures never_gone { result ≡ Err Refusal.Gone → ⊥ }
+    ensures never_epoch { result ≡ Err Refusal.Epoch → ⊥ }
+{
+    match read(alloc, text) {
+        Ok(message) => Ok(reply_in(alloc, &message)?),
+        Err(refusal) => Err(refusal),
+    }
+}
