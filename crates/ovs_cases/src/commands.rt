@@ -41,6 +41,17 @@ fn source_told(alloc: Global, given: &SourceOptions) -> Result<String, Fault> {
     Ok(told?)
 }
 
+// The addresses of an upstream.
+fn upstream_told(alloc: Global, addresses: &[SocketAddr]) -> Result<String, Fault> {
+    let mut told = String::new(alloc);
+    for address in addresses {
+        let before = if told.is_empty() { " " } else { " or " };
+        let address = format!(in alloc; "{before}{address}")?;
+        told.push_str(address.as_str())?;
+    }
+    Ok(told)
+}
+
 // What a relay is given.
 fn relay_told(alloc: Global, given: &RelayOptions) -> Result<String, Fault> {
     let schema = match &given.schema {
@@ -50,8 +61,7 @@ fn relay_told(alloc: Global, given: &RelayOptions) -> Result<String, Fault> {
     let listen = given.listen;
     let mut told = format!(in alloc; "relay {schema} at {listen}, follows")?;
     for upstream in &given.upstreams {
-        let upstream = format!(in alloc; " {upstream}")?;
-        told.push_str(upstream.as_str())?;
+        told.push_str(upstream_told(alloc, upstream.as_slice())?.as_str())?;
     }
     let accepts = count_told(alloc, given.accepts)?;
     let tries = count_told(alloc, given.tries)?;

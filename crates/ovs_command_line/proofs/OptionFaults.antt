@@ -13,11 +13,11 @@ use Rattle.ovs_command_line.specs.declared.command_option.CommandOption.{Command
 use Rattle.ovs_command_line.specs.declared.command_option.CommandOption.TheVariants.{Schema, Database, Listen, Upstream, FirstId, FirstRow, TrimEvery, Accepts, Tries}
 use Rattle.ovs_command_line.specs.declared.command_fault.CommandFault.{CommandFault}
 use Rattle.ovs_command_line.specs.declared.command_fault.CommandFault.TheVariants.{Usage, Missing, TwoOrigins, BadValue, OneTooMany, OwnAddress, NoMemory}
-use Rattle.ovs_command_line.specs.Values.{SpellsCommit, SpellsRow, SpellsCount, SpellsNone}
-use Rattle.ovs_command_line.specs.Options.{is_count, word_of, words_of, Gives, SpellsIfGiven, SpellsAllowed, GivesOrigin}
+use Rattle.ovs_command_line.specs.Values.{SpellsCommit, SpellsRow, SpellsCount, SpellsNone, parts_of}
+use Rattle.ovs_command_line.specs.Options.{Addresses, is_count, word_of, words_of, Gives, SpellsIfGiven, SpellsAllowed, SpellsUpstream, GivesOrigin}
 use Rattle.ovs_command_line.specs.declared.command_line.Task.{Task}
 use Rattle.ovs_command_line.specs.CommandLine.{Found, HasCommand}
-use Rattle.ovs_command_line.specs.Faults.{is_of_source, is_of_relay, IsReadable, IsNoValue, StandsBehind, HasOwnAddress, IsFaultOf, IsFaultOfOrigin, IsFaultOfSource, IsFaultOfRelay, IsFoundReadable, IsNoValueOf, HasOptionFault}
+use Rattle.ovs_command_line.specs.Faults.{is_of_source, is_of_relay, IsReadable, IsPartOf, IsNoValue, StandsBehind, HasOwnAddress, IsFaultOf, IsFaultOfOrigin, IsFaultOfSource, IsFaultOfRelay, IsFoundReadable, IsNoValueOf, HasOptionFault}
 
 -- the fault of a number
 pub count_fault : (option : CommandOption) (rows : List Row) (word : Text) → is_count option ≡ true → word_of option rows ≡ Some word → SpellsNone SpellsCount word
@@ -64,6 +64,21 @@ each_spells Spells (w ∷ ws) [] each word among none = absurd each
 each_spells Spells (w ∷ ws) (v ∷ vs) each word (zero, lt, at) none = none v (subst (λ x. Spells x v) at each.0)
 each_spells Spells (w ∷ ws) (v ∷ vs) each word (suc k, lt, at) none = each_spells Spells ws vs each.1 word (k, omega arith, at) none
 
+-- the value of one of several words
+value_of : {A : Type 0} (Spells : Text → A → Type 0) (words : List Text) (values : List A) → AllZip Spells words values → (word : Text) → Contains words word
+    → (value : A) × Spells word value
+value_of Spells [] values each word (k, lt, at) = absurd (omega arith)
+value_of Spells (w ∷ ws) [] each word among = absurd each
+value_of Spells (w ∷ ws) (v ∷ vs) each word (zero, lt, at) = (v, subst (λ x. Spells x v) at each.0)
+value_of Spells (w ∷ ws) (v ∷ vs) each word (suc k, lt, at) = value_of Spells ws vs each.1 word (k, omega arith, at)
+
+-- where words spell the addresses of upstreams, each part of each of them spells one
+part_spells : (rows : List Row) (words : List Text) (upstreams : List Addresses) → AllZip (SpellsUpstream rows) words upstreams
+    → (part : Text) → IsPartOf words part → ¬ (SpellsNone (SpellsAllowed rows) part)
+part_spells rows words upstreams each part inside none =
+    let addresses = value_of (SpellsUpstream rows) words upstreams each inside.0 inside.1 in
+    each_spells (SpellsAllowed rows) (parts_of inside.0) addresses.0.items addresses.1 part inside.2 none
+
 -- as many words as values
 as_many : {A : Type 0} (Spells : Text → A → Type 0) (words : List Text) (values : List A) → AllZip Spells words values → length words ≡ length values
 as_many Spells [] [] each = refl
@@ -94,7 +109,7 @@ is_there TrimEvery rows needed readable none = absurd (true≢false needed)
 is_there Accepts rows needed readable none = absurd (true≢false needed)
 is_there Tries rows needed readable none = absurd (true≢false needed)
 is_there Upstream rows needed readable none =
-    let few = as_many (SpellsAllowed rows) (words_of Upstream rows) readable.0 readable.1.0 in
+    let few = as_many (SpellsUpstream rows) (words_of Upstream rows) readable.0 readable.1.0 in
     let least = readable.1.1 in
     let no_words = no_first rows none in
     absurd (omega arith)
@@ -104,7 +119,7 @@ is_value : (option : CommandOption) (rows : List Row) → IsReadable option rows
 is_value Schema rows readable word behind none = none
 is_value Database rows readable word behind none = none
 is_value Listen rows readable word behind none = given_alone (SpellsAllowed rows) Listen rows readable.0 readable.1 word behind none
-is_value Upstream rows readable word behind none = each_spells (SpellsAllowed rows) (words_of Upstream rows) readable.0 readable.1.0 word behind none
+is_value Upstream rows readable word behind none = part_spells rows (words_of Upstream rows) readable.0 readable.1.0 word behind none
 is_value FirstId rows readable word behind none = given_alone SpellsCommit FirstId rows readable.0 readable.1 word behind none
 is_value FirstRow rows readable word behind none = given_alone SpellsRow FirstRow rows readable.0 readable.1 word behind none
 is_value TrimEvery rows readable word behind none = counted_if_given (word_of TrimEvery rows) readable.0 readable.1 word behind none
@@ -114,7 +129,7 @@ is_value Tries rows readable word behind none = counted_if_given (word_of Tries 
 -- and no upstream is the fifth
 no_fifth : (rows : List Row) → IsReadable Upstream rows → (word : Text) → slice_get (words_of Upstream rows) 4 ≢ Some word
 no_fifth rows readable word fifth =
-    let few = as_many (SpellsAllowed rows) (words_of Upstream rows) readable.0 readable.1.0 in
+    let few = as_many (SpellsUpstream rows) (words_of Upstream rows) readable.0 readable.1.0 in
     let most = readable.1.2 in
     let within = slice_get_within (words_of Upstream rows) 4 word fifth in
     absurd (omega arith)

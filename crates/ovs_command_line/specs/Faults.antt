@@ -11,8 +11,8 @@ use Rattle.ovs_command_line.specs.declared.command_fault.CommandFault.TheVariant
 use Rattle.ovs_command_line.specs.declared.options.SchemaOrigin.{SchemaOrigin}
 use Rattle.ovs_command_line.specs.declared.command_line.Task.{Task}
 use Rattle.ovs_command_line.specs.declared.command_line.Task.TheVariants.{Help, Version}
-use Rattle.ovs_command_line.specs.Values.{SpellsAddress, SpellsCommit, SpellsRow, SpellsCount, SpellsNone}
-use Rattle.ovs_command_line.specs.Options.{is_count, word_of, words_of, Gives, CountsIfGiven, SpellsAllowed, GivesOrigin, AreUpstreams}
+use Rattle.ovs_command_line.specs.Values.{SpellsAddress, SpellsCommit, SpellsRow, SpellsCount, SpellsNone, parts_of}
+use Rattle.ovs_command_line.specs.Options.{is_count, word_of, words_of, Gives, CountsIfGiven, Addresses, SpellsAllowed, GivesOrigin, AreUpstreams}
 use Rattle.ovs_command_line.specs.CommandLine.{Found, HasCommand, AskForText, program}
 
 -- the exit status beside a fault: 2 a fault of the command line, 3 memory gave out
@@ -39,21 +39,25 @@ is_of_relay _ = true
 
 -- ---- words that can be read
 
+-- the text stands between commas, or at an end, of one of these words
+abbrev pub IsPartOf : List Text → Text → Type 0
+IsPartOf words part = (word : Text) × Contains words word × Contains (parts_of word) part
+
 -- what stands behind an option, in what is found of a command, gives a value
 abbrev pub IsReadable : CommandOption → List Row → Type 0
 IsReadable Schema rows = (word : Text) × (word_of Schema rows ≡ Some word)
 IsReadable Database rows = (word : Text) × (word_of Database rows ≡ Some word)
 IsReadable Listen rows = (address : SocketAddr) × Gives (SpellsAllowed rows) Listen rows address
-IsReadable Upstream rows = (upstreams : List SocketAddr) × AreUpstreams rows upstreams
+IsReadable Upstream rows = (upstreams : List Addresses) × AreUpstreams rows upstreams
 IsReadable FirstId rows = (id : ℕ) × Gives SpellsCommit FirstId rows id
 IsReadable FirstRow rows = (id : ℕ) × Gives SpellsRow FirstRow rows id
 IsReadable TrimEvery rows = (n : Option ℕ) × CountsIfGiven TrimEvery rows n
 IsReadable Accepts rows = (n : Option ℕ) × CountsIfGiven Accepts rows n
 IsReadable Tries rows = (n : Option ℕ) × CountsIfGiven Tries rows n
 
--- an upstream is the address at which the relay listens
+-- an address of an upstream is the one at which the relay listens
 abbrev pub HasOwnAddress : List Row → SocketAddr → Type 0
-HasOwnAddress rows address = Gives (SpellsAllowed rows) Listen rows address × ((word : Text) × Contains (words_of Upstream rows) word × SpellsAllowed rows word address)
+HasOwnAddress rows address = Gives (SpellsAllowed rows) Listen rows address × ((part : Text) × IsPartOf (words_of Upstream rows) part × SpellsAllowed rows part address)
 
 -- the options of `source`, or of `relay`, give values, where that is the command, and of the latter no upstream is its own address, and it
 -- is said where its schema comes from; the other commands have words that give any
@@ -81,9 +85,9 @@ IsNoValue TrimEvery rows word = SpellsNone SpellsCount word
 IsNoValue Accepts rows word = SpellsNone SpellsCount word
 IsNoValue Tries rows word = SpellsNone SpellsCount word
 
--- the word stands behind this option, one of its words where there may be several
+-- the word stands behind this option; of upstreams it is a part of one of the words
 abbrev pub StandsBehind : CommandOption → List Row → Text → Type 0
-StandsBehind Upstream rows word = Contains (words_of Upstream rows) word
+StandsBehind Upstream rows word = IsPartOf (words_of Upstream rows) word
 StandsBehind option rows word = word_of option rows ≡ Some word
 
 -- what is off with an option: it isn't there and has to be, a word behind it is no value, there is a fifth, or it is the relay's own
@@ -136,10 +140,15 @@ abbrev pub IsNoAddress : Bool → Text → CommandFault → Type 0
 IsNoAddress beyond word (BadValue o w) = (o ≡ Upstream) × (string_bytes w ≡ word) × SpellsNone (SpellsAddress beyond) word
 IsNoAddress beyond word fault = fault ≡ NoMemory
 
--- the same of one of several words
+-- the same of one of several texts
 abbrev pub IsFaultAmong : Bool → List Text → CommandFault → Type 0
 IsFaultAmong beyond words (BadValue o w) = (o ≡ Upstream) × Contains words (string_bytes w) × SpellsNone (SpellsAddress beyond) (string_bytes w)
 IsFaultAmong beyond words fault = fault ≡ NoMemory
+
+-- the same of a part of one of several words
+abbrev pub IsFaultInside : Bool → List Text → CommandFault → Type 0
+IsFaultInside beyond words (BadValue o w) = (o ≡ Upstream) × IsPartOf words (string_bytes w) × SpellsNone (SpellsAddress beyond) (string_bytes w)
+IsFaultInside beyond words fault = fault ≡ NoMemory
 
 -- that this word is one too many, or memory ran out
 abbrev pub IsOneTooMany : Text → CommandFault → Type 0

@@ -3,6 +3,8 @@ use Rattle.std.specs.Prelude.{◌≡◌, ◌≢◌, ℕ, ◌≤◌, List, All, [
 use Rattle.std.specs.List.{AllZip}
 use Rattle.std.specs.Option.{option_map_or, unwrap_or}
 use Rattle.std.specs.declared.net.socket_addr.SocketAddr.{SocketAddr}
+use Rattle.std.specs.declared.alloc.Global.{Global}
+use Rattle.std.specs.declared.vec.Vec.{Vec}
 use Rattle.clap.specs.Words.{Row, Text, first_of, all_of}
 use Rattle.ovs_command_line.specs.declared.command_option.CommandOption.{CommandOption}
 use Rattle.ovs_command_line.specs.declared.command_option.CommandOption.TheVariants.{Schema, Database, Listen, Upstream, FirstId, FirstRow, TrimEvery, Accepts, Tries}
@@ -10,7 +12,7 @@ use Rattle.ovs_command_line.specs.declared.options.SourceOptions.{SourceOptions}
 use Rattle.ovs_command_line.specs.declared.options.RelayOptions.{RelayOptions}
 use Rattle.ovs_command_line.specs.declared.options.SchemaOrigin.{SchemaOrigin}
 use Rattle.ovs_command_line.specs.declared.options.SchemaOrigin.TheVariants as origins
-use Rattle.ovs_command_line.specs.Values.{SpellsAddress, SpellsCommit, SpellsRow, SpellsCount}
+use Rattle.ovs_command_line.specs.Values.{SpellsAddress, SpellsAddresses, SpellsCommit, SpellsRow, SpellsCount}
 
 abbrev pub option_name : CommandOption → Text
 option_name Schema = codes "schema"
@@ -52,6 +54,14 @@ goes_beyond rows = has_flag (codes "beyond-loopback") rows
 abbrev pub SpellsAllowed : List Row → Text → SocketAddr → Type 0
 SpellsAllowed rows = SpellsAddress (goes_beyond rows)
 
+-- the addresses of one upstream
+abbrev pub Addresses : Type 0
+Addresses = Vec SocketAddr Global
+
+-- such as these options allow
+abbrev pub SpellsUpstream : List Row → Text → Addresses → Type 0
+SpellsUpstream rows word addresses = SpellsAddresses (goes_beyond rows) word addresses.items
+
 -- the word behind an option, which has to be there, spells this value
 abbrev pub Gives : {A : Type 0} → (Text → A → Type 0) → CommandOption → List Row → A → Type 0
 Gives Spells option rows value = (word : Text) × (word_of option rows ≡ Some word) × Spells word value
@@ -81,16 +91,16 @@ abbrev pub GivesOrigin : List Row → SchemaOrigin → Type 0
 GivesOrigin rows (origins.File file) = (word_of Schema rows ≡ Some (string_bytes file)) × (word_of Database rows ≡ None)
 GivesOrigin rows (origins.FirstUpstream name) = (word_of Schema rows ≡ None) × (word_of Database rows ≡ Some (string_bytes name))
 
--- one to four addresses, in the order of the words
-abbrev pub AreUpstreams : List Row → List SocketAddr → Type 0
-AreUpstreams rows upstreams = AllZip (SpellsAllowed rows) (words_of Upstream rows) upstreams × (1 ≤ length upstreams) × (length upstreams ≤ 4)
+-- one to four upstreams, each with the addresses that its word spells, in the order of the words
+abbrev pub AreUpstreams : List Row → List Addresses → Type 0
+AreUpstreams rows upstreams = AllZip (SpellsUpstream rows) (words_of Upstream rows) upstreams × (1 ≤ length upstreams) × (length upstreams ≤ 4)
 
 -- what `relay` is given
 pub record GiveRelay (rows : List Row) (o : RelayOptions) : Type 0 where
   pub schema : GivesOrigin rows o.schema
   pub listen : Gives (SpellsAllowed rows) Listen rows o.listen
   pub upstreams : AreUpstreams rows o.upstreams.items
-  pub others : All (λ upstream. upstream ≢ o.listen) o.upstreams.items
+  pub others : All (λ upstream. All (λ address. address ≢ o.listen) upstream.items) o.upstreams.items
   pub accepts : CountsIfGiven Accepts rows o.accepts
   pub tries : CountsIfGiven Tries rows o.tries
   pub verbose : o.verbose ≡ has_flag (codes "verbose") rows

@@ -1,5 +1,6 @@
 -- What the words behind options stand for.
-use Rattle.std.specs.Prelude.{◌≡◌, ℕ, ◌≤◌, ◌^◌, Option, Some, Bool, true, false, MatchOption}
+use Rattle.std.specs.Prelude.{◌≡◌, ◌==◌, ℕ, ◌≤◌, ◌^◌, List, Option, Some, Bool, true, false, MatchOption}
+use Rattle.std.specs.List.{AllZip, slice_split}
 use Rattle.std.specs.Str.Parse.{IsNumeral, digits_value, without_leading_plus}
 use Rattle.std.specs.Net.Addr.{MatchIp, IsLoopbackV4, IsLoopbackV6}
 use Rattle.std.specs.Net.Grammar.{IsSocketText}
@@ -12,6 +13,14 @@ use Rattle.ovs_data.specs.Id.{read_id}
 abbrev pub SpellsAddress : Bool → Text → SocketAddr → Type 0
 SpellsAddress true word address = IsSocketText word address
 SpellsAddress false word address = IsSocketText word address × MatchIp (socket_ip address) IsLoopbackV4 IsLoopbackV6
+
+-- the texts between the commas of a word
+abbrev pub parts_of : Text → List Text
+parts_of word = slice_split (λ byte. byte == 44) word
+
+-- such addresses with commas between them
+abbrev pub SpellsAddresses : Bool → Text → List SocketAddr → Type 0
+SpellsAddresses beyond word addresses = AllZip (SpellsAddress beyond) (parts_of word) addresses
 
 -- an id that a commit may have
 abbrev pub SpellsCommit : Text → ℕ → Type 0

@@ -20,7 +20,7 @@ const DATABASE_HELP: &str =
 const LISTEN_HELP: &str = "Where connections are taken, an address and a port";
 
 const UPSTREAM_HELP: &str =
-    "A node to follow, at an address and a port; four of them at most, the first is the way to the source";
+    "A node to follow, at an address and a port, or at several with commas between them, which are tried in turn; four nodes at most, the first is the way to the source";
 
 const FIRST_ID_HELP: &str =
     "The id of the first commit, from which those after it count on; no commit may have had any of them";

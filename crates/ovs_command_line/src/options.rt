@@ -51,9 +51,9 @@ pub struct RelayOptions {
     pub schema: SchemaOrigin,
     /// Where connections are taken, a loopback address unless others are allowed.
     pub listen: SocketAddr,
-    /// One to four upstreams, none of which is where connections are taken, in the order in which they were given; at loopback
-    /// addresses unless others are allowed.
-    pub upstreams: Vec<SocketAddr>,
+    /// One to four upstreams, in the order in which they were given, each with its addresses, one or more, none of which is where
+    /// connections are taken; loopback addresses unless others are allowed.
+    pub upstreams: Vec<Vec<SocketAddr>>,
     /// How many connections each thread of readers takes, 1 to 1,000,000; none where it takes any number.
     pub accepts: Option<u32>,
     /// How many connections each thread of an upstream tries, 1 to 1,000,000; none where it tries any number.

@@ -1,19 +1,19 @@
 //! The upstreams of a relay, as they are given.
 
-ghost use Rattle.std.specs.Prelude.{◌≡◌, ◌≢◌, true, false, map, All, IfOk, IfErr};
+ghost use Rattle.std.specs.Prelude.{◌≡◌, ◌≢◌, true, false, map, All, Contains, IfOk, IfErr};
 ghost use Rattle.std.specs.List.{AllZip};
 ghost use Rattle.clap.specs.Words.{found_of, rows_of};
 ghost use Rattle.ovs_command_line.specs.declared.command_option.CommandOption.TheVariants as options;
 ghost use Rattle.ovs_command_line.specs.Options.{AreUpstreams, Gives, SpellsAllowed};
-ghost use Rattle.ovs_command_line.specs.Values.{SpellsAddress};
-ghost use Rattle.ovs_command_line.specs.Faults.{IsFaultOf, IsOneTooMany, IsNoAddress, IsFaultAmong};
+ghost use Rattle.ovs_command_line.specs.Values.{SpellsAddress, SpellsAddresses, parts_of};
+ghost use Rattle.ovs_command_line.specs.Faults.{IsFaultOf, IsOneTooMany, IsNoAddress, IsFaultAmong, IsFaultInside};
 
 use crate::command_fault::CommandFault;
 use crate::command_option::CommandOption;
 use crate::options::{goes_beyond, no_value};
 use crate::values::read_address;
 use clap::ArgMatches;
-use std::alloc::Global;
+use std::alloc::{AllocError, Global};
 use std::net::SocketAddr;
 
 // How many upstreams a relay has at most.
@@ -39,24 +39,60 @@ fn address_of(alloc: Global, word: &str, beyond_loopback: bool) -> Result<Socket
     }
 }
 
-// The addresses that words spell, in their order.
+// The addresses that these parts of a word spell, in their order.
 fn addresses_of(
     alloc: Global,
-    words: &[&str],
+    parts: &[&str],
     beyond_loopback: bool,
 ) -> Result<Vec<SocketAddr>, CommandFault>
-    ensures value { IfOk result (λ addresses. AllZip (SpellsAddress beyond_loopback) (map (λ word. word.now) words.now) addresses.items) }
-    ensures fault { IfErr result (IsFaultAmong beyond_loopback (map (λ word. word.now) words.now)) }
+    ensures value { IfOk result (λ addresses. AllZip (SpellsAddress beyond_loopback) (map (λ part. part.now) parts.now) addresses.items) }
+    ensures fault { IfErr result (IsFaultAmong beyond_loopback (map (λ part. part.now) parts.now)) }
 {
-    let mut addresses = Vec::with_capacity(alloc, words.len())?;
-    for word in words {
-        addresses.push_reserved(address_of(alloc, word, beyond_loopback)?);
+    let mut addresses = Vec::with_capacity(alloc, parts.len())?;
+    for part in parts {
+        addresses.push_reserved(address_of(alloc, part, beyond_loopback)?);
     }
     Ok(addresses)
 }
 
+// The texts between the commas of a word.
+fn parts_of(alloc: Global, word: &str) -> Result<Vec<&str>, AllocError>
+    ensures value { IfOk result (λ parts. map (λ part. part.now) parts.items ≡ parts_of word.now) }
+{
+    word.split(',').collect(alloc)
+}
+
+// The addresses of one upstream, which a word spells with commas between them.
+fn upstream_of(
+    alloc: Global,
+    word: &str,
+    beyond_loopback: bool,
+) -> Result<Vec<SocketAddr>, CommandFault>
+    ensures value { IfOk result (λ addresses. SpellsAddresses beyond_loopback word.now addresses.items) }
+    ensures fault { IfErr result (IsFaultAmong beyond_loopback (parts_of word.now)) }
+{
+    let parts = parts_of(alloc, word)?;
+    addresses_of(alloc, parts.as_slice(), beyond_loopback)
+}
+
+// The upstreams whose addresses words spell, in their order.
+fn each_upstream_of(
+    alloc: Global,
+    words: &[&str],
+    beyond_loopback: bool,
+) -> Result<Vec<Vec<SocketAddr>>, CommandFault>
+    ensures value { IfOk result (λ upstreams. AllZip (λ word addresses. SpellsAddresses beyond_loopback word addresses.items) (map (λ word. word.now) words.now) upstreams.items) }
+    ensures fault { IfErr result (IsFaultInside beyond_loopback (map (λ word. word.now) words.now)) }
+{
+    let mut upstreams = Vec::with_capacity(alloc, words.len())?;
+    for word in words {
+        upstreams.push_reserved(upstream_of(alloc, word, beyond_loopback)?);
+    }
+    Ok(upstreams)
+}
+
 // The upstreams that `relay` is given, by what clap finds of it.
-fn upstreams_of(alloc: Global, found: &ArgMatches<'_>) -> Result<Vec<SocketAddr>, CommandFault>
+fn upstreams_of(alloc: Global, found: &ArgMatches<'_>) -> Result<Vec<Vec<SocketAddr>>, CommandFault>
     ensures value { IfOk result (λ upstreams. AreUpstreams (rows_of (found_of found.now)) upstreams.items) }
     ensures fault { IfErr result (IsFaultOf options.Upstream (rows_of (found_of found.now))) }
 {
@@ -67,7 +103,7 @@ fn upstreams_of(alloc: Global, found: &ArgMatches<'_>) -> Result<Vec<SocketAddr>
     if let Some(word) = words.get(MOST_UPSTREAMS) {
         return Err(one_too_many(alloc, word));
     }
-    addresses_of(alloc, words, goes_beyond(found))
+    each_upstream_of(alloc, words, goes_beyond(found))
 }
 
 // Whether two addresses are the same.
@@ -78,20 +114,33 @@ fn is_same(address: SocketAddr, other: SocketAddr) -> bool
     address == other
 }
 
-/// The upstreams that `relay` is given, by what clap finds of it, where it listens at this address, which is none of them.
+// Whether an address is among others.
+fn is_among(address: SocketAddr, others: &[SocketAddr]) -> bool
+    ensures among { result ≡ true → Contains others.now address }
+    ensures none { result ≡ false → All (λ other. other ≢ address) others.now }
+{
+    for other in others {
+        if is_same(*other, address) {
+            return true;
+        }
+    }
+    false
+}
+
+/// The upstreams that `relay` is given, by what clap finds of it, where it listens at this address, which is none of theirs.
 pub(crate) fn other_upstreams_of(
     alloc: Global,
     found: &ArgMatches<'_>,
     listen: SocketAddr,
-) -> Result<Vec<SocketAddr>, CommandFault>
+) -> Result<Vec<Vec<SocketAddr>>, CommandFault>
     requires listens { Gives (SpellsAllowed (rows_of (found_of found.now))) options.Listen (rows_of (found_of found.now)) listen }
     ensures value { IfOk result (λ upstreams. AreUpstreams (rows_of (found_of found.now)) upstreams.items) }
-    ensures others { IfOk result (λ upstreams. All (λ upstream. upstream ≢ listen) upstreams.items) }
+    ensures others { IfOk result (λ upstreams. All (λ upstream. All (λ address. address ≢ listen) upstream.items) upstreams.items) }
     ensures fault { IfErr result (IsFaultOf options.Upstream (rows_of (found_of found.now))) }
 {
     let upstreams = upstreams_of(alloc, found)?;
     for upstream in &upstreams {
-        if is_same(*upstream, listen) {
+        if is_among(listen, upstream.as_slice()) {
             return Err(CommandFault::OwnAddress(listen));
         }
     }

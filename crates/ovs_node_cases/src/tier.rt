@@ -82,7 +82,7 @@ fn relay<R: NodeRuntime + Log>(
 ) -> Result<NodeServer<R>, Fault> {
     let plan = RelayPlan {
         listen: any_port()?,
-        upstreams: &[upstream],
+        upstreams: &[Vec::from_slice(alloc, &[upstream])?],
         accepts: Some(MOST_CONNECTIONS),
         tries: Some(MOST_CONNECTIONS),
         ends_on_refusal: false,

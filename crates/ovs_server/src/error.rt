@@ -20,7 +20,7 @@ pub enum ServerError {
     /// There is no node of so many upstreams and workers.
     #[error("{0}")]
     Node(NodeError),
-    /// The upstream told no schema, and isn't tried any more.
+    /// The upstream, which was tried at this address last, told no schema, and isn't tried any more.
     #[error("upstream {0} told no schema, and isn't tried any more")]
     NoSchema(SocketAddr),
     /// Not all that the node's threads had came back.

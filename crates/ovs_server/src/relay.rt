@@ -39,8 +39,8 @@ const UNFED: &str = "no upstream is tried any more";
 pub struct RelayPlan<'a> {
     /// Where its readers come in.
     pub listen: SocketAddr,
-    /// Its upstreams, the first of which is asked what only the source can answer.
-    pub upstreams: &'a [SocketAddr],
+    /// Its upstreams, each with the addresses at which it is tried in turn. The first upstream is asked what only the source can answer.
+    pub upstreams: &'a [Vec<SocketAddr>],
     /// How many connections each worker takes at most, where there is a bound.
     pub accepts: Option<u32>,
     /// How many connections with each upstream are tried at most, where there is a bound.

@@ -18,7 +18,10 @@ use std::sync::Wait;
 const MOST_TURNS: u32 = 1_000_000;
 
 // Tells why an upstream's reply is no schema.
-fn tell<R: Log>(rt: &R, upstream: SocketAddr, database: &str, reply: &SchemaReply) {
+fn tell<R: Log>(rt: &R, upstream: Option<SocketAddr>, database: &str, reply: &SchemaReply) {
+    let Some(upstream) = upstream else {
+        return;
+    };
     match reply {
         SchemaReply::Schema(_) => {}
         SchemaReply::NoDatabase => error!(rt; "upstream {upstream} has no database {database:?}"),
@@ -28,23 +31,24 @@ fn tell<R: Log>(rt: &R, upstream: SocketAddr, database: &str, reply: &SchemaRepl
     }
 }
 
-/// The schema of the database of this name at the first of these upstreams, which is asked again, with growing pauses, until it tells
-/// one. So many connections are tried at most, or any number. The first reply that is none is told on the log.
+/// The schema of the database of this name at the first of these upstreams, whose addresses are asked in turn, with growing pauses, until
+/// one tells it. So many connections are tried at most, or any number. The first reply that is none is told on the log.
 ///
 /// # Errors
-/// `Node` where there is no upstream; `NoSchema` where no connection is left to try; `System`; `NoMemory`.
+/// `Node` where there is no upstream, or no address of it; `NoSchema` where no connection is left to try; `System`; `NoMemory`.
 pub fn schema_of_upstream<R: NodeRuntime + Log>(
     rt: R,
     alloc: Global,
-    upstreams: &[SocketAddr],
+    upstreams: &[Vec<SocketAddr>],
     database: &str,
     tries: Option<u32>,
 ) -> Result<Schema, ServerError> {
-    let Some(&upstream) = upstreams.first() else {
+    let Some(addresses) = upstreams.first() else {
         return Err(ServerError::Node(NodeError::BadCount));
     };
     let shutdown_flag = ShutdownFlag::new(alloc)?;
-    let (mut upward, _waker) = Upward::new(rt, alloc, upstream, tries, &shutdown_flag)?;
+    let addresses = addresses.as_slice();
+    let (mut upward, _waker) = Upward::new(rt, alloc, addresses, tries, &shutdown_flag)?;
     let mut has_told = false;
     for _ in rt.forever() {
         if !upward.next() {
@@ -60,12 +64,15 @@ pub fn schema_of_upstream<R: NodeRuntime + Log>(
             Some(SchemaReply::Schema(schema)) => return Ok(schema),
             Some(reply) => {
                 if !has_told {
-                    tell(&rt, upstream, database, &reply);
+                    tell(&rt, upward.address(), database, &reply);
                 }
                 has_told = true;
             }
             None => upward.lost(queried.ended),
         }
     }
-    Err(ServerError::NoSchema(upstream))
+    match upward.address() {
+        Some(upstream) => Err(ServerError::NoSchema(upstream)),
+        None => Err(ServerError::Node(NodeError::BadCount)),
+    }
 }

@@ -18,7 +18,6 @@ use std::sync::Arc;
 #[derive(Drop)]
 pub(crate) struct UpstreamSockets<R: Net + Log + Drop> {
     rt: R,
-    address: SocketAddr,
     upward: Upward<R>,
     // What was wrong with what it said in the session before, if anything was.
     fault: Option<InputFault>,
@@ -44,10 +43,12 @@ impl<R: Net + Log + Drop> UpstreamSockets<R> {
 
     // Tells what was wrong with what the upstream said, where that is news: an upstream that can't be followed in any case.
     fn tell(&self, fault: InputFault) {
-        let (rt, address) = (&self.rt, self.address);
         if self.fault == Some(fault) {
             return;
         }
+        let (rt, Some(address)) = (&self.rt, self.upward.address()) else {
+            return;
+        };
         match fault {
             InputFault::Message(UpError::OtherSchema) => {
                 error!(rt; "upstream {address} has another schema");
@@ -95,21 +96,21 @@ pub(crate) struct Upstreams<R: Net + Log + Drop> {
 }
 
 impl<R: Net + Log + Copy + Drop> Upstreams<R> {
-    /// At these addresses, so many connections with each, or any number.
+    /// Each at its addresses, so many connections with each, or any number.
     pub(crate) fn new(
         rt: R,
         alloc: Global,
-        addresses: &[SocketAddr],
+        upstreams: &[Vec<SocketAddr>],
         tries: Option<u32>,
         shutdown_flag: &ShutdownFlag,
     ) -> Result<Upstreams<R>, ServerError> {
         let mut connectors = Vec::new(alloc);
         let mut wakers = Vec::new(alloc);
-        for address in addresses {
-            let (upward, waker) = Upward::new(rt, alloc, *address, tries, shutdown_flag)?;
+        for addresses in upstreams {
+            let addresses = addresses.as_slice();
+            let (upward, waker) = Upward::new(rt, alloc, addresses, tries, shutdown_flag)?;
             connectors.push(UpstreamSockets {
                 rt,
-                address: *address,
                 upward,
                 fault: None,
                 refusals: None,

@@ -1,7 +1,8 @@
 //! Connections with an upstream.
 
-ghost use Rattle.std.specs.Prelude.{◌≡◌, true, false, Some, IfOk};
+ghost use Rattle.std.specs.Prelude.{◌≡◌, true, false, Some, IfOk, if◌then◌else◌, vec_len};
 ghost use Rattle.ovs_sockets.specs.Allowance.{IsOneLess, IsNoMore};
+ghost use Rattle.ovs_sockets.specs.Places.{next_place};
 
 use crate::allowance::one_less;
 use crate::channel::Channel;
@@ -15,17 +16,20 @@ use std::io::{self, ErrorKind, Read, Write};
 use std::net::{Net, SocketAddr};
 use std::sync::{Arc, Mutex};
 
-/// Connections with the upstream at an address, one after another, with a growing pause before each but the first.
+/// Connections with an upstream, one after another: its addresses are tried in turn, round and round, with a growing pause before each
+/// round but the first.
 ///
 /// What it hands out is used by the thread that has it, so that nobody else holds the lock.
 #[derive(Drop)]
 pub struct Upward<R: Net + Log + Drop> {
     rt: R,
-    address: SocketAddr,
+    addresses: Vec<SocketAddr>,
+    // The place of the address that is tried, or was tried last.
+    at: usize,
     tries_left: Option<u32>,
     has_tried: bool,
-    // The try before this one failed, which was told.
-    has_failed: bool,
+    // How many tries failed one after another, of which those of one round were told.
+    failures: usize,
     pause: Pause,
     channel: Arc<Mutex<Channel>>,
 }
@@ -42,15 +46,26 @@ pub struct ToUpstream {
     channel: Arc<Mutex<Channel>>,
 }
 
+// The place behind this one of so many, which is the first behind the last.
+fn next_place(at: usize, places: usize) -> usize
+    ensures value { result ≡ next_place places at }
+{
+    if places > 0 && at < places - 1 {
+        at + 1
+    } else {
+        0
+    }
+}
+
 impl<R: Net + Log + Drop> Upward<R> {
-    /// So many connections at most, or any number, with what wakes the thread that has them.
+    /// So many connections at most, or any number, with the upstream at these addresses, and what wakes the thread that has them.
     ///
     /// # Errors
     /// The system's; memory ran out.
     pub fn new(
         rt: R,
         alloc: Global,
-        address: SocketAddr,
+        addresses: &[SocketAddr],
         tries: Option<u32>,
         shutdown_flag: &ShutdownFlag,
     ) -> io::Result<(Upward<R>, SocketWaker)>
@@ -60,19 +75,26 @@ impl<R: Net + Log + Drop> Upward<R> {
         let waker = channel.waker()?;
         let upward = Upward {
             rt,
-            address,
+            addresses: Vec::from_slice(alloc, addresses)?,
+            at: 0,
             tries_left: tries,
             has_tried: false,
-            has_failed: false,
+            failures: 0,
             pause: Pause::new(),
             channel: Arc::new(alloc, Mutex::new(channel))?,
         };
         Ok((upward, SocketWaker::new(waker)))
     }
 
-    /// Whether there is to be another; the one before is let go, and then it waits a while.
+    /// The address that is tried, or was tried last.
+    pub fn address(&self) -> Option<SocketAddr> {
+        self.addresses.get(self.at).copied()
+    }
+
+    /// Whether there is to be another, at the next address; the one before is let go, and before a new round it waits a while.
     pub fn next(&mut self) -> bool
         ensures tried { result ≡ true → IsOneLess self.old.tries_left self.new.tries_left }
+        ensures turn { result ≡ true → self.new.at ≡ (if self.old.has_tried then next_place (vec_len self.old.addresses) self.old.at else self.old.at) }
         ensures none { self.old.tries_left ≡ Some 0 → result ≡ false }
         ensures no_more { IsNoMore self.old.tries_left self.new.tries_left }
     {
@@ -85,7 +107,10 @@ impl<R: Net + Log + Drop> Upward<R> {
         }
         self.tries_left = one_less(self.tries_left);
         if self.has_tried {
-            channel.pause(self.pause.take());
+            self.at = next_place(self.at, self.addresses.len());
+            if self.at == 0 {
+                channel.pause(self.pause.take());
+            }
         }
         self.has_tried = true;
         !channel.shutdown_flag()
@@ -95,8 +120,9 @@ impl<R: Net + Log + Drop> Upward<R> {
     pub fn open(&mut self) -> Option<(FromUpstream, ToUpstream)>
         ensures same { self.new.tries_left ≡ self.old.tries_left }
     {
-        let connected = self.channel.try_lock()?.connect(&self.rt, self.address);
-        self.tell(connected)?;
+        let address = self.address()?;
+        let connected = self.channel.try_lock()?.connect(&self.rt, address);
+        self.tell(address, connected)?;
         let reader = FromUpstream {
             channel: self.channel.clone().ok()?,
         };
@@ -106,22 +132,21 @@ impl<R: Net + Log + Drop> Upward<R> {
         Some((reader, writer))
     }
 
-    // Tells of the first failure of several, and that the upstream was found. `None` where it wasn't.
-    fn tell(&mut self, connected: io::Result<()>) -> Option<()>
+    // Tells of the first failure of several at each address, and that the upstream was found. `None` where it wasn't.
+    fn tell(&mut self, address: SocketAddr, connected: io::Result<()>) -> Option<()>
         ensures same { self.new.tries_left ≡ self.old.tries_left }
     {
-        let address = self.address;
         match connected {
             Ok(()) => {
-                self.has_failed = false;
+                self.failures = 0;
                 info!(self.rt; "upstream {address} found");
                 Some(())
             }
             Err(error) => {
-                if !self.has_failed {
+                if self.failures < self.addresses.len() {
                     info!(self.rt; "upstream {address} not found: {error}");
+                    self.failures += 1;
                 }
-                self.has_failed = true;
                 None
             }
         }
@@ -135,8 +160,9 @@ impl<R: Net + Log + Drop> Upward<R> {
         if self.was_followed(ended) {
             self.pause = Pause::new();
         }
-        let address = self.address;
-        info!(self.rt; "upstream {address} lost: {ended}");
+        if let Some(address) = self.address() {
+            info!(self.rt; "upstream {address} lost: {ended}");
+        }
     }
 
     // Whether the upstream was followed in the session that ended so.

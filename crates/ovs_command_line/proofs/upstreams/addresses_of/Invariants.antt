@@ -5,11 +5,11 @@ use Rattle.ovs_command_line.specs.Values.{SpellsAddress}
 use Rattle.ovs_command_line.proofs.Addresses.{texts_of}
 use Rattle.ovs_command_line.proofs.upstreams.addresses_of.Given as goal
 
--- the words before this one are read, and there is room for those that are left
-abbrev pub invariant-loop-word : goal.invariant-loop-word
-invariant-loop-word l =
+-- the parts before this one are read, and there is room for those that are left
+abbrev pub invariant-loop-part : goal.invariant-loop-part
+invariant-loop-part l =
     record {
-      each : AllZip (SpellsAddress l.fn.beyond_loopback) (texts_of (take l.word-index l.fn.words)) l.addresses.items;
-      room : length l.fn.words ≤ vec_capacity l.addresses;
-      so_far : vec_len l.addresses ≡ l.word-index;
+      each : AllZip (SpellsAddress l.fn.beyond_loopback) (texts_of (take l.part-index l.fn.parts)) l.addresses.items;
+      room : length l.fn.parts ≤ vec_capacity l.addresses;
+      so_far : vec_len l.addresses ≡ l.part-index;
     }

@@ -9,8 +9,8 @@ use Rattle.clap.proofs.WalkLemmas.{raw_values-rows}
 use Rattle.clap.specs.Words.{Text, found_of, rows_of}
 use Rattle.ovs_command_line.specs.declared.command_option.CommandOption.TheVariants.{Upstream}
 use Rattle.ovs_command_line.specs.Options.{words_of}
-use Rattle.ovs_command_line.specs.Values.{SpellsAddress}
-use Rattle.ovs_command_line.specs.Faults.{IsFaultAmong}
+use Rattle.ovs_command_line.specs.Values.{SpellsAddresses}
+use Rattle.ovs_command_line.specs.Faults.{IsFaultInside}
 use Rattle.ovs_command_line.proofs.Addresses.{address_fault, all_addresses, fifth_fault, no_words, none_left, one_at_least, texts_of, words_met}
 use Rattle.ovs_command_line.proofs.upstreams.upstreams_of.Goals as goal
 
@@ -43,16 +43,16 @@ returns-clause-value c =
     let long : length (words_of Upstream (rows_of found)) ≡ length words = ap length (sym met) ∙ length-map words (λ w. w.now) in
     let least : 1 ≤ length words = one_at_least (length words) (eqb-false (length words) 0 (sym c.is_empty.ensures ∙ c.if-is_empty.false)) in
     let most : length words ≤ 4 = ltb-false 4 (length words) (sym c.in_default.ensures.lookup.0) in
-    IfOk-weaker c.addresses_of.result _ _ (λ upstreams each. all_addresses (rows_of found) upstreams.items (omega (arith, long, least)) (omega (arith, long, most))
-    (subst (λ (beyond : Bool). AllZip (SpellsAddress beyond) (words_of Upstream (rows_of found)) upstreams.items) c.goes_beyond.ensures.value
-    (subst (λ (ts : List Text). AllZip (SpellsAddress c.goes_beyond.result) ts upstreams.items) met each))) c.addresses_of.ensures.value
+    IfOk-weaker c.each_upstream_of.result _ _ (λ upstreams each. all_addresses (rows_of found) upstreams.items (omega (arith, long, least)) (omega (arith, long, most))
+    (subst (λ (beyond : Bool). AllZip (λ word addresses. SpellsAddresses beyond word addresses.items) (words_of Upstream (rows_of found)) upstreams.items) c.goes_beyond.ensures.value
+    (subst (λ (ts : List Text). AllZip (λ word addresses. SpellsAddresses c.goes_beyond.result word addresses.items) ts upstreams.items) met each))) c.each_upstream_of.ensures.value
 
 pub returns-clause-fault : goal.returns-clause-fault
 returns-clause-fault c =
     let found = found_of c.args.found.now in
     let met = words_met (rows_of found) c.get_strs.result _ c.unwrap_or-words.result c.unwrap_or-words.ensures refl
     (c.get_strs.ensures ∙ raw_values-rows found (codes "upstream")) in
-    IfErr-weaker c.addresses_of.result _ _ (λ fault made. address_fault (rows_of found) fault
-    (subst (λ (beyond : Bool). IsFaultAmong beyond (words_of Upstream (rows_of found)) fault) c.goes_beyond.ensures.value
-    (subst (λ (ts : List Text). IsFaultAmong c.goes_beyond.result ts fault) met made)))
-    c.addresses_of.ensures.fault
+    IfErr-weaker c.each_upstream_of.result _ _ (λ fault made. address_fault (rows_of found) fault
+    (subst (λ (beyond : Bool). IsFaultInside beyond (words_of Upstream (rows_of found)) fault) c.goes_beyond.ensures.value
+    (subst (λ (ts : List Text). IsFaultInside c.goes_beyond.result ts fault) met made)))
+    c.each_upstream_of.ensures.fault
