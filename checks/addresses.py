@@ -49,7 +49,7 @@ def addresses_are_tried_in_turn(lab):
         session.transact("net", insert(name="p"))
         shows(session, "p")
     wanted = [f"upstream 127.0.0.1:{dead} not found", f"upstream 127.0.0.1:{source.port} found"]
-    equal(told_of_upstreams(relay.child), wanted, "what the relay says of its upstream")
+    wait_until(lambda: told_of_upstreams(relay.child) == wanted, 15, f"the relay says {wanted}")
 
 
 @check(240)
@@ -73,7 +73,7 @@ def rounds_and_pauses(lab):
     equal([place for _, place in order], [number % 3 for number in range(20)], "the order of the addresses")
     firsts = [moment for moment, place in order if place == 0]
     rounds = [later - earlier for earlier, later in zip(firsts, firsts[1:])]
-    holds(rounds[-1] >= 0.3 and rounds[-1] > 2 * rounds[0], f"the rounds don't come further apart: {rounds!r}")
+    holds(rounds[-1] >= 0.3 and rounds[-1] > 2 * min(rounds), f"the rounds don't come further apart: {rounds!r}")
 
 
 @check(240)
