@@ -20,6 +20,8 @@ PROCESSOR_A_RECONNECT = 0.010
 TICKS_A_SECOND = os.sysconf("SC_CLK_TCK")
 # So many pauses, of 10 ms and then twice as long each time, come to the longest.
 PAUSES = 8
+# For so many seconds clients ask at a relay whose upstream is lost.
+ASKED_FOR = 4
 # How often an upstream breaks off behind a link.
 MANY_BREAKS = 12
 LONGEST_MESSAGE = 16_777_216
@@ -157,6 +159,22 @@ def pauses_between_tries(lab):
     holds(pauses[0] < LONGEST_PAUSE and pauses[-1] > pauses[0], f"the pauses don't grow: {pauses!r}")
     with relay.session() as session:
         equal(session.ask("echo", 1), [1], "an echo meanwhile")
+
+
+@check(240)
+def pauses_while_clients_ask(lab):
+    """Clients that come, ask for transactions and go don't have a lost upstream tried sooner."""
+    upstream = lab.keep(Upstream(NET, lambda connection: None))
+    relay = lab.relay([upstream])
+    wait_until(lambda: len(upstream.times()) > PAUSES, 30, f"{PAUSES} pauses")
+    tries, until = len(upstream.times()), time.monotonic() + ASKED_FOR
+    while time.monotonic() < until:
+        with relay.session() as session:
+            for number in range(MANY_BREAKS):
+                session.request("transact", "net", insert(name=f"p{number}"))
+            equal(session.ask("echo", 1), [1], "an echo meanwhile")
+    found = len(upstream.times()) - tries
+    holds(found <= ASKED_FOR / LONGEST_PAUSE + 1, f"{found} tries in {ASKED_FOR} seconds")
 
 
 def with_schema(connection, schema):

@@ -19,7 +19,7 @@ use ovs_links::Step;
 use ovs_node::{FeedName, Handle, NodeName, OpenNode, Opened};
 use ovs_recorded_desk::DeskStep;
 use ovs_recorded_source::SourceStep;
-use ovs_sockets::{ShutdownFlag, SocketPoller};
+use ovs_sockets::{Shutdown, ShutdownFlag, SocketPoller};
 use ovs_types::Schema;
 use ovs_worker::Poller;
 use std::alloc::Global;
@@ -66,7 +66,7 @@ impl<R: NodeRuntime + Log> NodeServer<R> {
         let sockets = WorkerSockets::new(rt, alloc, plan.listen, plan.accepts, &shutdown_flag)?;
         Ok(NodeServer {
             rt,
-            site: Site::new(alloc, sockets, shutdown_flag, &[])?,
+            site: Site::new(alloc, sockets, Shutdown::new(alloc, shutdown_flag))?,
             role: Role::Source(SourceRole::new(plan)),
         })
     }
@@ -79,7 +79,10 @@ impl<R: NodeRuntime + Log> NodeServer<R> {
         let shutdown_flag = ShutdownFlag::new(alloc)?;
         let sockets = WorkerSockets::new(rt, alloc, plan.listen, plan.accepts, &shutdown_flag)?;
         let upstreams = Upstreams::new(rt, alloc, plan.upstreams, plan.tries, &shutdown_flag)?;
-        let site = Site::new(alloc, sockets, shutdown_flag, &upstreams.wakers)?;
+        let mut shutdown = Shutdown::new(alloc, shutdown_flag);
+        shutdown.add(&upstreams.wakers)?;
+        shutdown.add(&upstreams.pause_wakers)?;
+        let site = Site::new(alloc, sockets, shutdown)?;
         let role = RelayRole::new(alloc, upstreams, &site.shutdown, plan)?;
         Ok(NodeServer {
             rt,

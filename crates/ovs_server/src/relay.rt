@@ -266,6 +266,7 @@ pub(crate) fn run_relay_node<
     let Upstreams {
         connectors,
         wakers: upward,
+        ..
     } = upstreams;
     let own = OwnParts {
         pollers,

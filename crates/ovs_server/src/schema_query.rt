@@ -48,7 +48,7 @@ pub fn schema_of_upstream<R: NodeRuntime + Log>(
     };
     let shutdown_flag = ShutdownFlag::new(alloc)?;
     let addresses = addresses.as_slice();
-    let (mut upward, _waker) = Upward::new(rt, alloc, addresses, tries, &shutdown_flag)?;
+    let (mut upward, _wakers) = Upward::new(rt, alloc, addresses, tries, &shutdown_flag)?;
     let mut has_told = false;
     for _ in rt.forever() {
         if !upward.next() {

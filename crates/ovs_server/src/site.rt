@@ -3,7 +3,7 @@
 use crate::error::ServerError;
 use crate::sockets::WorkerSockets;
 use log::Log;
-use ovs_sockets::{Shutdown, ShutdownFlag, SocketPoller, SocketWaker};
+use ovs_sockets::{Shutdown, SocketPoller};
 use ovs_worker::Poller;
 use std::alloc::Global;
 use std::net::Net;
@@ -24,16 +24,14 @@ where
 }
 
 impl<R: Net + Log + Drop> Site<R> {
-    /// With readers in these places. What ends the node wakes their threads, and these of its upstreams.
+    /// With readers in these places. What ends the node wakes their threads, too.
     pub(crate) fn new(
         alloc: Global,
         sockets: WorkerSockets<R>,
-        shutdown_flag: ShutdownFlag,
-        upward: &[SocketWaker],
+        shutdown: Shutdown,
     ) -> Result<Site<R>, ServerError> {
-        let mut shutdown = Shutdown::new(alloc, shutdown_flag);
+        let mut shutdown = shutdown;
         shutdown.add(&sockets.wakers)?;
-        shutdown.add(upward)?;
         Ok(Site {
             alloc,
             sockets,

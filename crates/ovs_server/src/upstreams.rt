@@ -6,7 +6,7 @@ use log::{Log, error, info};
 use ovs_follow::InputFault;
 use ovs_node_threads::Connector;
 use ovs_session::Ended;
-use ovs_sockets::{FromUpstream, ShutdownFlag, SocketWaker, ToUpstream, Upward};
+use ovs_sockets::{FromUpstream, ShutdownFlag, SocketWaker, ToUpstream, Upward, UpwardWakers};
 use ovs_types::TxnId;
 use ovs_upstream::UpError;
 use ovs_wire::{FrameError, MAX_MESSAGE_BYTES};
@@ -88,11 +88,12 @@ impl<R: Net + Log + Drop> Connector for UpstreamSockets<R> {
     }
 }
 
-/// The connections with a relay's upstreams, and what wakes their threads.
+/// The connections with a relay's upstreams, and what wakes their threads from waits and from pauses.
 #[derive(Drop)]
 pub(crate) struct Upstreams<R: Net + Log + Drop> {
     pub(crate) connectors: Vec<UpstreamSockets<R>>,
     pub(crate) wakers: Vec<SocketWaker>,
+    pub(crate) pause_wakers: Vec<SocketWaker>,
 }
 
 impl<R: Net + Log + Copy + Drop> Upstreams<R> {
@@ -105,19 +106,25 @@ impl<R: Net + Log + Copy + Drop> Upstreams<R> {
         shutdown_flag: &ShutdownFlag,
     ) -> Result<Upstreams<R>, ServerError> {
         let mut connectors = Vec::new(alloc);
-        let mut wakers = Vec::new(alloc);
+        let (mut wakers, mut pause_wakers) = (Vec::new(alloc), Vec::new(alloc));
         for addresses in upstreams {
             let addresses = addresses.as_slice();
-            let (upward, waker) = Upward::new(rt, alloc, addresses, tries, shutdown_flag)?;
+            let (upward, woken_by) = Upward::new(rt, alloc, addresses, tries, shutdown_flag)?;
             connectors.push(UpstreamSockets {
                 rt,
                 upward,
                 fault: None,
                 refusals: None,
             })?;
+            let UpwardWakers { waker, pause_waker } = woken_by;
             wakers.push(waker)?;
+            pause_wakers.push(pause_waker)?;
         }
-        Ok(Upstreams { connectors, wakers })
+        Ok(Upstreams {
+            connectors,
+            wakers,
+            pause_wakers,
+        })
     }
 
     /// From now on it is noted there that an upstream can't be followed.

@@ -32,6 +32,8 @@ const MOST_AHEAD: usize = 16_777_216;
 pub(crate) struct Channel {
     alloc: Global,
     poll: Poll,
+    // What it pauses with, which what is asked of the upstream doesn't wake: else clients would cut the pauses short.
+    pause_poll: Poll,
     events: Events<Global>,
     stream: Option<TcpStream>,
     // What came while a write had to wait. An upstream that writes may read nothing until that is taken.
@@ -49,6 +51,7 @@ impl Channel {
         Ok(Channel {
             alloc,
             poll: Poll::new(net)?,
+            pause_poll: Poll::new(net)?,
             events: Events::with_capacity(alloc, EVENTS)?,
             stream: None,
             ahead: VecDeque::new(alloc),
@@ -57,9 +60,15 @@ impl Channel {
         })
     }
 
-    /// What wakes the thread.
+    /// What wakes the thread, but from a pause.
     pub(crate) fn waker(&self) -> io::Result<Arc<Waker>> {
         Ok(Arc::new(self.alloc, Waker::new(self.poll.registry(), WAKER)?)?)
+    }
+
+    /// What wakes the thread from a pause.
+    pub(crate) fn pause_waker(&self) -> io::Result<Arc<Waker>> {
+        let waker = Waker::new(self.pause_poll.registry(), WAKER)?;
+        Ok(Arc::new(self.alloc, waker)?)
     }
 
     /// Whether all is to end.
@@ -72,9 +81,9 @@ impl Channel {
         self.exchange
     }
 
-    /// Waits for so long, or less where it is woken.
+    /// Waits for so long, or less where it is woken from the pause.
     pub(crate) fn pause(&mut self, pause: Duration) {
-        let _ = self.poll.poll(&mut self.events, Some(pause));
+        let _ = self.pause_poll.poll(&mut self.events, Some(pause));
     }
 
     /// Lets the connection go.

@@ -18,5 +18,5 @@ pub use client::Half;
 pub use listening::Listening;
 pub use poller::SocketPoller;
 pub use shutdown::{Shutdown, ShutdownFlag};
-pub use upward::{FromUpstream, ToUpstream, Upward};
+pub use upward::{FromUpstream, ToUpstream, Upward, UpwardWakers};
 pub use waker::SocketWaker;

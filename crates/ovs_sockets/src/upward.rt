@@ -34,6 +34,15 @@ pub struct Upward<R: Net + Log + Drop> {
     channel: Arc<Mutex<Channel>>,
 }
 
+/// What wakes the thread that has connections with an upstream.
+#[derive(Drop)]
+pub struct UpwardWakers {
+    /// From a wait for the upstream. It doesn't wake the thread from a pause, which what is asked of the upstream mustn't cut short.
+    pub waker: SocketWaker,
+    /// From a pause.
+    pub pause_waker: SocketWaker,
+}
+
 /// What comes from an upstream. A read waits until something comes, or the thread is woken.
 #[derive(Drop)]
 pub struct FromUpstream {
@@ -68,11 +77,14 @@ impl<R: Net + Log + Drop> Upward<R> {
         addresses: &[SocketAddr],
         tries: Option<u32>,
         shutdown_flag: &ShutdownFlag,
-    ) -> io::Result<(Upward<R>, SocketWaker)>
+    ) -> io::Result<(Upward<R>, UpwardWakers)>
         ensures count { IfOk result (λ made. made.0.tries_left ≡ tries) }
     {
         let channel = Channel::new(&rt, alloc, shutdown_flag.again()?)?;
-        let waker = channel.waker()?;
+        let wakers = UpwardWakers {
+            waker: SocketWaker::new(channel.waker()?),
+            pause_waker: SocketWaker::new(channel.pause_waker()?),
+        };
         let upward = Upward {
             rt,
             addresses: Vec::from_slice(alloc, addresses)?,
@@ -83,7 +95,7 @@ impl<R: Net + Log + Drop> Upward<R> {
             pause: Pause::new(),
             channel: Arc::new(alloc, Mutex::new(channel))?,
         };
-        Ok((upward, SocketWaker::new(waker)))
+        Ok((upward, wakers))
     }
 
     /// The address that is tried, or was tried last.
