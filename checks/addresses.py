@@ -1,4 +1,5 @@
 """An upstream that has several addresses, which a relay tries in turn."""
+import socket
 import threading
 import time
 
@@ -15,6 +16,10 @@ from upstreams import commit_id, sound, tells
 COMMITS = 60
 BETWEEN = 0.05
 MEMBERS = 3
+# So long a relay waits for a connection with an address, and when the next one is surely tried, in seconds.
+CONNECTING, GIVEN_UP = 5, 20
+# More connections than wait at a port that takes none.
+MORE_THAN_QUEUED = 4
 
 
 def following(lab, *upstreams, more=(), name="relay", schema=NET):
@@ -50,6 +55,42 @@ def addresses_are_tried_in_turn(lab):
         shows(session, "p")
     wanted = [f"upstream 127.0.0.1:{dead} not found", f"upstream 127.0.0.1:{source.port} found"]
     wait_until(lambda: told_of_upstreams(relay.child) == wanted, 15, f"the relay says {wanted}")
+
+
+class Dead:
+    """An address at which connections are neither taken nor refused, as that of a host that is switched off: its queue of them is full."""
+
+    def __init__(self):
+        self.port = free_port()
+        self.listener = socket.create_server(("127.0.0.1", self.port), backlog=0)
+        self.waiting = []
+        for _ in range(MORE_THAN_QUEUED):
+            self.waiting.append(socket.socket())
+            self.waiting[-1].setblocking(False)
+            self.waiting[-1].connect_ex(("127.0.0.1", self.port))
+
+    def close(self):
+        for one in (self.listener, *self.waiting):
+            one.close()
+
+
+@check(240)
+def a_host_that_is_switched_off(lab):
+    """An address that doesn't answer is given up after some seconds, and the next one tried; a relay meanwhile answers, and can be ended."""
+    dead, source = lab.keep(Dead()), lab.source()
+    relay = following(lab, [dead, source], more=["--verbose"])
+    with relay.session() as session:
+        equal(session.ask("echo", 1), [1], "an echo meanwhile")
+        begun = time.monotonic()
+        session.transact("net", insert(name="p"), seconds=GIVEN_UP)
+        holds(time.monotonic() - begun <= GIVEN_UP, "the next address was tried too late")
+        shows(session, "p")
+    wanted = [f"upstream 127.0.0.1:{dead.port} not found", f"upstream 127.0.0.1:{source.port} found"]
+    wait_until(lambda: told_of_upstreams(relay.child) == wanted, 15, f"the relay says {wanted}")
+    alone = following(lab, [dead], more=["--tries", "2", "--accepts", "1"], name="alone")
+    begun = time.monotonic()
+    equal(alone.end(60)[0], 0, "the status of a relay whose only address is dead")
+    holds(time.monotonic() - begun >= CONNECTING, "two tries were given up at once")
 
 
 @check(240)

@@ -21,6 +21,9 @@ const STREAM: Token = Token(0);
 
 const WAKER: Token = Token(1);
 
+// So many seconds a connection may take to stand.
+const CONNECTING: u64 = 5;
+
 // So much is read at once while a write has to wait.
 const CHUNK: usize = 16_384;
 
@@ -32,7 +35,7 @@ const MOST_AHEAD: usize = 16_777_216;
 pub(crate) struct Channel {
     alloc: Global,
     poll: Poll,
-    // What it pauses with, which what is asked of the upstream doesn't wake: else clients would cut the pauses short.
+    // What it connects and pauses with, which what is asked of the upstream doesn't wake: else clients would cut the pauses short.
     pause_poll: Poll,
     events: Events<Global>,
     stream: Option<TcpStream>,
@@ -60,12 +63,12 @@ impl Channel {
         })
     }
 
-    /// What wakes the thread, but from a pause.
+    /// What wakes the thread, but while it connects or pauses.
     pub(crate) fn waker(&self) -> io::Result<Arc<Waker>> {
         Ok(Arc::new(self.alloc, Waker::new(self.poll.registry(), WAKER)?)?)
     }
 
-    /// What wakes the thread from a pause.
+    /// What wakes the thread while it connects or pauses.
     pub(crate) fn pause_waker(&self) -> io::Result<Arc<Waker>> {
         let waker = Waker::new(self.pause_poll.registry(), WAKER)?;
         Ok(Arc::new(self.alloc, waker)?)
@@ -93,39 +96,41 @@ impl Channel {
         self.exchange = Exchange::Opened;
     }
 
-    /// Connects, and waits until that has succeeded or failed.
+    /// Connects, and waits until that has succeeded or failed, or has taken too long, as with a host that is switched off.
     pub(crate) fn connect<N: Net>(&mut self, net: &N, address: SocketAddr) -> io::Result<()> {
         self.close();
         let mut stream = TcpStream::connect(net, address)?;
-        self.poll.registry().register(
-            &mut stream,
-            STREAM,
-            Interest::READABLE | Interest::WRITABLE,
-        )?;
+        let registry = self.pause_poll.registry();
+        registry.register(&mut stream, STREAM, Interest::WRITABLE)?;
         self.wait_for_stream()?;
         if let Some(error) = stream.take_error()? {
             return Err(error);
         }
         stream.peer_addr()?;
         stream.set_nodelay(true)?;
+        self.pause_poll.registry().deregister(&mut stream)?;
+        self.poll.registry().register(
+            &mut stream,
+            STREAM,
+            Interest::READABLE | Interest::WRITABLE,
+        )?;
         self.stream = Some(stream);
         Ok(())
     }
 
     // Waits until something is told of the connection.
     fn wait_for_stream(&mut self) -> io::Result<()> {
-        for _waited in 0..u64::MAX {
-            self.poll.poll(&mut self.events, None)?;
-            if self.shutdown_flag() {
-                return Err(ErrorKind::Interrupted.into());
-            }
-            for event in &self.events {
-                if event.token() == STREAM {
-                    return Ok(());
-                }
+        let longest = Duration::from_secs(CONNECTING);
+        self.pause_poll.poll(&mut self.events, Some(longest))?;
+        if self.shutdown_flag() {
+            return Err(ErrorKind::Interrupted.into());
+        }
+        for event in &self.events {
+            if event.token() == STREAM {
+                return Ok(());
             }
         }
-        Ok(())
+        Err(ErrorKind::TimedOut.into())
     }
 
     // Waits until something is told of the connection, or it is woken.

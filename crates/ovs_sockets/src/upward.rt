@@ -37,9 +37,10 @@ pub struct Upward<R: Net + Log + Drop> {
 /// What wakes the thread that has connections with an upstream.
 #[derive(Drop)]
 pub struct UpwardWakers {
-    /// From a wait for the upstream. It doesn't wake the thread from a pause, which what is asked of the upstream mustn't cut short.
+    /// From a wait for the upstream. It wakes the thread neither while it connects nor from a pause, which what is asked of the upstream
+    /// mustn't cut short.
     pub waker: SocketWaker,
-    /// From a pause.
+    /// From connecting, and from a pause.
     pub pause_waker: SocketWaker,
 }
 
