@@ -1,0 +1,5 @@
+mod AdmittedLinks
+mod LawfulSaid
+mod MadeLinks
+mod Places
+mod SaidBytes
