@@ -1,6 +1,6 @@
 //! A session with an upstream: its messages in, links out.
 
-ghost use Rattle.std.specs.Prelude.{◌≡◌, ◌≢◌, ◌≤◌, [], ◌∷◌, Ok, Err, IfOk, OnOk, OnErr, length, map};
+ghost use Rattle.std.specs.Prelude.{◌≡◌, ◌≢◌, ◌≤◌, true, [], ◌∷◌, Ok, Err, IfOk, OnOk, OnErr, length, map};
 ghost use Rattle.serde_json.specs.View.{view};
 ghost use Rattle.ovs_json.specs.Gives.{Gives};
 ghost use Rattle.ovs_types.specs.SchemaReading.{read_description};
@@ -8,7 +8,7 @@ ghost use Rattle.ovs_rows.specs.ChangeReading.{read_change};
 ghost use Rattle.ovs_links.specs.Sets.{AllOf, IsOfTables};
 ghost use Rattle.ovs_upstream.specs.Talk.{answer_in, schema_said, answer_said, number_said, reply_said, update_in, update_said, notice_said};
 ghost use Rattle.ovs_upstream.specs.Requests.{schema_request, CanBeAsked};
-ghost use Rattle.ovs_upstream.specs.Hearing.{says, change_in, heard, opened, linked, placed, reached, hears_at, hears, opening, at_stage, links_in};
+ghost use Rattle.ovs_upstream.specs.Hearing.{says, change_in, heard, opened, linked, placed, reached, hears_at, hears, opening, at_stage, links_in, takes_memory};
 
 use crate::error::UpError;
 use crate::requests::{monitor_request, schema_request};
@@ -64,6 +64,7 @@ fn linked(
     updates: &Value,
 ) -> Result<Heard, UpError>
     ensures exact { Gives UpError.NoMemory (λ h. h) result (linked schema.now.description.tables prev id (view updates.now)) }
+    ensures memory { result ≡ Err UpError.NoMemory → takes_memory (linked schema.now.description.tables prev id (view updates.now)) ≡ true }
 {
     if id.is_start() || id == prev {
         return Err(UpError::BadId);
@@ -141,6 +142,8 @@ impl UpSession {
     pub fn take_message(&mut self, alloc: Global, message: Message) -> Result<UpEvent, UpError>
         ensures heard { IfOk result (λ e. hears self.old message ≡ heard self.new.stage e) }
         ensures refused { (e : UpError) → result ≡ Err e → e ≢ UpError.NoMemory → hears self.old message ≡ Err e }
+        // What is found without memory is told without it.
+        ensures memory { result ≡ Err UpError.NoMemory → takes_memory (hears self.old message) ≡ true }
         // Its links are changes of the schema's tables.
         ensures tables { IfOk result (λ e. AllOf (IsOfTables self.old.schema.description.tables) (links_in e)) }
         ensures same { self.new ≡ at_stage self.old self.new.stage }
@@ -168,6 +171,8 @@ impl UpSession {
     /// Those of `take_message`; `Ended` where the session has ended.
     pub fn hear(&self, alloc: Global, message: Message) -> Result<Heard, UpError>
         ensures exact { Gives UpError.NoMemory (λ h. h) result (hears self.now message) }
+        // What is found without memory is told without it.
+        ensures memory { result ≡ Err UpError.NoMemory → takes_memory (hears self.now message) ≡ true }
         // It makes one link at most, which is a change of the schema's tables.
         ensures tables { IfOk result (λ h. AllOf (IsOfTables self.now.schema.description.tables) (links_in h.event) × (length (links_in h.event) ≤ 1)) }
         // Where it sends the request for the monitor, each name stands in it once, and the id can be read.
@@ -197,6 +202,7 @@ impl UpSession {
     fn hear_open(&self, alloc: Global, message: Message) -> Result<Heard, UpError>
         requires open { self.now.stage ≢ Stage.Ended }
         ensures exact { Gives UpError.NoMemory (λ h. h) result (hears self.now message) }
+        ensures memory { result ≡ Err UpError.NoMemory → takes_memory (hears self.now message) ≡ true }
         ensures asked { IfOk result (λ h. self.now.stage ≡ Stage.Opening → h.stage ≡ Stage.Asking → CanBeAsked self.now.schema self.now.asked) }
     {
         match message {
@@ -225,6 +231,7 @@ impl UpSession {
     fn hear_notice(&self, alloc: Global, method: &str, params: &[Value]) -> Result<Heard, UpError>
         requires open { self.now.stage ≢ Stage.Ended }
         ensures exact { Gives UpError.NoMemory (λ h. h) result (hears_at self.now.stage self.now (notice_said method.now (map view params.now))) }
+        ensures memory { result ≡ Err UpError.NoMemory → takes_memory (hears_at self.now.stage self.now (notice_said method.now (map view params.now))) ≡ true }
     {
         if method == "update3" {
             self.hear_update(alloc, params)
@@ -238,6 +245,7 @@ impl UpSession {
     fn hear_update(&self, alloc: Global, params: &[Value]) -> Result<Heard, UpError>
         requires open { self.now.stage ≢ Stage.Ended }
         ensures exact { Gives UpError.NoMemory (λ h. h) result (hears_at self.now.stage self.now (update_said (update_in (map view params.now)))) }
+        ensures memory { result ≡ Err UpError.NoMemory → takes_memory (hears_at self.now.stage self.now (update_said (update_in (map view params.now)))) ≡ true }
     {
         let Some((id, updates)) = update_in(params) else {
             return Err(UpError::BadReply);
@@ -251,6 +259,7 @@ impl UpSession {
     fn hear_reply(&self, alloc: Global, answer: Answer, id: &Id) -> Result<Heard, UpError>
         requires open { self.now.stage ≢ Stage.Ended }
         ensures exact { Gives UpError.NoMemory (λ h. h) result (hears_at self.now.stage self.now (reply_said answer id.now)) }
+        ensures memory { result ≡ Err UpError.NoMemory → takes_memory (hears_at self.now.stage self.now (reply_said answer id.now)) ≡ true }
         ensures asked { IfOk result (λ h. self.now.stage ≡ Stage.Opening → h.stage ≡ Stage.Asking → CanBeAsked self.now.schema self.now.asked) }
     {
         if is_word("schema", id.as_value()) {
@@ -278,6 +287,7 @@ impl UpSession {
     fn hear_schema(&self, alloc: Global, answer: &Answer) -> Result<Heard, UpError>
         requires open { self.now.stage ≢ Stage.Ended }
         ensures exact { Gives UpError.NoMemory (λ h. h) result (hears_at self.now.stage self.now (schema_said answer.now)) }
+        ensures memory { result ≡ Err UpError.NoMemory → takes_memory (hears_at self.now.stage self.now (schema_said answer.now)) ≡ true }
         ensures asked { OnOk result (CanBeAsked self.now.schema self.now.asked) }
     {
         match self.stage {
@@ -302,6 +312,7 @@ impl UpSession {
     // Asks for what comes after the id, where the schema is the same.
     fn opened(&self, alloc: Global, schema: &Value) -> Result<Heard, UpError>
         ensures exact { Gives UpError.NoMemory (λ h. h) result (opened self.now (view schema.now)) }
+        ensures memory { result ≡ Err UpError.NoMemory → takes_memory (opened self.now (view schema.now)) ≡ true }
         ensures asked { OnOk result (CanBeAsked self.now.schema self.now.asked) }
     {
         if !self.has_schema(alloc, schema)? {
@@ -316,6 +327,7 @@ impl UpSession {
     fn hear_answer(&self, alloc: Global, answer: &Answer) -> Result<Heard, UpError>
         requires open { self.now.stage ≢ Stage.Ended }
         ensures exact { Gives UpError.NoMemory (λ h. h) result (hears_at self.now.stage self.now (answer_said (answer_in answer.now))) }
+        ensures memory { result ≡ Err UpError.NoMemory → takes_memory (hears_at self.now.stage self.now (answer_said (answer_in answer.now))) ≡ true }
     {
         let Some((known, id, updates)) = answer_in(answer) else {
             return Err(UpError::BadReply);
@@ -335,6 +347,7 @@ impl UpSession {
         updates: &Value,
     ) -> Result<Heard, UpError>
         ensures exact { Gives UpError.NoMemory (λ h. h) result (reached self.now known id (view updates.now)) }
+        ensures memory { result ≡ Err UpError.NoMemory → takes_memory (reached self.now known id (view updates.now)) ≡ true }
     {
         let nothing = is_empty_object(updates);
         if known && id == self.asked {
