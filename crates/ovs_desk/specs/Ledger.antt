@@ -133,6 +133,10 @@ due_to who l = find (passes (Due who)) l.pending
 abbrev pub next_back : ℕ → Ledger → Option Message
 next_back who l = option_and_then reply_of (due_to who l)
 
+-- whether that answer is that the source was lost, which is written only when it is given; every other is given as it came
+abbrev pub lost_to : ℕ → Ledger → Option Bool
+lost_to who l = option_map (λ (e : Pending). is_lost e.state) (due_to who l)
+
 -- where that answer stands
 abbrev pub next_standing : ℕ → Ledger → Option ℕ
 next_standing who l = option_map standing_of (due_to who l)

@@ -1,5 +1,5 @@
 -- What each call makes of a relay's desk.
-use Rattle.std.specs.Prelude.{◌≡◌, ◌≢◌, nat_lt, is_some, ◌+◌, ◌^◌, ℕ, List, Bool, true, false, map, Option, Some, None, Result, Ok, Err, if◌then◌else◌, option_and_then, option_map, codes, slice_get, IsErr, ⊤}
+use Rattle.std.specs.Prelude.{◌≡◌, ◌≢◌, ◌&&◌, ◌||◌, not, nat_lt, is_some, ◌+◌, ◌^◌, ℕ, List, Bool, true, false, map, Option, Some, None, Result, Ok, Err, if◌then◌else◌, option_and_then, option_map, codes, slice_get, IsErr, ⊤}
 use Rattle.serde_json.specs.Data.{Data, boolean, object, no_members}
 use Rattle.serde_json.specs.Find.{get, as_bool, as_null}
 use Rattle.serde_json.specs.View.{view}
@@ -15,7 +15,7 @@ use Rattle.ovs_authority.specs.declared.ask.Verb.{Verb}
 use Rattle.ovs_authority.specs.declared.ask.Verb.TheVariants as asks
 use Rattle.ovs_locks.specs.Lock.{name_told}
 use Rattle.ovs_locks.specs.declared.notice.LockNotice.{LockNotice}
-use Rattle.ovs_lock_desk.specs.DeskLock.{DeskLockValue, step, asked_here, AnswersBy}
+use Rattle.ovs_lock_desk.specs.DeskLock.{DeskLockValue, step, asked_here, enters, AnswersBy}
 use Rattle.ovs_lock_desk.specs.LockDesk.{DeskValue, ChangesAt, SendsFirst, IsGone, stepped, desk_lock_at, refusal_at, first_due_up, is_sent_at, answers_to, notices_to}
 use Rattle.ovs_lock_desk.specs.declared.course.Event.TheVariants as events
 use Rattle.ovs_lock_desk.specs.declared.course.LockReply.{LockReply}
@@ -102,6 +102,10 @@ pub record AsksByName (who : ℕ) (verb : LockVerb) (name : List ℕ) (id : Data
   pub reply : r ≡ option_map (λ a. reply_of a id) answer
   pub asks : AsksForLock who verb name id d answer e
 
+-- whether asking for a lock, or leaving it, takes memory: an Unlock that isn't refused takes none
+abbrev pub lock_takes_memory : ℕ → LockVerb → List ℕ → DeskValue → Bool
+lock_takes_memory who verb name l = enters verb || is_some (refusal_at l.has_source verb who name l.locks)
+
 -- ---- transactions
 
 -- what is answered where this came of sending: nothing yet, or that too many requests wait; want of memory is no answer
@@ -122,6 +126,13 @@ Asks who id (asks.Transact operations) d r e = Transacts who (map view operation
 Asks who id (asks.Lock name) d r e = AsksByName who verbs.Lock name id d r e
 Asks who id (asks.Steal name) d r e = AsksByName who verbs.Steal name id d r e
 Asks who id (asks.Unlock name) d r e = AsksByName who verbs.Unlock name id d r e
+
+-- whether what a session asks takes memory: all but an Unlock that isn't refused
+abbrev pub takes_memory : ℕ → Verb → DeskValue → Bool
+takes_memory who (asks.Transact operations) l = true
+takes_memory who (asks.Lock name) l = true
+takes_memory who (asks.Steal name) l = true
+takes_memory who (asks.Unlock name) l = lock_takes_memory who verbs.Unlock name l
 
 -- ---- upward
 
@@ -165,6 +176,10 @@ TakesUpWhere false d m e = (m ≡ None) × (e ≡ d)
 -- transactions go before lock requests, and nothing goes up while there is no source
 abbrev pub TakesUp : RelayValue → Option Message → RelayValue → Type 0
 TakesUp d m e = TakesUpWhere d.locks.has_source d m e
+
+-- whether a lock request is next to go up, which is written then; a transaction goes up as it was sent
+abbrev pub is_lock_next : RelayValue → Bool
+is_lock_next d = d.locks.has_source && not (is_some (next_up d.forwards.ledger)) && nat_lt d.asked first_lock && is_some (first_due_up d.locks.locks)
 
 -- ---- what the source says
 

@@ -1,13 +1,13 @@
 //! All requests on their way.
 
-ghost use Rattle.std.specs.Prelude.{◌≡◌, ◌==◌, ◌<◌, ◌≤◌, [], false, true, nat_lt, not, None, filter, map, position, vec_len, vec_capacity, is_some, IfOk, IfNone, OnOk, OnErr, length, ◌+◌, ◌^◌};
+ghost use Rattle.std.specs.Prelude.{◌≡◌, ◌==◌, ◌<◌, ◌≤◌, [], false, true, nat_lt, not, Some, None, filter, map, position, vec_len, vec_capacity, is_some, IfOk, IfNone, OnOk, OnErr, length, ◌+◌, ◌^◌};
 ghost use Rattle.std.specs.List.{find, list_any};
 ghost use Rattle.std.specs.List.Sorted.{IsNonDecreasingBy, IsPartitionPoint};
 ghost use Rattle.slab.specs.Slab.{ContainsKey, HasRoomFor, SameValues, Updates, slab_len};
 ghost use Rattle.ovs_desk.specs.declared.pending.Pending.{Pending};
 ghost use Rattle.ovs_desk.specs.declared.pending.Sought.{Sought};
 ghost use Rattle.ovs_desk.specs.ByAsker.{InOrder, without};
-ghost use Rattle.ovs_desk.specs.Ledger.{place_of, passes, lost, with_pending, without_first, to_go, due_to, next_up, next_back, next_standing, asker_of, refusal, IsKept, SamePlaces};
+ghost use Rattle.ovs_desk.specs.Ledger.{place_of, passes, lost, with_pending, without_first, to_go, due_to, next_up, next_back, lost_to, next_standing, asker_of, refusal, IsKept, SamePlaces};
 ghost use Rattle.ovs_desk.specs.Calls.{After, SendsTo};
 ghost use Rattle.ovs_desk.specs.Calls as calls;
 
@@ -296,6 +296,8 @@ impl Forwards {
     pub fn collect(&mut self, alloc: Global, who: u64) -> Result<Option<Message>, NoMemory>
         ensures message { IfOk result (λ m. m ≡ next_back who self.old.ledger) }
         ensures after { OnOk result (After (calls.Collects who (due_to who self.old.ledger)) self.old.ledger self.new.ledger) }
+        // An answer that came is given without memory, and so is none.
+        ensures memory { OnErr result (lost_to who self.old.ledger ≡ Some true) }
         ensures unchanged { OnErr result (self.new ≡ self.old) }
         ensures kept { IsKept self.new }
         ensures none { IfOk result (λ m. IfNone m (self.new ≡ self.old)) }

@@ -1,14 +1,15 @@
 //! A relay's desk.
 
-ghost use Rattle.std.specs.Prelude.{◌≡◌, ◌≢◌, ◌<◌, ◌^◌, ℕ, List, [], map, filter, Option, Some, None, Ok, Err, IfOk, IfNone, OnOk, OnErr, option_map, slice_get};
+ghost use Rattle.std.specs.Prelude.{◌≡◌, ◌≢◌, ◌<◌, ◌^◌, ◌&&◌, ℕ, List, [], true, false, nat_lt, is_some, map, filter, Option, Some, None, Ok, Err, IfOk, IfNone, OnOk, OnErr, option_map, slice_get};
 ghost use Rattle.serde_json.specs.View.{view};
 ghost use Rattle.ovs_authority.specs.Owing.{AsksTo, CollectsTo, LeavesOthers, silent, marked};
 ghost use Rattle.ovs_locks.specs.Lock.{name_told};
+ghost use Rattle.ovs_lock_desk.specs.DeskLock.{enters};
 ghost use Rattle.ovs_lock_desk.specs.LockDesk.{IsDeskTable, first_due_up, is_sent_at, answers_to};
 ghost use Rattle.ovs_desk.specs.Calls as calls;
-ghost use Rattle.ovs_desk.specs.Ledger.{passes, next_standing, asker_of};
+ghost use Rattle.ovs_desk.specs.Ledger.{passes, lost_to, next_standing, asker_of};
 ghost use Rattle.ovs_desk.specs.RelayDesk.{new_desk, owing_of, owner_of, message_of};
-ghost use Rattle.ovs_desk.specs.Relaying.{ChangesRequests, locked_so, at_once, text_of, late_answer, IsRefusalOf, IsToldOfSending, AsksForLock, AsksByName, Asks, Transacts, TakesUp, TakesUpLock, TakesUpDue, method_of, given_so, lock_reply, Hears, HearsReply, HearsOfLock, LosesSource, FindsSource, CollectsSent, CollectsLate, CollectsNotice, CollectsOfLock, Collects, EndsSession};
+ghost use Rattle.ovs_desk.specs.Relaying.{ChangesRequests, locked_so, at_once, text_of, late_answer, IsRefusalOf, IsToldOfSending, AsksForLock, AsksByName, Asks, lock_takes_memory, takes_memory, Transacts, is_lock_next, TakesUp, TakesUpLock, TakesUpDue, method_of, given_so, lock_reply, Hears, HearsReply, HearsOfLock, LosesSource, FindsSource, CollectsSent, CollectsLate, CollectsNotice, CollectsOfLock, Collects, EndsSession};
 ghost use Rattle.ovs_desk.specs.declared.pending.Sought.{Sought};
 
 use crate::asserts::rewrite;
@@ -69,6 +70,7 @@ fn locked_so(alloc: Global, won: bool) -> Result<Answer, NoMemory>
 // The answer that is known at once.
 fn at_once(alloc: Global, verb: LockVerb) -> Result<Answer, NoMemory>
     ensures value { IfOk result (λ a. a ≡ at_once verb) }
+    ensures memory { OnErr result (enters verb ≡ true) }
 {
     match verb {
         LockVerb::Lock => locked_so(alloc, false),
@@ -214,6 +216,8 @@ impl RelayDesk {
     /// `NoMemory` alone; then nothing went up.
     pub fn take_up(&mut self, alloc: Global) -> Result<Option<Message>, NoMemory>
         ensures taken { IfOk result (λ m. TakesUp self.old m self.new) }
+        // A transaction goes up without memory, and so does nothing.
+        ensures memory { OnErr result (is_lock_next self.old ≡ true) }
         ensures unchanged { OnErr result (self.new ≡ self.old) }
     {
         if !self.locks.has_source() {
@@ -228,6 +232,7 @@ impl RelayDesk {
     // The next lock request to go up.
     fn take_up_lock(&mut self, alloc: Global) -> Result<Option<Message>, NoMemory>
         ensures taken { IfOk result (λ m. TakesUpLock self.old m self.new) }
+        ensures memory { OnErr result ((nat_lt self.old.asked (2 ^ 62) && is_some (first_due_up self.old.locks.locks)) ≡ true) }
         ensures unchanged { OnErr result (self.new ≡ self.old) }
     {
         if self.asked < FIRST_LOCK {
@@ -241,6 +246,7 @@ impl RelayDesk {
     fn take_up_due(&mut self, alloc: Global) -> Result<Option<Message>, NoMemory>
         requires below { self.old.asked < 2 ^ 62 }
         ensures taken { IfOk result (λ m. TakesUpDue (first_due_up self.old.locks.locks) self.old m self.new) }
+        ensures memory { OnErr result (is_some (first_due_up self.old.locks.locks) ≡ true) }
         ensures unchanged { OnErr result (self.new ≡ self.old) }
     {
         let Some((name, verb)) = self.locks.due() else {
@@ -358,6 +364,7 @@ impl RelayDesk {
     }
 
     // A session asks for a lock, or leaves it. The answer is made before the desk changes.
+    #[tactic(auto, using(crate::proofs::Memory::entered, crate::proofs::Memory::not_done))]
     fn ask_for_lock(
         &mut self,
         alloc: Global,
@@ -367,6 +374,7 @@ impl RelayDesk {
         id: &Id,
     ) -> Result<Option<Answer>, NoMemory>
         ensures asked { IfOk result (λ a. AsksForLock who verb name.now id.now self.old a self.new) }
+        ensures memory { OnErr result (lock_takes_memory who verb name.now self.old.locks ≡ true) }
         ensures unchanged { OnErr result (self.new ≡ self.old) }
     {
         let answer = at_once(alloc, verb)?;
@@ -387,6 +395,7 @@ impl RelayDesk {
         id: Id,
     ) -> Result<Option<Message>, NoMemory>
         ensures asked { IfOk result (λ r. AsksByName who verb name.now id self.old r self.new) }
+        ensures memory { OnErr result (lock_takes_memory who verb name.now self.old.locks ≡ true) }
         ensures unchanged { OnErr result (self.new ≡ self.old) }
     {
         match self.ask_for_lock(alloc, who, verb, name, &id)? {
@@ -398,6 +407,7 @@ impl RelayDesk {
     // The first answer to a session's request that was passed on.
     fn collect_sent(&mut self, alloc: Global, who: u64) -> Result<Option<Message>, NoMemory>
         ensures given { IfOk result (λ m. CollectsSent who self.old m self.new) }
+        ensures memory { OnErr result (lost_to who self.old.forwards.ledger ≡ Some true) }
         ensures none { IfOk result (λ m. IfNone m (self.new ≡ self.old)) }
         ensures none_sent { IfOk result (λ m. IfNone m (filter (passes (Sought.Due who)) self.new.forwards.ledger.pending ≡ [])) }
         ensures unchanged { OnErr result (self.new ≡ self.old) }
@@ -481,6 +491,8 @@ impl Authority for RelayDesk {
         ensures asked { IfOk result (λ r. AsksTo (owing_of self.old who) ask.id r (owing_of self.new who)) }
         ensures others { LeavesOthers who (owing_of self.old) (owing_of self.new) }
         ensures does { IfOk result (λ r. Asks who ask.id ask.verb self.old r self.new) }
+        // An Unlock that isn't refused takes no memory.
+        ensures memory { OnErr result (takes_memory who ask.verb self.old.locks ≡ true) }
         ensures whole { OnErr result (self.new ≡ self.old) }
     {
         let Ask { id, verb } = ask;
@@ -492,11 +504,14 @@ impl Authority for RelayDesk {
         }
     }
 
+    #[tactic(auto, using(crate::proofs::Memory::lost_came))]
     fn collect(&mut self, alloc: Global, who: u64) -> Result<Option<Message>, NoMemory>
         ensures given { IfOk result (λ r. CollectsTo (owing_of self.old who) r (owing_of self.new who)) }
         ensures others { (other : ℕ) → other ≢ who → owing_of self.new other ≡ owing_of self.old other }
         ensures owners { (name : List ℕ) → owner_of self.new name ≡ owner_of self.old name }
         ensures does { IfOk result (λ m. Collects who self.old m self.new) }
+        // An answer of the source is given without memory.
+        ensures memory { OnErr result (lost_to who self.old.forwards.ledger ≢ Some false) }
         ensures unchanged { OnErr result (self.new ≡ self.old) }
     {
         match self.collect_sent(alloc, who)? {

@@ -1,14 +1,15 @@
 use Rattle.std.proofs.Common.{Some, None, refl, ◌≡◌, ◌∙◌, ◌*◌, ℕ, List, sym, ap, subst}
 use Rattle.std.proofs.lemmas.List.{get_or-set_same}
-use Rattle.std.specs.Prelude.{position, option_and_then, vec_capacity}
+use Rattle.std.specs.Prelude.{position, option_and_then, option_map, vec_capacity}
 use Rattle.slab.specs.Slab.{ContainsKey, Updates}
 use Rattle.ovs_desk.specs.declared.pending.Pending.{Pending}
 use Rattle.ovs_desk.specs.declared.pending.Sought.TheVariants.{Due}
 use Rattle.ovs_desk.specs.declared.by_asker.ByAsker.{ByAsker}
 use Rattle.ovs_desk.specs.Book.{IsBook, IsIndex}
 use Rattle.ovs_desk.specs.ByAsker.{by_asker, without}
-use Rattle.ovs_desk.specs.Ledger.{Forwarding, place_of, passes, reply_of, without_first}
+use Rattle.ovs_desk.specs.Ledger.{Forwarding, is_lost, place_of, passes, reply_of, without_first}
 use Rattle.ovs_desk.proofs.Firsts.{hit, miss}
+use Rattle.ovs_desk.proofs.Memory.{on_err}
 use Rattle.ovs_desk.proofs.Indexes.{all_in_order, due_in_order, index_without}
 use Rattle.ovs_desk.proofs.Steps.{place_taken, book_without, taken_out, reply_settled, goes_back}
 use Rattle.ovs_desk.proofs.forwards.Forwards.collect.Goals as goal
@@ -94,3 +95,12 @@ strike-requires-clause-all c = all_in_order c.self.invariant.1
 
 pub strike-requires-clause-due : goal.strike-requires-clause-due
 strike-requires-clause-due c = due_in_order c.self.invariant.1
+
+pub returns-in_err-settle-clause-memory : goal.returns-in_err-settle-clause-memory
+returns-in_err-settle-clause-memory c =
+    let test = passes (Due c.args.who) in
+    let at = ap (λ (v : Forwarding). position test v.ledger.pending) c.self.view_is ∙ sym c.in-Some.ensures.value in
+    let one = hit test c.self.inside.pending.items c.in-Some.at c.index_mut.result.now at in
+    let found = one.found ∙ ap (λ (e : Pending). Some e) (sym c.index_mut.ensures.value) in
+    rw (← c.self.view_is) (
+    on_err _ c.from_residual.result (ap (option_map (λ (e : Pending). is_lost e.state)) found ∙ ap Some c.in_err-settle.ensures.memory))

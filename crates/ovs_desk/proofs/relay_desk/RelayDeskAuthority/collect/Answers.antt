@@ -1,3 +1,9 @@
+use Rattle.std.proofs.Common.{◌≡◌, [], subst}
+use Rattle.std.specs.Prelude.{Option, IfNone, filter}
+use Rattle.ovs_wire.specs.declared.message.Message.{Message}
+use Rattle.ovs_desk.specs.declared.pending.Sought.TheVariants.{Due}
+use Rattle.ovs_desk.specs.Ledger.{passes}
+use Rattle.ovs_desk.proofs.Memory.{on_err, none_came}
 use Rattle.ovs_desk.proofs.Collected.{sent_given, sent_others, sent_owners, sent_first}
 use Rattle.ovs_desk.proofs.relay_desk.RelayDeskAuthority.collect.Goals as goal
 
@@ -16,3 +22,11 @@ returns-in-Some-clause-owners c =
 pub returns-in-Some-clause-does : goal.returns-in-Some-clause-does
 returns-in-Some-clause-does c =
     sent_first c.args.who c.args.self.now c.collect_sent.new.self c.in_ok-message.field-0 c.in-Some.message c.in-Some.is c.in_ok-message.ensures.given
+
+pub returns-in-None-clause-memory : goal.returns-in-None-clause-memory
+returns-in-None-clause-memory c =
+    let who = c.args.who in
+    let mid = c.collect_sent.new.self in
+    let same : mid ≡ c.args.self.now = subst (λ (o : Option Message). IfNone o (mid ≡ c.args.self.now)) c.in-None.is c.in_ok-message.ensures.none in
+    let none = subst (λ (o : Option Message). IfNone o (filter (passes (Due who)) mid.forwards.ledger.pending ≡ [])) c.in-None.is c.in_ok-message.ensures.none_sent in
+    on_err _ c.collect_of_lock.result (none_came who c.args.self.now mid same none)
