@@ -32,6 +32,14 @@ impl Fault {
     }
 }
 
+/// What a call answered that can fail by memory alone.
+pub(crate) fn called<T>(answer: Result<T, NoMemory>) -> Result<T, Fault> {
+    match answer {
+        Ok(answer) => Ok(answer),
+        Err(NoMemory) => Err(Fault::Refused),
+    }
+}
+
 /// Whether memory ran out within the call that was asked for.
 pub(crate) fn is_refused<T>(answer: &Result<T, Fault>) -> bool {
     matches!(answer, Err(Fault::Refused))

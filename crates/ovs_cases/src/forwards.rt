@@ -1,7 +1,7 @@
 //! Requests that are passed on, and their answers.
 
 use crate::case::{add, list, part, text, word};
-use crate::fault::Fault;
+use crate::fault::{Fault, called, is_refused, is_so};
 use crate::messages::text_of;
 use ovs_authority::{Answer, Request};
 use ovs_desk::{ForwardError, Forwards, StandingAnswer};
@@ -47,6 +47,21 @@ fn send_many(alloc: Global, forwards: &mut Forwards, parts: &[Value]) -> Result<
     Ok(told)
 }
 
+/// Where the answers of the cases stand, so that one that tells that the source was lost stands elsewhere.
+pub(crate) fn standing() -> Result<TxnId, Fault> {
+    TxnId::read("00000000-0000-0001-0000-000000000000")
+        .ok()
+        .ok_or(Fault::BadId)
+}
+
+/// Whether an answer is due, which tells that the source was lost.
+pub(crate) fn is_lost(standing: Option<TxnId>) -> bool {
+    match standing {
+        Some(id) => id.is_start(),
+        None => false,
+    }
+}
+
 fn told(alloc: Global, message: &Option<Message>) -> Result<String, Fault> {
     match message {
         Some(message) => text_of(alloc, message),
@@ -61,12 +76,22 @@ fn reply(alloc: Global, forwards: &mut Forwards, parts: &[Value]) -> Result<Stri
     };
     let answer = StandingAnswer {
         answer,
-        standing: TxnId::zero(),
+        standing: standing()?,
     };
     match forwards.reply(number(parts, 1)?, answer) {
         Ok(()) => word(alloc, "ok"),
         Err(_) => word(alloc, "unknown"),
     }
+}
+
+// What a session is given. Where there is no memory for it nothing is changed, and it was to be told that the source was lost: an
+// answer that came is given without memory.
+fn collect(alloc: Global, forwards: &mut Forwards, who: u64) -> Result<String, Fault> {
+    let answer = called(forwards.collect(alloc, who));
+    if is_refused(&answer) {
+        is_so(is_lost(forwards.standing(who)))?;
+    }
+    told(alloc, &answer?)
 }
 
 fn event(alloc: Global, forwards: &mut Forwards, parts: &[Value]) -> Result<String, Fault> {
@@ -75,7 +100,7 @@ fn event(alloc: Global, forwards: &mut Forwards, parts: &[Value]) -> Result<Stri
         "send many" => send_many(alloc, forwards, parts),
         "up" => told(alloc, &forwards.take_up()),
         "reply" => reply(alloc, forwards, parts),
-        "collect" => told(alloc, &forwards.collect(alloc, number(parts, 1)?)?),
+        "collect" => collect(alloc, forwards, number(parts, 1)?),
         "lost" => {
             forwards.source_lost();
             word(alloc, "lost")

@@ -6,7 +6,7 @@ ghost use Rattle.ovs_links.specs.Store.{IsStore};
 ghost use Rattle.ovs_reader.specs.Session.{MayBeShown};
 
 use crate::case::{add, list, text, word};
-use crate::fault::{Fault, is_refused};
+use crate::fault::{Fault, is_refused, is_so};
 use crate::folds::{shortened, spelled_out};
 use crate::messages::text_of;
 use crate::stores::take;
@@ -127,6 +127,16 @@ fn event(
     }
 }
 
+// Whether memory isn't taken to say what comes of a message of the client: it means nothing, the source is asked to transact, or a
+// monitor goes.
+fn is_told_at_once(message: &Value, answer: &str) -> bool {
+    let method = message.get("method").and_then(Value::as_str);
+    match answer {
+        "nothing" | "ask transact" => true,
+        _ => method == Some("monitor_cancel") && answer.split_once("\"error\":null").is_some(),
+    }
+}
+
 // Carries out an event (`event`). Where there is no memory for its call nothing is changed, and it is called again.
 fn event_again(
     alloc: Global,
@@ -141,7 +151,9 @@ fn event_again(
     if !is_refused(&answer) {
         return answer;
     }
-    event(alloc, store, session, one)
+    let answer = event(alloc, store, session, one)?;
+    is_so(one.as_array().is_some() || !is_told_at_once(one, answer.as_str()))?;
+    Ok(answer)
 }
 
 fn new_store(alloc: Global, schema: &Schema) -> Result<(LinkStore, ReaderSession), Fault>

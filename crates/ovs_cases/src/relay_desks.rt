@@ -1,12 +1,14 @@
 //! A relay's desk: what goes up, and what it answers to sessions.
 
 use crate::case::{add, list, part, text, word};
-use crate::desks::{asked, collected, ended, session, told, verb};
-use crate::fault::Fault;
-use ovs_authority::Answer;
+use crate::desks::{ended, session, told, verb};
+use crate::fault::{Fault, called, is_refused, is_so};
+use crate::forwards::{is_lost, standing};
+use ovs_authority::{Answer, Ask, Authority};
 use ovs_desk::{BadReply, RelayDesk, SourceMessage, StandingAnswer};
 use ovs_json::Json;
-use ovs_types::{Text, TxnId};
+use ovs_types::Text;
+use ovs_wire::Id;
 use serde_json::Value;
 use std::alloc::Global;
 
@@ -34,7 +36,7 @@ fn said(alloc: Global, what: &str, parts: &[Value]) -> Result<SourceMessage, Fau
             number: part(parts, 1)?.as_u64().ok_or(Fault::Malformed)?,
             answer: StandingAnswer {
                 answer: answer(parts)?,
-                standing: TxnId::zero(),
+                standing: standing()?,
             },
         }),
         "locked" => Ok(SourceMessage::Locked(name(alloc, parts)?)),
@@ -50,7 +52,33 @@ fn heard(alloc: Global, desk: &mut RelayDesk, message: SourceMessage) -> Result<
 }
 
 fn up(alloc: Global, desk: &mut RelayDesk) -> Result<String, Fault> {
-    told(alloc, &desk.take_up(alloc)?)
+    told(alloc, &called(desk.take_up(alloc))?)
+}
+
+// What a session asks; the request's id is the session's number.
+fn asked(
+    alloc: Global,
+    desk: &mut RelayDesk,
+    what: &str,
+    parts: &[Value],
+) -> Result<String, Fault> {
+    let who = session(parts)?;
+    let verb = verb(alloc, what, parts)?;
+    let ask = Ask {
+        id: Id::from_number(who),
+        verb,
+    };
+    told(alloc, &called(desk.ask(alloc, who, ask))?)
+}
+
+// What a session is told next. An answer of the source that came is told without memory.
+fn collected(alloc: Global, desk: &mut RelayDesk, who: u64) -> Result<String, Fault> {
+    let answer = called(desk.collect(alloc, who));
+    if is_refused(&answer) {
+        let due = desk.standing(who);
+        is_so(due.is_none() || is_lost(due))?;
+    }
+    told(alloc, &answer?)
 }
 
 // What becomes of the desk and its source.
@@ -70,9 +98,29 @@ fn event(alloc: Global, desk: &mut RelayDesk, parts: &[Value]) -> Result<String,
         what => match what {
             "found" | "lost" => of_source(alloc, desk, what),
             "reply" | "locked" | "stolen" => heard(alloc, desk, said(alloc, what, parts)?),
-            _ => asked(alloc, desk, session(parts)?, verb(alloc, what, parts)?),
+            _ => asked(alloc, desk, what, parts),
         },
     }
+}
+
+// Whether memory isn't taken for an event: a transaction goes up, or nothing, or a session leaves a lock.
+fn is_done_at_once(parts: &[Value], answer: &str) -> Result<bool, Fault> {
+    match text(parts, 0)? {
+        "up" => Ok(answer == "nothing" || answer.split_once("\"transact\"").is_some()),
+        "unlock" => Ok(answer.split_once("\"error\":null").is_some()),
+        _ => Ok(false),
+    }
+}
+
+// Carries out an event (`event`). Where there is no memory for its call nothing is changed, and it is called again.
+fn event_again(alloc: Global, desk: &mut RelayDesk, parts: &[Value]) -> Result<String, Fault> {
+    let answer = event(alloc, desk, parts);
+    if !is_refused(&answer) {
+        return answer;
+    }
+    let answer = event(alloc, desk, parts)?;
+    is_so(!is_done_at_once(parts, answer.as_str())?)?;
+    Ok(answer)
 }
 
 /// `["relay desk", DATABASE, [EVENT, ..]]`, where an event is `["transact", SESSION, [OPERATION, ..]]`, `["lock", SESSION,
@@ -84,7 +132,7 @@ pub(crate) fn relay_desk(alloc: Global, parts: &[Value]) -> Result<String, Fault
     let mut answers = String::new(alloc);
     for one in list(parts, 2)? {
         let parts = one.as_array().ok_or(Fault::Malformed)?;
-        let answer = event(alloc, &mut desk, parts.as_slice())?;
+        let answer = event_again(alloc, &mut desk, parts.as_slice())?;
         add(&mut answers, answer.as_str())?;
     }
     Ok(answers)

@@ -85,10 +85,32 @@ fn heard(
     }
 }
 
-// Whether there is no memory to hear a message, which changes nothing.
-fn is_unheard(alloc: Global, session: &UpSession, message: &Value) -> Result<bool, Fault> {
+// How a message is heard, which changes nothing.
+#[derive(Clone, Copy, PartialEq, Eq)]
+enum HeardAs {
+    // There is no memory to hear it.
+    Unheard,
+    // Without memory: it may not come, leads to an id that may not be, means nothing, or is handed on as it came.
+    AtOnce,
+    // All else.
+    Made,
+}
+
+fn heard_as(came: &Result<ovs_upstream::Heard, UpError>) -> HeardAs {
+    match came {
+        Err(UpError::NoMemory) => HeardAs::Unheard,
+        Err(UpError::BadReply | UpError::BadId | UpError::Ended) => HeardAs::AtOnce,
+        Err(UpError::OtherSchema | UpError::Change(_)) => HeardAs::Made,
+        Ok(heard) => match &heard.event {
+            UpEvent::ReplyFor { .. } | UpEvent::Nothing => HeardAs::AtOnce,
+            _ => HeardAs::Made,
+        },
+    }
+}
+
+fn hears_as(alloc: Global, session: &UpSession, message: &Value) -> Result<HeardAs, Fault> {
     let message = message_of(alloc, message)?;
-    Ok(matches!(session.hear(alloc, message), Err(UpError::NoMemory)))
+    Ok(heard_as(&session.hear(alloc, message)))
 }
 
 // Whether the session is over, which each message is answered then.
@@ -98,6 +120,7 @@ fn is_over(alloc: Global, session: &UpSession, message: &Value) -> Result<bool, 
 }
 
 // What a message comes to. Where there is no memory to hear it, it is heard again; where there is none to take it the session is over.
+// Neither is so of what is heard without memory.
 fn heard_again(
     alloc: Global,
     schema: &Schema,
@@ -107,13 +130,14 @@ fn heard_again(
     requires schema { session.old.schema ≡ schema.now }
     ensures schema { session.new.schema ≡ schema.now }
 {
-    if is_unheard(alloc, session, message)? {
-        is_so(!is_unheard(alloc, session, message)?)?;
+    let first = hears_as(alloc, session, message)?;
+    if first == HeardAs::Unheard {
+        is_so(hears_as(alloc, session, message)? == HeardAs::Made)?;
     }
     let taken = message_of(alloc, message)?;
     let answer = heard(alloc, schema, session, taken);
     if is_refused(&answer) {
-        is_so(is_over(alloc, session, message)?)?;
+        is_so(first != HeardAs::AtOnce && is_over(alloc, session, message)?)?;
     }
     answer
 }
