@@ -7,5 +7,5 @@ mod place;
 mod scan;
 
 pub use framer::Framer;
-pub use laws::{balanced_text_laws, frame_laws, framer_laws};
+pub use laws::{balanced_text_laws, frame_laws, framer_laws, limit_laws};
 pub use limits::{MAX_MESSAGE_BYTES, MAX_NESTING};
