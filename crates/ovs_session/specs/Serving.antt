@@ -1,5 +1,6 @@
 -- A session with a peer, and what it makes of what it reads.
 use Rattle.std.specs.Prelude.{◌≡◌, ℕ, ◌+◌, ◌<◌, ◌≤◌, ◌⊎◌, List, [], ◌∷◌, ◌++◌, Option, Some, None, Bool, true, false, length}
+use Rattle.ovs_wire.specs.Limits.{most_bytes}
 use Rattle.ovs_wire.specs.Frames.{Rest}
 use Rattle.ovs_wire.specs.Framing.{Framing, framing, Call, Leads, Takes, fed, taken}
 use Rattle.ovs_session.specs.declared.counts.Counts.{Counts}
@@ -45,11 +46,11 @@ abbrev pub holding : Option (List ℕ) → List (List ℕ)
 holding None = []
 holding (Some m) = m ∷ []
 
--- nothing was read, said or counted yet
-abbrev pub fresh : {C : Type 0} → C → SessionValue C
-fresh core = record {
+-- nothing was read, said or counted yet, and a message of the peer may have `most` bytes
+abbrev pub fresh_within : {C : Type 0} → ℕ → C → SessionValue C
+fresh_within most core = record {
   unfed = [];
-  framing = framing [] (Rest []);
+  framing = framing most [] (Rest []);
   held = None;
   core = core;
   unsent = [];
@@ -57,6 +58,10 @@ fresh core = record {
   counts = record { turns = 0; messages = 0; bytes_out = 0 };
   ended = None;
 }
+
+-- the same, where a message may have as many bytes as where no limit is said
+abbrev pub fresh : {C : Type 0} → C → SessionValue C
+fresh core = fresh_within most_bytes core
 
 -- the next message is taken out of the framer and held, where none was
 pub record Holds {C : Type 0} (old new : SessionValue C) : Type 0 where

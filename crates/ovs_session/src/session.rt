@@ -5,7 +5,7 @@ ghost use Rattle.ovs_wire.specs.Counted.{one_more};
 ghost use Rattle.ovs_wire.specs.Framing.{Framing, Feeds};
 ghost use Rattle.ovs_session.specs.Counting.{HasCalled, HasWritten};
 ghost use Rattle.ovs_session.specs.Moving.{is_end, is_fault, ended_by, fault_in};
-ghost use Rattle.ovs_session.specs.Serving.{SessionValue, Holds, fresh};
+ghost use Rattle.ovs_session.specs.Serving.{SessionValue, Holds, fresh, fresh_within};
 ghost use Rattle.ovs_session.specs.Turning.{IsCalled, IsUncalled, CountsFault};
 
 mod answering;
@@ -19,7 +19,7 @@ use crate::reading::Reading;
 use crate::reserved::append_reserved;
 pub(crate) use answering::{answer_held, tell_new};
 use ovs_json::NoMemory;
-use ovs_wire::{Counted, FrameError, is_passing};
+use ovs_wire::{Counted, FrameError, MAX_MESSAGE_BYTES, is_passing};
 use std::alloc::Global;
 use std::io::{ErrorKind, Read, Write};
 use std::marker::Model;
@@ -89,13 +89,20 @@ impl<C> Model for Session<C> {
 }
 
 impl<C> Session<C> {
-    /// A session of which nothing was read or said yet.
+    /// A session of which nothing was read or said yet. A message of its peer may have `MAX_MESSAGE_BYTES`.
     pub fn new(alloc: Global, core: C) -> Session<C>
         ensures fresh { result ≡ fresh core }
     {
+        Session::with_limit(alloc, MAX_MESSAGE_BYTES, core)
+    }
+
+    /// A session of which nothing was read or said yet. A message of its peer may have `most_bytes`.
+    pub fn with_limit(alloc: Global, most_bytes: usize, core: C) -> Session<C>
+        ensures fresh { result ≡ fresh_within most_bytes core }
+    {
         Session {
             unfed: Vec::new(alloc),
-            inbox: Inbox::new(alloc),
+            inbox: Inbox::new(alloc, most_bytes),
             held: None,
             core,
             outbox: Outbox::new(alloc),
