@@ -65,10 +65,16 @@ fn relay_told(alloc: Global, given: &RelayOptions) -> Result<String, Fault> {
     }
     let accepts = count_told(alloc, given.accepts)?;
     let tries = count_told(alloc, given.tries)?;
+    let most = match given.most_bytes {
+        Some(bytes) => format!(in alloc; ", messages of {bytes}")?,
+        None => String::new(alloc),
+    };
     let verbose = flag(given.verbose, ", tells");
     let ends = flag(given.end_on_refusal, ", ends on refusal");
     let prunes = flag(given.prunes, ", prunes");
-    let rest = format!(in alloc; ", accepts {accepts}, tries {tries}{verbose}{ends}{prunes}")?;
+    let rest = format!(in alloc;
+        ", accepts {accepts}, tries {tries}{most}{verbose}{ends}{prunes}"
+    )?;
     told.push_str(rest.as_str())?;
     Ok(told)
 }

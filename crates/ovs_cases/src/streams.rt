@@ -97,9 +97,21 @@ fn feed(alloc: Global, framer: &mut Framer, piece: &Value) -> Result<&'static st
     }
 }
 
-/// `["frames", [PIECE, ..]]`: the messages, and the word of the answer to the last feed.
+// A framer of this limit, or of the one that stands where none is said.
+fn framer_of(alloc: Global, limit: Option<&Value>) -> Result<Framer, Fault> {
+    match limit {
+        None => Ok(Framer::new(alloc)),
+        Some(limit) => {
+            let limit = limit.as_u64().ok_or(Fault::Malformed)?;
+            Ok(Framer::with_limit(alloc, limit as usize))
+        }
+    }
+}
+
+/// `["frames", [PIECE, ..]]`, or with how many bytes a message may have: the messages, and the word of the answer to the last
+/// feed.
 pub(crate) fn frames(alloc: Global, parts: &[Value]) -> Result<String, Fault> {
-    let mut framer = Framer::new(alloc);
+    let mut framer = framer_of(alloc, parts.get(2))?;
     let mut last = "ok";
     for piece in list(parts, 1)? {
         last = feed(alloc, &mut framer, piece)?;

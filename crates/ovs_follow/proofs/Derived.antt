@@ -13,7 +13,7 @@ use Rattle.ovs_session.specs.declared.counts.Counts.{Counts}
 use Rattle.ovs_session.specs.declared.ended.Ended.{Ended}
 use Rattle.ovs_session.specs.declared.ended.Ended.TheVariants.{Closed}
 use Rattle.ovs_session.specs.Moving.{Moved}
-use Rattle.ovs_session.specs.Serving.{SessionValue, Said, Answered, Told, Runs, IsDone, messages, holding, fresh}
+use Rattle.ovs_session.specs.Serving.{SessionValue, Said, Answered, Told, Runs, IsDone, messages, holding, fresh_within}
 use Rattle.ovs_session.proofs.Whole.{answers_from_new, answers_all}
 use Rattle.ovs_upstream.specs.Hearing.{hears, links_in, links_after, at_stage, derived, derived_of}
 use Rattle.ovs_upstream.specs.Talk.{talk_of}
@@ -43,9 +43,9 @@ read_each (t ∷ ts) = elim (says_or_none t) [
   | inr none ↦ ([], none)
 ]
 
-pub links_exist : (up : UpSession) (stream : List ℕ) → (links : List Link) × AreDerived up stream links
-links_exist up stream =
-    let found = each stream in
+pub links_exist : (most : ℕ) (up : UpSession) (stream : List ℕ) → (links : List Link) × AreDerived most up stream links
+links_exist most up stream =
+    let found : (texts : List (List ℕ)) × (ending : Ending) × AreFrames most stream texts ending = each stream in
     let read = read_each found.0 in
     (derived up read.0, record { texts = found.0; ending = found.1; frames = found.2; messages = read.0; read = read.1; are = refl })
 
@@ -56,7 +56,8 @@ read_once (t ∷ ts) [] (n ∷ ns) read other = absurd (read n other.0)
 read_once (t ∷ ts) (m ∷ ms) [] read other = absurd (other m read.0)
 read_once (t ∷ ts) (m ∷ ms) (n ∷ ns) read other = λ i. one_message t m n read.0 other.0 i ∷ read_once ts ms ns read.1 other.1 i
 
-pub links_once : (up : UpSession) (stream : List ℕ) (links others : List Link) → AreDerived up stream links → AreDerived up stream others → links ≡ others
+pub links_once : {most : ℕ} (up : UpSession) (stream : List ℕ) (links others : List Link) → AreDerived most up stream links → AreDerived most up stream others
+    → links ≡ others
 links_once up stream links others d e =
     let texts : e.texts ≡ d.texts = (once stream e.texts d.texts e.ending d.ending e.frames d.frames).0 in
     let same : d.messages ≡ e.messages = read_once d.texts d.messages e.messages d.read (subst (λ (ts : List (List ℕ)). AreRead ts e.messages) texts e.read) in
@@ -65,7 +66,7 @@ links_once up stream links others d e =
 -- ---- frames
 
 -- the frames of the front of a stream come first
-pub first_texts : (x later : List ℕ) (first texts : List (List ℕ)) (ends ending : Ending) → AreFrames x first ends → AreFrames (x ++ later) texts ending
+pub first_texts : {most : ℕ} (x later : List ℕ) (first texts : List (List ℕ)) (ends ending : Ending) → AreFrames most x first ends → AreFrames most (x ++ later) texts ending
     → (others : List (List ℕ)) × (texts ≡ first ++ others)
 first_texts x later first texts (Fault f) ending frames all =
     ([], (once (x ++ later) texts first ending (Fault f) all (fault_on x later first f frames)).0 ∙ sym (append-nil first))
@@ -235,66 +236,66 @@ first_told_of old new others ms none s =
 
 -- ---- what was read
 
-module _ (began : FollowingValue) (limit : ℕ) (bytes : List ℕ) (output written : Option (List ℕ)) (now : SessionValue FollowingValue) (links : List Link) (d : AreDerived began.up bytes links) where
+module _ (began : FollowingValue) (most limit : ℕ) (bytes : List ℕ) (output written : Option (List ℕ)) (now : SessionValue FollowingValue) (links : List Link) (d : AreDerived most began.up bytes links) where
   sends_texts : (said : List Said) (others : List (List ℕ)) → Runs Hears Asks said began now.core → d.texts ≡ messages said ++ others → Sends began now.core others d.messages
   sends_texts said others runs texts = runs_send said began now.core others d.messages runs (subst (λ (ts : List (List ℕ)). AreRead ts d.messages) texts d.read)
 
-  sends_read : (unread : Option (List ℕ)) → Moved Hears Asks limit (Some bytes) unread output written (fresh began) now
+  sends_read : (unread : Option (List ℕ)) → Moved Hears Asks limit (Some bytes) unread output written (fresh_within most began) now
       → (others : List (List ℕ)) × Sends began now.core others d.messages
   sends_read None moved = absurd moved.reads
   sends_read (Some left) moved =
       let a = answers_from_new Hears Asks began moved.came moved.went now moved.served in
       let whole = split_off bytes moved.came a.framed now.unfed left moved.reads a.stream in
-      let frames : AreFrames (a.framed ++ (now.unfed ++ left)) d.texts d.ending = subst (λ (l : List ℕ). AreFrames l d.texts d.ending) whole d.frames in
+      let frames : AreFrames most (a.framed ++ (now.unfed ++ left)) d.texts d.ending = subst (λ (l : List ℕ). AreFrames most l d.texts d.ending) whole d.frames in
       let front = (messages a.said ++ holding now.held) ++ now.framing.waiting in
       let more = first_texts a.framed (now.unfed ++ left) front d.texts now.framing.ending d.ending a.frames frames in
       let order = regrouped d.texts (messages a.said) (holding now.held) now.framing.waiting more.0 more.1 in
       let others = holding now.held ++ (now.framing.waiting ++ more.0) in
       (others, sends_texts a.said others a.runs order)
 
-  pub sends_first : (unread : Option (List ℕ)) → Moved Hears Asks limit (Some bytes) unread output written (fresh began) now → IsFirst links began.sent now.core.sent
+  pub sends_first : (unread : Option (List ℕ)) → Moved Hears Asks limit (Some bytes) unread output written (fresh_within most began) now → IsFirst links began.sent now.core.sent
   sends_first unread moved = let s = sends_read unread moved in first_sent began now.core s.0 d.messages links d.are s.1
 
   -- of what the side of the source is to be told the first was told it
-  pub tells_first : (unread : Option (List ℕ)) → began.made ≡ [] → Moved Hears Asks limit (Some bytes) unread output written (fresh began) now
-      → TellsFirst began.up bytes now.core.made
+  pub tells_first : (unread : Option (List ℕ)) → began.made ≡ [] → Moved Hears Asks limit (Some bytes) unread output written (fresh_within most began) now
+      → TellsFirst most began.up bytes now.core.made
   tells_first unread none moved =
       let s = sends_read unread moved in
       let first = first_told_of began now.core s.0 d.messages none s.1 in
       record { texts = d.texts; ending = d.ending; frames = d.frames; messages = d.messages; read = d.read; later = first.0; first = first.1 }
 
-  pub sends_all : (unread : Option (List ℕ)) → Moved Hears Asks limit (Some bytes) unread output written (fresh began) now → IsDone now → IsAtEnd unread
+  pub sends_all : (unread : Option (List ℕ)) → Moved Hears Asks limit (Some bytes) unread output written (fresh_within most began) now → IsDone now → IsAtEnd unread
       → now.core.sent ≡ began.sent ++ links
   sends_all None moved done end = absurd moved.reads
   sends_all (Some left) moved done end =
       let a = answers_all Hears Asks began moved.came moved.went now moved.served done in
       let whole : bytes ≡ moved.came = moved.reads ∙ ap (λ l. moved.came ++ l) end ∙ append-nil moved.came in
-      let frames : AreFrames moved.came d.texts d.ending = subst (λ (l : List ℕ). AreFrames l d.texts d.ending) whole d.frames in
+      let frames : AreFrames most moved.came d.texts d.ending = subst (λ (l : List ℕ). AreFrames most l d.texts d.ending) whole d.frames in
       let texts : d.texts ≡ messages a.said = (once moved.came d.texts (messages a.said) d.ending now.framing.ending frames a.frames).0 in
       all_sent began now.core d.messages links d.are (sends_texts a.said [] a.runs (texts ∙ sym (append-nil (messages a.said))))
 
 -- ---- a session from its beginning to its end
 
-module _ (refuses : SourceMessage → Type 0) (began : FollowingValue) (limit : ℕ) (unread output written : Option (List ℕ)) (ended : Ended) (counts : Counts) (sent : List Link) (made : List SideCall) (fault : Option InputFault) where
-  pub first_of : (input : Option (List ℕ)) → HasFollowed refuses began limit input unread output written ended counts sent made fault
-      → IfSome input (λ bytes. SendsFirst began.up bytes began.sent sent)
+module _ (refuses : SourceMessage → Type 0) (began : FollowingValue) (most limit : ℕ) (unread output written : Option (List ℕ)) (ended : Ended) (counts : Counts) (sent : List Link) (made : List SideCall) (fault : Option InputFault) where
+  pub first_of : (input : Option (List ℕ)) → HasFollowed refuses began most limit input unread output written ended counts sent made fault
+      → IfSome input (λ bytes. SendsFirst most began.up bytes began.sent sent)
   first_of None f = tt
   first_of (Some bytes) f =
-      let d = links_exist began.up bytes in
-      let first = sends_first began limit bytes output written f.now d.0 d.1 unread f.moved in
+      let d = links_exist most began.up bytes in
+      let first = sends_first began most limit bytes output written f.now d.0 d.1 unread f.moved in
       record { links = d.0; derived = d.1; first = first.0; rest = first.1; whole = first.2; sent = f.sends ∙ first.3 }
 
-  pub all_of : (input : Option (List ℕ)) → HasFollowed refuses began limit input unread output written ended counts sent made fault → ended ≡ Closed
-      → IfSome input (λ bytes. SendsAll began.up bytes began.sent sent)
+  pub all_of : (input : Option (List ℕ)) → HasFollowed refuses began most limit input unread output written ended counts sent made fault → ended ≡ Closed
+      → IfSome input (λ bytes. SendsAll most began.up bytes began.sent sent)
   all_of None f closed = tt
   all_of (Some bytes) f closed =
-      let d = links_exist began.up bytes in
+      let d = links_exist most began.up bytes in
       let done = f.closed closed in
-      record { links = d.0; derived = d.1; sent = f.sends ∙ sends_all began limit bytes output written f.now d.0 d.1 unread f.moved done.0 done.1 }
+      record { links = d.0; derived = d.1; sent = f.sends ∙ sends_all began most limit bytes output written f.now d.0 d.1 unread f.moved done.0 done.1 }
 
-  pub told_of : (input : Option (List ℕ)) → began.made ≡ [] → (f : HasFollowed refuses began limit input unread output written ended counts sent made fault)
-      → IfSome input (λ bytes. TellsFirst began.up bytes made)
+  pub told_of : (input : Option (List ℕ)) → began.made ≡ [] → (f : HasFollowed refuses began most limit input unread output written ended counts sent made fault)
+      → IfSome input (λ bytes. TellsFirst most began.up bytes made)
   told_of None none f = tt
   told_of (Some bytes) none f =
-      let d = links_exist began.up bytes in
-      subst (λ (cs : List SideCall). TellsFirst began.up bytes cs) (sym f.makes) (tells_first began limit bytes output written f.now d.0 d.1 unread none f.moved)
+      let d = links_exist most began.up bytes in
+      subst (λ (cs : List SideCall). TellsFirst most began.up bytes cs) (sym f.makes) (tells_first began most limit bytes output written f.now d.0 d.1 unread none f.moved)

@@ -8,19 +8,19 @@ use Rattle.ovs_session.specs.declared.counts.Counts.{Counts}
 use Rattle.ovs_session.specs.declared.ended.Ended.{Ended}
 use Rattle.ovs_session.specs.declared.ended.Ended.TheVariants.{Closed, BadInput, ReadFault, WriteFault, Gone}
 use Rattle.ovs_session.specs.Moving.{Moved, IsBad}
-use Rattle.ovs_session.specs.Serving.{SessionValue, IsDone, fresh}
+use Rattle.ovs_session.specs.Serving.{SessionValue, IsDone, fresh_within}
 use Rattle.ovs_follow.specs.declared.side_call.SideCall.{SideCall}
 use Rattle.ovs_follow.specs.declared.input_fault.InputFault.{InputFault}
 use Rattle.ovs_follow.specs.Faults.{IsFaultIn}
 use Rattle.ovs_follow.specs.Following.{FollowingValue, Hears, Asks, Refuses}
 
--- A session that began so moved these bytes, as it hears and asks. It ended so, with these counts, these links in its sink and these calls of the
+-- A session that began so, whose upstream's messages may have `most` bytes, moved these bytes, as it hears and asks. It ended so, with these counts, these links in its sink and these calls of the
 -- side of the source;
 -- `Closed` only at its reader's end, where all was heard, and `BadInput` only where the input is bad; a fault is told only then, and is one
 -- that the input has.
-pub record HasFollowed (refuses : SourceMessage → Type 0) (began : FollowingValue) (limit : ℕ) (input unread output written : Option (List ℕ)) (ended : Ended) (counts : Counts) (sent : List Link) (made : List SideCall) (fault : Option InputFault) : Type 0 where
+pub record HasFollowed (refuses : SourceMessage → Type 0) (began : FollowingValue) (most limit : ℕ) (input unread output written : Option (List ℕ)) (ended : Ended) (counts : Counts) (sent : List Link) (made : List SideCall) (fault : Option InputFault) : Type 0 where
   pub now : SessionValue FollowingValue
-  pub moved : Moved Hears Asks limit input unread output written (fresh began) now
+  pub moved : Moved Hears Asks limit input unread output written (fresh_within most began) now
   pub counted : counts ≡ now.counts
   pub sends : sent ≡ now.core.sent
   pub makes : made ≡ now.core.made

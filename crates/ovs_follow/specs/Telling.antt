@@ -47,12 +47,12 @@ abbrev pub derived_calls : UpSession → List Message → List SideCall
 derived_calls up [] = []
 derived_calls up (m ∷ ms) = told_after up (hears up m) (λ stage. derived_calls (at_stage up stage) ms)
 
--- Of what it is to be told of a stream of bytes the first was told it, in order, and nothing else: of the messages that are framed in the
+-- Of what it is to be told of a stream of bytes, of which a message may have `most`, the first was told it, in order, and nothing else: of the messages that are framed in the
 -- stream, up to the first text that says none, and up to the first message that ends the session.
-pub record TellsFirst (up : UpSession) (stream : List ℕ) (made : List SideCall) : Type 0 where
+pub record TellsFirst (most : ℕ) (up : UpSession) (stream : List ℕ) (made : List SideCall) : Type 0 where
   pub texts : List (List ℕ)
   pub ending : Ending
-  pub frames : AreFrames stream texts ending
+  pub frames : AreFrames most stream texts ending
   pub messages : List Message
   pub read : AreRead texts messages
   pub later : List SideCall

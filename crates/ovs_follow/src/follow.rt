@@ -78,15 +78,16 @@ fn serve_new<S: LinkSink, D: SourceSide + Drop, R: Read, W: Write>(
     follower: &mut Follower<S, D>,
     reader: &mut Counted<R>,
     writer: &mut Counted<W>,
+    most_bytes: usize,
     limits: Limits,
     most_turns: u32,
 ) -> Served<S>
-    ensures followed { HasFollowed D.refuses following limits.most_unsent (R.remaining reader.old.device) (R.remaining reader.new.device)
+    ensures followed { HasFollowed D.refuses following most_bytes limits.most_unsent (R.remaining reader.old.device) (R.remaining reader.new.device)
         (W.contents writer.old.device) (W.contents writer.new.device) result.ended result.counts (S.sent result.sink) result.made result.fault }
     ensures faults { FaultsOnly result.ended reader.old.failures reader.new.failures writer.old.failures writer.new.failures }
     ensures spent { result.counts.turns ≤ most_turns }
 {
-    let mut session = Session::new(alloc, following);
+    let mut session = Session::with_limit(alloc, most_bytes, following);
     let ended = serve(&mut session, follower, reader, writer, limits, most_turns);
     let counts = session.counts();
     let fault = fault_of(alloc, &session, ended);
@@ -130,18 +131,19 @@ fn serve_one<S: LinkSink, D: SourceSide + Drop, R: Read, W: Write>(
     follower: &mut Follower<S, D>,
     reader: &mut Counted<R>,
     writer: &mut Counted<W>,
+    most_bytes: usize,
     limits: Limits,
     most_turns: u32,
 ) -> Served<S>
     requires takes { (l : Link) → IsOfTables schema.now.description.tables l → S.takes l }
-    ensures followed { HasFollowed D.refuses (begun schema.now asked (S.sent sink)) limits.most_unsent (R.remaining reader.old.device) (R.remaining reader.new.device)
+    ensures followed { HasFollowed D.refuses (begun schema.now asked (S.sent sink)) most_bytes limits.most_unsent (R.remaining reader.old.device) (R.remaining reader.new.device)
         (W.contents writer.old.device) (W.contents writer.new.device) result.ended result.counts (S.sent result.sink) result.made result.fault }
     ensures faults { FaultsOnly result.ended reader.old.failures reader.new.failures writer.old.failures writer.new.failures }
     ensures spent { result.counts.turns ≤ most_turns }
 {
     match Following::new(alloc, schema, asked, sink) {
         Ok(following) => serve_new(
-            alloc, following, follower, reader, writer, limits, most_turns,
+            alloc, following, follower, reader, writer, most_bytes, limits, most_turns,
         ),
         Err(sink) => unserved(sink),
     }
@@ -149,7 +151,7 @@ fn serve_one<S: LinkSink, D: SourceSide + Drop, R: Read, W: Write>(
 
 /// Follows an upstream for one session, by at most so many turns of one call of a device each: asks it for the schema (RFC 7047 section 4.1.2), then for
 /// all that comes after an id, sends the links that it makes of what the upstream says to a sink, and passes on what is asked
-/// of the source. At its end the source is lost.
+/// of the source. A message of the upstream may have `most_bytes`. At its end the source is lost.
 ///
 /// Over a reader that tells its bytes, the links that it sends are the first of those that are derived from these bytes, and
 /// all of them where it ended `Closed`, which it does only at its reader's end; and of what these bytes tell the side of the source the first
@@ -170,16 +172,17 @@ pub fn follow_upstream<S: LinkSink, D: SourceSide + Drop, R: Read, W: Write>(
     source: D,
     reader: &mut Counted<R>,
     writer: &mut Counted<W>,
+    most_bytes: usize,
     limits: Limits,
     most_turns: u32,
 ) -> Followed<S, D>
     requires takes { (l : Link) → IsOfTables schema.now.description.tables l → S.takes l }
-    ensures followed { HasFollowed D.refuses (begun schema.now asked (S.sent sink)) limits.most_unsent (R.remaining reader.old.device) (R.remaining reader.new.device)
+    ensures followed { HasFollowed D.refuses (begun schema.now asked (S.sent sink)) most_bytes limits.most_unsent (R.remaining reader.old.device) (R.remaining reader.new.device)
         (W.contents writer.old.device) (W.contents writer.new.device) result.ended result.counts (S.sent result.sink) result.made result.fault }
-    ensures sent { IfSome (R.remaining reader.old.device) (λ bytes. SendsFirst (opening schema.now asked) bytes (S.sent sink) (S.sent result.sink)) }
+    ensures sent { IfSome (R.remaining reader.old.device) (λ bytes. SendsFirst most_bytes (opening schema.now asked) bytes (S.sent sink) (S.sent result.sink)) }
     ensures closed { result.ended ≡ Ended.Closed → IsAtEnd (R.remaining reader.new.device)
-        × IfSome (R.remaining reader.old.device) (λ bytes. SendsAll (opening schema.now asked) bytes (S.sent sink) (S.sent result.sink)) }
-    ensures told { IfSome (R.remaining reader.old.device) (λ bytes. TellsFirst (opening schema.now asked) bytes result.made) }
+        × IfSome (R.remaining reader.old.device) (λ bytes. SendsAll most_bytes (opening schema.now asked) bytes (S.sent sink) (S.sent result.sink)) }
+    ensures told { IfSome (R.remaining reader.old.device) (λ bytes. TellsFirst most_bytes (opening schema.now asked) bytes result.made) }
     ensures lost { (before : D) × D.loses before result.source }
     ensures faults { FaultsOnly result.ended reader.old.failures reader.new.failures writer.old.failures writer.new.failures }
     ensures spent { result.counts.turns ≤ most_turns }
@@ -193,6 +196,7 @@ pub fn follow_upstream<S: LinkSink, D: SourceSide + Drop, R: Read, W: Write>(
         &mut follower,
         reader,
         writer,
+        most_bytes,
         limits,
         most_turns,
     );

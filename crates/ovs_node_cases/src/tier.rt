@@ -8,6 +8,7 @@ use log::{LevelFilter, Log, Logged};
 use ovs_data::{RowId, TxnId};
 use ovs_server::{ExitReport, NodeRuntime, NodeServer, RelayPlan, ServerError, SourcePlan, Stop};
 use ovs_types::Schema;
+use ovs_wire::MAX_MESSAGE_BYTES;
 use serde_json::Value;
 use std::alloc::Global;
 use std::net::{Net, SocketAddr, TcpStream};
@@ -85,6 +86,7 @@ fn relay<R: NodeRuntime + Log>(
         upstreams: &[Vec::from_slice(alloc, &[upstream])?],
         accepts: Some(MOST_CONNECTIONS),
         tries: Some(MOST_CONNECTIONS),
+        most_bytes: MAX_MESSAGE_BYTES,
         ends_on_refusal: false,
         prunes: false,
     };

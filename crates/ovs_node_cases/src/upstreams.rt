@@ -4,6 +4,7 @@ use crate::fault::Fault;
 use crate::ids::{number_of, text_of};
 use ovs_node_threads::Connector;
 use ovs_types::{Schema, TxnId};
+use ovs_wire::MAX_MESSAGE_BYTES;
 use serde_json::Value;
 use std::alloc::Global;
 use std::collections::VecDeque;
@@ -180,6 +181,10 @@ impl Connector for Upstream {
     type Out = Unheard;
 
     ghost admits = { λ _ _. Unit {0} };
+
+    fn most_bytes(&self) -> usize {
+        MAX_MESSAGE_BYTES
+    }
 
     fn next(&mut self) -> bool {
         match self.sessions.front() {

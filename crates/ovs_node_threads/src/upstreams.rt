@@ -58,10 +58,11 @@ struct SessionEnd<K: NodeName, Q: FeedName, C: Connector, D: SourceSide + Drop> 
 }
 
 impl<'a, K: NodeName, Q: FeedName, R: Wait> UpstreamFeeds<'a, K, Q, R> {
-    // Follows one connection, which was asked for what comes after this id.
+    // Follows one connection, which was asked for what comes after this id, and of which a message may have so many bytes.
     fn follow<C: Connector, D: SourceSide + Drop>(
         &self,
         asked: TxnId,
+        most_bytes: usize,
         connection: (C::In, C::Out),
         sender: UpstreamSender<K, Q, C>,
         source: EpochSide<'_, K, D>,
@@ -79,6 +80,7 @@ impl<'a, K: NodeName, Q: FeedName, R: Wait> UpstreamFeeds<'a, K, Q, R> {
             source,
             &mut reader,
             &mut writer,
+            most_bytes,
             self.limits,
             TURNS,
         );
@@ -114,7 +116,8 @@ impl<'a, K: NodeName, Q: FeedName, R: Wait> UpstreamFeeds<'a, K, Q, R> {
             return back;
         };
         let side = EpochSide::new(back.source, view, start);
-        let back = self.follow(asked, connection, back.sender, side);
+        let most_bytes = connector.most_bytes();
+        let back = self.follow(asked, most_bytes, connection, back.sender, side);
         if let Some((ended, fault)) = back.ended {
             connector.lost(ended, fault);
         }

@@ -45,6 +45,8 @@ pub struct RelayPlan<'a> {
     pub accepts: Option<u32>,
     /// How many connections with each upstream are tried at most, where there is a bound.
     pub tries: Option<u32>,
+    /// How many bytes a message of an upstream may have.
+    pub most_bytes: usize,
     /// Whether it comes to its end once a link was refused, an upstream can't be followed, or none is tried any more.
     pub ends_on_refusal: bool,
     /// Whether it drops the links of older epochs once a newer one is published.

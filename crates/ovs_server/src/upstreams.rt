@@ -9,7 +9,7 @@ use ovs_session::Ended;
 use ovs_sockets::{FromUpstream, ShutdownFlag, SocketWaker, ToUpstream, Upward, UpwardWakers};
 use ovs_types::TxnId;
 use ovs_upstream::UpError;
-use ovs_wire::{FrameError, MAX_MESSAGE_BYTES};
+use ovs_wire::FrameError;
 use std::alloc::{AllocError, Global};
 use std::net::{Net, SocketAddr};
 use std::sync::Arc;
@@ -18,6 +18,8 @@ use std::sync::Arc;
 #[derive(Drop)]
 pub(crate) struct UpstreamSockets<R: Net + Log + Drop> {
     rt: R,
+    // How many bytes a message of it may have.
+    most_bytes: usize,
     upward: Upward<R>,
     // What was wrong with what it said in the session before, if anything was.
     fault: Option<InputFault>,
@@ -49,12 +51,13 @@ impl<R: Net + Log + Drop> UpstreamSockets<R> {
         let (rt, Some(address)) = (&self.rt, self.upward.address()) else {
             return;
         };
+        let most_bytes = self.most_bytes;
         match fault {
             InputFault::Message(UpError::OtherSchema) => {
                 error!(rt; "upstream {address} has another schema");
             }
             InputFault::Stream(FrameError::TooLong) => {
-                error!(rt; "upstream {address} sent a message above {MAX_MESSAGE_BYTES} bytes");
+                error!(rt; "upstream {address} sent a message above {most_bytes} bytes");
             }
             other => info!(rt; "upstream {address} is refused: {other}"),
         }
@@ -67,6 +70,10 @@ impl<R: Net + Log + Drop> Connector for UpstreamSockets<R> {
     type Out = ToUpstream;
 
     ghost admits = { λ _ _. Unit {0} };
+
+    fn most_bytes(&self) -> usize {
+        self.most_bytes
+    }
 
     fn next(&mut self) -> bool {
         self.upward.next()
@@ -97,21 +104,30 @@ pub(crate) struct Upstreams<R: Net + Log + Drop> {
 }
 
 impl<R: Net + Log + Copy + Drop> Upstreams<R> {
-    /// Each at its addresses, so many connections with each, or any number.
+    /// Each at its addresses, so many connections with each, or any number. A message of theirs may have `most_bytes`.
     pub(crate) fn new(
         rt: R,
         alloc: Global,
         upstreams: &[Vec<SocketAddr>],
         tries: Option<u32>,
+        most_bytes: usize,
         shutdown_flag: &ShutdownFlag,
     ) -> Result<Upstreams<R>, ServerError> {
         let mut connectors = Vec::new(alloc);
         let (mut wakers, mut pause_wakers) = (Vec::new(alloc), Vec::new(alloc));
         for addresses in upstreams {
             let addresses = addresses.as_slice();
-            let (upward, woken_by) = Upward::new(rt, alloc, addresses, tries, shutdown_flag)?;
+            let (upward, woken_by) = Upward::new(
+                rt,
+                alloc,
+                addresses,
+                tries,
+                most_bytes,
+                shutdown_flag,
+            )?;
             connectors.push(UpstreamSockets {
                 rt,
+                most_bytes,
                 upward,
                 fault: None,
                 refusals: None,

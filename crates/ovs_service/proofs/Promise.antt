@@ -3,6 +3,7 @@ use Rattle.std.proofs.Common.{inl, inr, ◌≡◌, ℕ, Bool, List, [], ◌∷�
 use Rattle.ovs_types.specs.Schema.{SchemaValue}
 use Rattle.ovs_links.specs.declared.step.Step.{Step}
 use Rattle.ovs_authority.specs.declared.ask.Ask.{Ask}
+use Rattle.ovs_wire.specs.Limits.{most_bytes}
 use Rattle.ovs_wire.specs.Frames.{AreFrames, Ending}
 use Rattle.ovs_wire.specs.declared.message.Message.{Message}
 use Rattle.ovs_session.specs.Counting.{IsAfter}
@@ -38,7 +39,7 @@ no_task (m ∷ ms) left e = cc
 module _ (schema : SchemaValue) (replies : Ask → Option Message → Type 0) (owes : Bool → List Step → Message → Type 0) where
   -- where nothing is to be done then, all is done
   all_done : (calls : List Call) (start : ViewSessionValue) (ending : Ending) (came went : List ℕ) (now : ClientValue) (todo : List Task)
-      → AreFrames came (heard calls) ending → Give schema owes calls start todo now.session
+      → AreFrames most_bytes came (heard calls) ending → Give schema owes calls start todo now.session
       → Settles replies todo now.calls went (tasks now.due) → now.due ≡ [] → WritesAll schema replies owes start came went now
   all_done calls start ending came went now todo frames gives p settled =
       let none : [] ≡ map ToSay p.unsaid ++ p.left = sym (ap tasks settled) ∙ p.then in
@@ -57,7 +58,7 @@ module _ (schema : SchemaValue) (replies : Ask → Option Message → Type 0) (o
 
 module _ (schema : SchemaValue) (replies : ℕ → Ask → Option Message → Type 0) (owes : Bool → ℕ → List Step → Message → Type 0) where
   beginning_of : (who : ℕ) (last : List Step) (came went : List ℕ) (now : SessionValue ClientValue) (ended : Ended)
-      → (ended ≡ BadInput → IsBad {C = ClientValue} (λ client text. SaysNothing text) now) → Answers (AnswersTo schema replies owes) (TellsNew schema replies owes) (new_client who last) came went now
+      → (ended ≡ BadInput → IsBad {C = ClientValue} (λ client text. SaysNothing text) now) → Answers (AnswersTo schema replies owes) (TellsNew schema replies owes) most_bytes (new_client who last) came went now
       → WritesBeginning schema (replies who) (λ held. owes held who) (new_view last) now.counts ended came went now.core
   beginning_of who last came went now ended bad a =
       let run = run_of schema replies owes a.said (new_client who last) now.core a.runs in
@@ -70,7 +71,7 @@ module _ (schema : SchemaValue) (replies : ℕ → Ask → Option Message → Ty
         held = now.held;
         waiting = now.framing.waiting;
         ending = now.framing.ending;
-        frames = subst (λ (found : List (List ℕ)). AreFrames a.framed ((found ++ holding now.held) ++ now.framing.waiting) now.framing.ending) (sym run.heard_all) a.frames;
+        frames = subst (λ (found : List (List ℕ)). AreFrames most_bytes a.framed ((found ++ holding now.held) ++ now.framing.waiting) now.framing.ending) (sym run.heard_all) a.frames;
         todo = serves.todo;
         gives = serves.gives;
         text = text a.said;
@@ -82,14 +83,14 @@ module _ (schema : SchemaValue) (replies : ℕ → Ask → Option Message → Ty
       }
 
   all_of : (who : ℕ) (last : List Step) (came went : List ℕ) (now : SessionValue ClientValue)
-      → AnswersAll (AnswersTo schema replies owes) (TellsNew schema replies owes) (new_client who last) came went now
+      → AnswersAll (AnswersTo schema replies owes) (TellsNew schema replies owes) most_bytes (new_client who last) came went now
       → now.core.due ≡ [] → WritesAll schema (replies who) (λ held. owes held who) (new_view last) came went now.core
   all_of who last came went now a settled =
       let run = run_of schema replies owes a.said (new_client who last) now.core a.runs in
       let serves = run.serves in
       let settles = subst (λ (l : List DeskCall). Settles (replies who) serves.todo l (text a.said) (tasks now.core.due)) (sym serves.all) serves.settles in
       all_done schema (replies who) (λ held. owes held who) run.calls (new_view last) now.framing.ending came went now.core serves.todo
-      (subst (λ (found : List (List ℕ)). AreFrames came found now.framing.ending) (sym run.heard_all) a.frames) serves.gives
+      (subst (λ (found : List (List ℕ)). AreFrames most_bytes came found now.framing.ending) (sym run.heard_all) a.frames) serves.gives
       (subst (λ (t : List ℕ). Settles (replies who) serves.todo now.core.calls t (tasks now.core.due)) (sym a.written) settles) settled
 
   pub kept_by : (limit who : ℕ) (last : List Step) (input unread output written : Option (List ℕ)) (old now : SessionValue ClientValue) (ended : Ended)

@@ -6,6 +6,7 @@ use mathlib.Core.List.{IsPrefix}
 use Rattle.ovs_types.specs.Schema.{SchemaValue}
 use Rattle.ovs_authority.specs.declared.ask.Ask.{Ask}
 use Rattle.ovs_links.specs.declared.step.Step.{Step}
+use Rattle.ovs_wire.specs.Limits.{most_bytes}
 use Rattle.ovs_wire.specs.Frames.{AreFrames, Ending}
 use Rattle.ovs_wire.specs.declared.message.Message.{Message}
 use Rattle.ovs_session.specs.Counting.{IsAfter}
@@ -37,7 +38,7 @@ module _ (schema : SchemaValue) (replies : Ask → Option Message → Type 0) (o
     pub held : Option (List ℕ)
     pub waiting : List (List ℕ)
     pub ending : Ending
-    pub frames : AreFrames framed ((heard calls ++ holding held) ++ waiting) ending
+    pub frames : AreFrames most_bytes framed ((heard calls ++ holding held) ++ waiting) ending
     pub todo : List Task
     pub gives : Give schema owes calls start todo now.session
     pub text : List ℕ
@@ -53,7 +54,7 @@ module _ (schema : SchemaValue) (replies : Ask → Option Message → Type 0) (o
   pub record WritesAll (start : ViewSessionValue) (came went : List ℕ) (now : ClientValue) : Type 0 where
     pub calls : List Call
     pub ending : Ending
-    pub frames : AreFrames came (heard calls) ending
+    pub frames : AreFrames most_bytes came (heard calls) ending
     pub deeds : List Deed
     pub gives : Give schema owes calls start (map task_of deeds) now.session
     pub made : now.calls ≡ calls_of deeds

@@ -16,7 +16,7 @@ use ovs_json::{NoMemory, Text};
 use ovs_links::Link;
 use ovs_session::Limits;
 use ovs_types::{Schema, TxnId};
-use ovs_wire::{Counted, Id, Message};
+use ovs_wire::{Counted, Id, MAX_MESSAGE_BYTES, Message};
 use serde_json::Value;
 use std::alloc::Global;
 use std::snapshot::Snapshot;
@@ -180,6 +180,7 @@ fn run_session(
         side,
         &mut reader,
         &mut writer,
+        MAX_MESSAGE_BYTES,
         LIMITS,
         MOST_TURNS,
     );

@@ -68,7 +68,9 @@ fn next_place(at: usize, places: usize) -> usize
 }
 
 impl<R: Net + Log + Drop> Upward<R> {
-    /// So many connections at most, or any number, with the upstream at these addresses, and what wakes the thread that has them.
+    /// So many connections at most, or any number, with the upstream at these addresses, and what wakes the thread that has them. While a
+    /// write has to wait, so much of what comes is read ahead at most: no less than a message of the upstream may have, since an upstream
+    /// that writes one may read nothing until that is taken.
     ///
     /// # Errors
     /// The system's; memory ran out.
@@ -77,11 +79,12 @@ impl<R: Net + Log + Drop> Upward<R> {
         alloc: Global,
         addresses: &[SocketAddr],
         tries: Option<u32>,
+        most_ahead: usize,
         shutdown_flag: &ShutdownFlag,
     ) -> io::Result<(Upward<R>, UpwardWakers)>
         ensures count { IfOk result (λ made. made.0.tries_left ≡ tries) }
     {
-        let channel = Channel::new(&rt, alloc, shutdown_flag.again()?)?;
+        let channel = Channel::new(&rt, alloc, most_ahead, shutdown_flag.again()?)?;
         let wakers = UpwardWakers {
             waker: SocketWaker::new(channel.waker()?),
             pause_waker: SocketWaker::new(channel.pause_waker()?),

@@ -4,6 +4,7 @@ ghost use Rattle.std.specs.Option.{option_copied};
 ghost use Rattle.ovs_wire.specs.Framing.{Feeds, Answers};
 ghost use Rattle.ovs_wire.specs.declared.message.Message.{Message};
 ghost use Rattle.ovs_world.specs.Carrying.{IsTextOf, Line, IsIdle, Carries, Sends, SendsAll, SendsAny, Passes, Receives, Moves};
+ghost use Rattle.ovs_wire.specs.Limits.{most_bytes};
 ghost use Rattle.ovs_wire.specs.Frames.{IsTooLarge};
 
 use crate::error::WorldError;
@@ -106,7 +107,7 @@ impl Channel {
     pub(crate) fn pass(&mut self, alloc: Global, message: &Message) -> Result<Message, WorldError>
         requires idle { IsIdle self.old }
         ensures passed { IfOk result (λ m. (m ≡ message.now) × IsIdle self.new × Passes self.old message.now self.new) }
-        ensures large { result ≡ Err WorldError.TooLarge → (text : List ℕ) × IsTextOf message.now text × IsTooLarge text }
+        ensures large { result ≡ Err WorldError.TooLarge → (text : List ℕ) × IsTextOf message.now text × IsTooLarge most_bytes text }
         ensures refused { (e : _) → result ≡ Err e → (e ≡ WorldError.TooLarge) ⊎ (e ≡ WorldError.NoMemory) }
     {
         self.send(alloc, message)?;

@@ -6,7 +6,7 @@ use Rattle.ovs_follow.proofs.follow.serve_new.Goals as goal
 
 pub returns-clause-followed : goal.returns-clause-followed
 returns-clause-followed g c =
-    let began = c.new-session.ensures.fresh in
+    let began = c.with_limit-session.ensures.fresh in
     let serve = c.serve-ended.ensures in
     record {
       now = c.serve-ended.new.session;
