@@ -21,9 +21,9 @@ pub returns-clause-shown : goal.returns-clause-shown
 returns-clause-shown c =
     subst (λ s. MayBeShown s c.args.folded.now) (sym c.move_past.ensures.value) (shown_past c.args.self.now c.args.folded.now _ c.requires.shown)
 
-pub returns-in_err-told_some-clause-memory : goal.returns-in_err-told_some-clause-memory
-returns-in_err-told_some-clause-memory c =
+pub returns-in_err-messages-clause-memory : goal.returns-in_err-messages-clause-memory
+returns-in_err-messages-clause-memory c =
     let monitors = sym (c.deref.ensures.value ∙ ap (λ s. s.monitors) c.self.view_is) in
     on_err (¬ (AllTold (length c.args.folded.now.steps) c.args.self.now.monitors)) c.from_residual.result
-    (λ all. c.in_err-told_some.ensures.memory
+    (λ all. c.in_err-messages.ensures.memory
     (subst (λ ss. AllTold (length ss) c.deref.result.now) (sym c.steps.ensures.value) (subst (AllTold (length c.args.folded.now.steps)) monitors all)))
