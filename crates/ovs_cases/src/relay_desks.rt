@@ -1,39 +1,39 @@
 //! A relay's desk: what goes up, and what it answers to sessions.
 
 use crate::case::{add, list, part, text, word};
+use crate::case_error::{CaseError, called, is_refused, is_so};
 use crate::desks::{ended, session, told, verb};
-use crate::fault::{Fault, called, is_refused, is_so};
 use crate::forwards::{is_lost, standing};
-use ovs_authority::{Answer, Ask, Authority};
+use ovs_authority::{Ask, Authority, Response};
 use ovs_desk::{BadReply, RelayDesk, SourceMessage, StandingAnswer};
-use ovs_json::Json;
+use ovs_json::{Json, SessionId};
 use ovs_types::Text;
 use ovs_wire::Id;
 use serde_json::Value;
 use std::alloc::Global;
 
 // The result of a reply and its error, which is null where it isn't given.
-fn answer(parts: &[Value]) -> Result<Answer, Fault> {
+fn answer(parts: &[Value]) -> Result<Response, CaseError> {
     let result = part(parts, 2)?.clone()?;
     let error = match parts.get(3) {
         Some(error) => error.clone()?,
         None => Value::Null,
     };
-    Ok(Answer {
+    Ok(Response {
         result: Json::new(result),
         error: Json::new(error),
     })
 }
 
-fn name(alloc: Global, parts: &[Value]) -> Result<Text, Fault> {
+fn name(alloc: Global, parts: &[Value]) -> Result<Text, CaseError> {
     Ok(Text::new(alloc, text(parts, 1)?)?)
 }
 
 // What the source says.
-fn said(alloc: Global, what: &str, parts: &[Value]) -> Result<SourceMessage, Fault> {
+fn said(alloc: Global, what: &str, parts: &[Value]) -> Result<SourceMessage, CaseError> {
     match what {
         "reply" => Ok(SourceMessage::ReplyFor {
-            number: part(parts, 1)?.as_u64().ok_or(Fault::Malformed)?,
+            number: part(parts, 1)?.as_u64().ok_or(CaseError::Malformed)?,
             answer: StandingAnswer {
                 answer: answer(parts)?,
                 standing: standing()?,
@@ -44,14 +44,14 @@ fn said(alloc: Global, what: &str, parts: &[Value]) -> Result<SourceMessage, Fau
     }
 }
 
-fn heard(alloc: Global, desk: &mut RelayDesk, message: SourceMessage) -> Result<String, Fault> {
+fn heard(alloc: Global, desk: &mut RelayDesk, message: SourceMessage) -> Result<String, CaseError> {
     match desk.heard(message) {
         Ok(()) => word(alloc, "ok"),
         Err(BadReply) => word(alloc, "bad reply"),
     }
 }
 
-fn up(alloc: Global, desk: &mut RelayDesk) -> Result<String, Fault> {
+fn up(alloc: Global, desk: &mut RelayDesk) -> Result<String, CaseError> {
     told(alloc, &called(desk.take_up(alloc))?)
 }
 
@@ -61,28 +61,32 @@ fn asked(
     desk: &mut RelayDesk,
     what: &str,
     parts: &[Value],
-) -> Result<String, Fault> {
-    let who = session(parts)?;
+) -> Result<String, CaseError> {
+    let session_id = session(parts)?;
     let verb = verb(alloc, what, parts)?;
     let ask = Ask {
-        id: Id::from_number(who),
+        id: Id::from_number(session_id),
         verb,
     };
-    told(alloc, &called(desk.ask(alloc, who, ask))?)
+    told(alloc, &called(desk.ask(alloc, session_id, ask))?)
 }
 
 // What a session is told next. An answer of the source that came is told without memory.
-fn collected(alloc: Global, desk: &mut RelayDesk, who: u64) -> Result<String, Fault> {
-    let answer = called(desk.collect(alloc, who));
+fn collected(
+    alloc: Global,
+    desk: &mut RelayDesk,
+    session_id: SessionId,
+) -> Result<String, CaseError> {
+    let answer = called(desk.collect(alloc, session_id));
     if is_refused(&answer) {
-        let due = desk.standing(who);
+        let due = desk.standing(session_id);
         is_so(due.is_none() || is_lost(due))?;
     }
     told(alloc, &answer?)
 }
 
 // What becomes of the desk and its source.
-fn of_source(alloc: Global, desk: &mut RelayDesk, what: &str) -> Result<String, Fault> {
+fn of_source(alloc: Global, desk: &mut RelayDesk, what: &str) -> Result<String, CaseError> {
     match what {
         "found" => desk.found_source(),
         _ => desk.lost_source(),
@@ -90,7 +94,7 @@ fn of_source(alloc: Global, desk: &mut RelayDesk, what: &str) -> Result<String, 
     word(alloc, what)
 }
 
-fn event(alloc: Global, desk: &mut RelayDesk, parts: &[Value]) -> Result<String, Fault> {
+fn event(alloc: Global, desk: &mut RelayDesk, parts: &[Value]) -> Result<String, CaseError> {
     match text(parts, 0)? {
         "up" => up(alloc, desk),
         "told" => collected(alloc, desk, session(parts)?),
@@ -104,7 +108,7 @@ fn event(alloc: Global, desk: &mut RelayDesk, parts: &[Value]) -> Result<String,
 }
 
 // Whether memory isn't taken for an event: a transaction goes up, or nothing, or a session leaves a lock.
-fn is_done_at_once(parts: &[Value], answer: &str) -> Result<bool, Fault> {
+fn is_done_at_once(parts: &[Value], answer: &str) -> Result<bool, CaseError> {
     match text(parts, 0)? {
         "up" => Ok(answer == "nothing" || answer.split_once("\"transact\"").is_some()),
         "unlock" => Ok(answer.split_once("\"error\":null").is_some()),
@@ -113,7 +117,7 @@ fn is_done_at_once(parts: &[Value], answer: &str) -> Result<bool, Fault> {
 }
 
 // Carries out an event (`event`). Where there is no memory for its call nothing is changed, and it is called again.
-fn event_again(alloc: Global, desk: &mut RelayDesk, parts: &[Value]) -> Result<String, Fault> {
+fn event_again(alloc: Global, desk: &mut RelayDesk, parts: &[Value]) -> Result<String, CaseError> {
     let answer = event(alloc, desk, parts);
     if !is_refused(&answer) {
         return answer;
@@ -127,11 +131,11 @@ fn event_again(alloc: Global, desk: &mut RelayDesk, parts: &[Value]) -> Result<S
 /// NAME]`, `["steal", SESSION, NAME]`, `["unlock", SESSION, NAME]`, `["told", SESSION]`, `["end", SESSION]`, `["up"]`, `["found"]`,
 /// `["lost"]`, `["reply", NUMBER, RESULT]` with perhaps an error behind it, `["locked", NAME]` or `["stolen", NAME]`: what each
 /// answers, sends up or comes to.
-pub(crate) fn relay_desk(alloc: Global, parts: &[Value]) -> Result<String, Fault> {
+pub(crate) fn relay_desk(alloc: Global, parts: &[Value]) -> Result<String, CaseError> {
     let mut desk = RelayDesk::new(alloc, name(alloc, parts)?);
     let mut answers = String::new(alloc);
     for one in list(parts, 2)? {
-        let parts = one.as_array().ok_or(Fault::Malformed)?;
+        let parts = one.as_array().ok_or(CaseError::Malformed)?;
         let answer = event_again(alloc, &mut desk, parts.as_slice())?;
         add(&mut answers, answer.as_str())?;
     }

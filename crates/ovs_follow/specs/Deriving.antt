@@ -6,7 +6,7 @@ use Rattle.ovs_wire.specs.Message.{Says}
 use Rattle.ovs_wire.specs.declared.message.Message.{Message}
 use Rattle.ovs_upstream.specs.Hearing.{derived}
 use Rattle.ovs_upstream.specs.declared.up_session.UpSession.{UpSession}
-use Rattle.ovs_follow.specs.Following.{SaysNone}
+use Rattle.ovs_follow.specs.UpstreamState.{SaysNone}
 
 -- the messages that the texts say, up to the first that says none
 abbrev pub AreRead : List (List ℕ) → List Message → Type 0

@@ -10,7 +10,7 @@ use Rattle.ovs_query.specs.MonitorReading.{read_monitor}
 use Rattle.ovs_query.specs.declared.monitor.Monitor.{Monitor}
 use Rattle.ovs_query.specs.declared.monitor.Notation.{Notation}
 use Rattle.ovs_query.specs.declared.monitor.Notation.TheVariants.{Update3}
-use Rattle.ovs_reader.specs.Answers.{Asked, Outcome, Replies, Asks, Lock, Steal, Unlock, get_schema, monitor_or_refusal, start, starts, starts_at, start_since, monitor, locked, lock_answer}
+use Rattle.ovs_reader.specs.Answers.{Asked, RequestOutcome, Replies, Asks, Lock, Steal, Unlock, get_schema, monitor_or_refusal, start, starts, starts_at, start_since, monitor, locked, lock_answer}
 use Rattle.ovs_reader.specs.Params.{Asking, is, in_database, text_in, id_and_requests, requests_since, new_monitor}
 use Rattle.ovs_reader.specs.Turns.{asking_takes_memory, outcome_takes_memory}
 use Rattle.ovs_reader.specs.declared.refusal.RequestRefusal.TheVariants.{UnknownMethod}
@@ -21,11 +21,11 @@ on_err P (Ok x) p = tt
 on_err P (Err e) p = p
 
 -- what takes memory whatever is read first
-behind : {X : Type 0} (r : Asking X) (f : X → Asking Outcome) → ((x : X) → outcome_takes_memory (f x) ≡ true) → outcome_takes_memory (r >>= f) ≡ true
+behind : {X : Type 0} (r : Asking X) (f : X → Asking RequestOutcome) → ((x : X) → outcome_takes_memory (f x) ≡ true) → outcome_takes_memory (r >>= f) ≡ true
 behind (Ok x) f all = all x
 behind (Err e) f all = refl
 
-if_both : (b : Bool) (x y : Asking Outcome) → outcome_takes_memory x ≡ true → outcome_takes_memory y ≡ true → outcome_takes_memory (cond b x y) ≡ true
+if_both : (b : Bool) (x y : Asking RequestOutcome) → outcome_takes_memory x ≡ true → outcome_takes_memory y ≡ true → outcome_takes_memory (cond b x y) ≡ true
 if_both true x y h k = h
 if_both false x y h k = k
 

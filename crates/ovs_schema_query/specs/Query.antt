@@ -61,4 +61,4 @@ Asks old said new = ((said ≡ []) × (new ≡ old))
 pub record HasAsked (database : List ℕ) (most limit : ℕ) (input unread output written : Option (List ℕ)) (reply : Option SchemaReply) : Type 0 where
   pub now : SessionValue SchemaQuery
   pub moved : Moved Hears Asks limit input unread output written (fresh_within most (record { database = database; has_asked = false; reply = None })) now
-  pub replied : reply ≡ now.core.reply
+  pub replied : reply ≡ now.state.reply

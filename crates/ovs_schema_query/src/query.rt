@@ -49,6 +49,6 @@ pub fn query_schema<R: Read, W: Write>(
         },
     );
     let ended = serve(&mut session, &mut asker, reader, writer, limits, most_turns);
-    let SchemaQuery { reply, .. } = session.into_core();
+    let SchemaQuery { reply, .. } = session.into_state();
     Queried { reply, ended }
 }

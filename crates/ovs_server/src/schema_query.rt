@@ -7,7 +7,7 @@ use log::{Log, error};
 use ovs_json::Text;
 use ovs_node::NodeError;
 use ovs_schema_query::{SchemaReply, query_schema};
-use ovs_sockets::{ShutdownFlag, Upward};
+use ovs_sockets::{ShutdownFlag, Uplink};
 use ovs_types::Schema;
 use ovs_wire::Counted;
 use std::alloc::Global;
@@ -50,7 +50,7 @@ pub fn schema_of_upstream<R: NodeRuntime + Log>(
     };
     let shutdown_flag = ShutdownFlag::new(alloc)?;
     let addresses = addresses.as_slice();
-    let (mut upward, _wakers) = Upward::new(
+    let (mut uplink, _wakers) = Uplink::new(
         rt,
         alloc,
         addresses,
@@ -60,10 +60,10 @@ pub fn schema_of_upstream<R: NodeRuntime + Log>(
     )?;
     let mut has_told = false;
     for _ in rt.forever() {
-        if !upward.next() {
+        if !uplink.next() {
             break;
         }
-        let Some((reader, writer)) = upward.open() else {
+        let Some((reader, writer)) = uplink.open() else {
             continue;
         };
         let name = Text::new(alloc, database)?;
@@ -81,14 +81,14 @@ pub fn schema_of_upstream<R: NodeRuntime + Log>(
             Some(SchemaReply::Schema(schema)) => return Ok(schema),
             Some(reply) => {
                 if !has_told {
-                    tell(&rt, upward.address(), database, &reply);
+                    tell(&rt, uplink.address(), database, &reply);
                 }
                 has_told = true;
             }
-            None => upward.lost(queried.ended),
+            None => uplink.lost(queried.ended),
         }
     }
-    match upward.address() {
+    match uplink.address() {
         Some(upstream) => Err(ServerError::NoSchema(upstream)),
         None => Err(ServerError::Node(NodeError::BadCount)),
     }

@@ -6,7 +6,7 @@ use log::{Log, error, info};
 use ovs_follow::InputFault;
 use ovs_node_threads::Connector;
 use ovs_session::Ended;
-use ovs_sockets::{FromUpstream, ShutdownFlag, SocketWaker, ToUpstream, Upward, UpwardWakers};
+use ovs_sockets::{FromUpstream, ShutdownFlag, SocketWaker, ToUpstream, Uplink, UpwardWakers};
 use ovs_types::TxnId;
 use ovs_upstream::UpError;
 use ovs_wire::FrameError;
@@ -20,7 +20,7 @@ pub(crate) struct UpstreamSockets<R: Net + Log + Drop> {
     rt: R,
     // How many bytes a message of it may have.
     most_bytes: usize,
-    upward: Upward<R>,
+    uplink: Uplink<R>,
     // What was wrong with what it said in the session before, if anything was.
     fault: Option<InputFault>,
     refusals: Option<Arc<UpstreamRefusals>>,
@@ -48,7 +48,7 @@ impl<R: Net + Log + Drop> UpstreamSockets<R> {
         if self.fault == Some(fault) {
             return;
         }
-        let (rt, Some(address)) = (&self.rt, self.upward.address()) else {
+        let (rt, Some(address)) = (&self.rt, self.uplink.address()) else {
             return;
         };
         let most_bytes = self.most_bytes;
@@ -76,15 +76,15 @@ impl<R: Net + Log + Drop> Connector for UpstreamSockets<R> {
     }
 
     fn next(&mut self) -> bool {
-        self.upward.next()
+        self.uplink.next()
     }
 
     fn open(&mut self, _asked: TxnId) -> Option<(FromUpstream, ToUpstream)> {
-        self.upward.open()
+        self.uplink.open()
     }
 
     fn lost(&mut self, ended: Ended, fault: Option<InputFault>) {
-        self.upward.lost(ended);
+        self.uplink.lost(ended);
         if let Some(fault) = fault {
             self.tell(fault);
             if is_unfit(fault) {
@@ -117,7 +117,7 @@ impl<R: Net + Log + Copy + Drop> Upstreams<R> {
         let (mut wakers, mut pause_wakers) = (Vec::new(alloc), Vec::new(alloc));
         for addresses in upstreams {
             let addresses = addresses.as_slice();
-            let (upward, woken_by) = Upward::new(
+            let (uplink, woken_by) = Uplink::new(
                 rt,
                 alloc,
                 addresses,
@@ -128,7 +128,7 @@ impl<R: Net + Log + Copy + Drop> Upstreams<R> {
             connectors.push(UpstreamSockets {
                 rt,
                 most_bytes,
-                upward,
+                uplink,
                 fault: None,
                 refusals: None,
             })?;

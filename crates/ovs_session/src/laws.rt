@@ -13,9 +13,9 @@ pub fn session_laws<S: Service>()
     ensures turns { (limit : ℕ) (i j k o p q : Option (List ℕ)) (a b c : SessionValue S.Session)
         → Moved S.answers S.tells limit i j o p a b → Moved S.answers S.tells limit j k p q b c
         → Moved S.answers S.tells limit i k o q a c }
-    ensures stream { (most : ℕ) (core : S.Session) (came went : List ℕ) (now : SessionValue S.Session)
-        → Served S.answers S.tells (fresh_within most core) came went now → Answers S.answers S.tells most core came went now }
-    ensures all { (most : ℕ) (core : S.Session) (came went : List ℕ) (now : SessionValue S.Session)
-        → Served S.answers S.tells (fresh_within most core) came went now → IsDone now
-        → AnswersAll S.answers S.tells most core came went now }
+    ensures stream { (most : ℕ) (state : S.Session) (bytes_read bytes_written : List ℕ) (now : SessionValue S.Session)
+        → Served S.answers S.tells (fresh_within most state) bytes_read bytes_written now → Answers S.answers S.tells most state bytes_read bytes_written now }
+    ensures all { (most : ℕ) (state : S.Session) (bytes_read bytes_written : List ℕ) (now : SessionValue S.Session)
+        → Served S.answers S.tells (fresh_within most state) bytes_read bytes_written now → IsDone now
+        → AnswersAll S.answers S.tells most state bytes_read bytes_written now }
 {}

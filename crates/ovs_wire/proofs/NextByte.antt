@@ -6,9 +6,9 @@ use Rattle.std.proofs.lemmas.Bool.{cases_lt}
 use Rattle.ovs_wire.specs.declared.error.FrameError.{FrameError}
 use Rattle.ovs_wire.specs.Limits.{most_nesting}
 use Rattle.std.proofs.lemmas.Grind.{common_steps}
-use Rattle.ovs_wire.specs.declared.framing.place.Place.{Place}
+use Rattle.ovs_wire.specs.declared.framing.scan_position.ScanPosition.{ScanPosition}
 use Rattle.ovs_wire.specs.Depth.{depth}
-use Rattle.ovs_wire.specs.Place.{place_after}
+use Rattle.ovs_wire.specs.ScanPosition.{place_after}
 use Rattle.ovs_wire.proofs.Depths.{by_one}
 use Rattle.ovs_wire.specs.Frames.{IsSpace, IsObject, IsUnfinished, IsWithinLimits, HasFault, Breaks, Ending, Rest, Fault, AreFrames}
 use Rattle.ovs_wire.proofs.Cuts.{cut, fault_on, only_rest, only_fault, only_space, only_object}
@@ -110,13 +110,13 @@ current_none : (bytes : List ℕ) (i : ℕ) → drop i (take i bytes) ≡ []
 current_none bytes i = drop_all i (take i bytes) (omega (arith, length-take i bytes))
 
 -- where a scan stands before byte i, of a stream that begins at first, where a message may have `most` bytes
-pub record Stands (most : ℕ) (bytes : List ℕ) (first i start : ℕ) (found : List (List ℕ)) (p : Place) : Type 0 where
+pub record Stands (most : ℕ) (bytes : List ℕ) (first i start : ℕ) (found : List (List ℕ)) (p : ScanPosition) : Type 0 where
   pub behind : first ≤ start
   pub within : start ≤ i
   pub frames : AreFrames most (drop first (take i bytes)) found (Rest (drop start (take i bytes)))
   pub place : p ≡ place_after (drop start (take i bytes))
 
-pub stands_space : {most : ℕ} (bytes : List ℕ) (first i start : ℕ) (found : List (List ℕ)) (p : Place)
+pub stands_space : {most : ℕ} (bytes : List ℕ) (first i start : ℕ) (found : List (List ℕ)) (p : ScanPosition)
     → Stands most bytes first i start found p → i < length bytes → start ≡ i → IsSpace (get_or bytes i 0)
     → Stands most bytes first (i + 1) (i + 1) found p
 stands_space {most} bytes first i start found p s lt same blank =
@@ -135,10 +135,10 @@ stands_space {most} bytes first i start found p s lt same blank =
     }
 
 -- what this byte makes of each place
-abbrev pub Next : Place → ℕ → Place → Type 0
+abbrev pub Next : ScanPosition → ℕ → ScanPosition → Type 0
 Next p b q = (before : List ℕ) → p ≡ place_after before → q ≡ place_after (before ++ b ∷ [])
 
-pub stands_more : {most : ℕ} (bytes : List ℕ) (first i start : ℕ) (found : List (List ℕ)) (p q : Place)
+pub stands_more : {most : ℕ} (bytes : List ℕ) (first i start : ℕ) (found : List (List ℕ)) (p q : ScanPosition)
     → Stands most bytes first i start found p → i < length bytes → (i - start ≡ 0 → get_or bytes i 0 ≡ 123)
     → Next p (get_or bytes i 0) q → 0 < q.depth → q.depth ≤ most_nesting → i - start < most
     → Stands most bytes first (i + 1) start found q
@@ -163,7 +163,7 @@ stands_more {most} bytes first i start found p q s lt head next deep low short =
       place = now ∙ ap place_after (sym grown);
     }
 
-pub stands_whole : {most : ℕ} (bytes : List ℕ) (first i start : ℕ) (found : List (List ℕ)) (p q : Place) (o : List ℕ)
+pub stands_whole : {most : ℕ} (bytes : List ℕ) (first i start : ℕ) (found : List (List ℕ)) (p q : ScanPosition) (o : List ℕ)
     → Stands most bytes first i start found p → i < length bytes → (i - start ≡ 0 → get_or bytes i 0 ≡ 123)
     → Next p (get_or bytes i 0) q → q.depth ≡ 0 → i - start < most
     → o ≡ drop start (take (i + 1) bytes) → Stands most bytes first (i + 1) (i + 1) (found ++ o ∷ []) (place_after [])
@@ -188,7 +188,7 @@ stands_whole {most} bytes first i start found p q o s lt head next deep short wh
       place = ap place_after (sym none);
     }
 
-pub stands_fault : {most : ℕ} (bytes : List ℕ) (first i start : ℕ) (found : List (List ℕ)) (p : Place) (f : FrameError)
+pub stands_fault : {most : ℕ} (bytes : List ℕ) (first i start : ℕ) (found : List (List ℕ)) (p : ScanPosition) (f : FrameError)
     → Stands most bytes first i start found p → i < length bytes
     → ((before : List ℕ) → IsUnfinished most before → length before ≡ i - start → p ≡ place_after before
     → Breaks most before (get_or bytes i 0) f) → AreFrames most (drop first bytes) found (Fault f)
@@ -214,7 +214,7 @@ pub deeper : {most : ℕ} (u : List ℕ) (b : ℕ) → IsUnfinished most u → m
     → (0 < length u) × (depth (u ++ b ∷ []) ≡ most_nesting + 1)
 deeper u b is deep = (some_before u b deep, omega (arith, by_one u b, nests_now u is, deep))
 
-pub depth_now : {most : ℕ} (bytes : List ℕ) (first i start : ℕ) (found : List (List ℕ)) (p : Place)
+pub depth_now : {most : ℕ} (bytes : List ℕ) (first i start : ℕ) (found : List (List ℕ)) (p : ScanPosition)
     → Stands most bytes first i start found p → p.depth ≤ most_nesting
 depth_now bytes first i start found p s =
     let u = drop start (take i bytes) in

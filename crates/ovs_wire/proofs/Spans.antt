@@ -2,11 +2,11 @@
 use Rattle.std.proofs.Common.{Option, ◌≡◌, ℕ, ◌+◌, ◌-◌, ◌<◌, ◌≤◌, List, [], ◌∷◌, ◌++◌, length, take, drop, get_or, refl, ap, sym, ◌∙◌, subst, arith}
 use Rattle.std.proofs.lemmas.List.{drop-drop, drop-append-le, take-append-le, drop-take, length-drop}
 use Rattle.ovs_wire.specs.declared.error.FrameError.{FrameError}
-use Rattle.ovs_wire.specs.declared.framing.place.Place.{Place}
+use Rattle.ovs_wire.specs.declared.framing.scan_position.ScanPosition.{ScanPosition}
 use Rattle.ovs_wire.specs.declared.framing.scan.Span.{Span}
 use Rattle.ovs_wire.specs.declared.framing.scan.Tail.{Tail}
 use Rattle.ovs_wire.specs.Limits.{most_nesting}
-use Rattle.ovs_wire.specs.Place.{place_after}
+use Rattle.ovs_wire.specs.ScanPosition.{place_after}
 use Rattle.ovs_wire.specs.Frames.{IsSpace, IsUnfinished, Breaks, AreFrames, Ending, Rest, Fault}
 use Rattle.ovs_wire.specs.Framing.{Framing, framing, Feeds, ending_of}
 use Rattle.ovs_wire.specs.Spans.{spanned, messages, IsTail}
@@ -50,12 +50,12 @@ cut_next bytes from found end start i is le within =
     ∙ ap (λ k. drop start (take k bytes)) long
 
 -- where a scan stands that began at the tail, where a message may have `most` bytes
-pub record Scans (most : ℕ) (bytes : List ℕ) (tail : Tail) (i : ℕ) (found : List Span) (end start : ℕ) (p : Place) : Type 0 where
+pub record Scans (most : ℕ) (bytes : List ℕ) (tail : Tail) (i : ℕ) (found : List Span) (end start : ℕ) (p : ScanPosition) : Type 0 where
   pub stands : Stands most bytes tail.start i start (messages found (drop tail.end bytes)) p
   pub ends : end ≤ start
   pub whole : end ≡ tail.end + spanned found
 
-pub scans_space : {most : ℕ} (bytes : List ℕ) (tail : Tail) (i : ℕ) (found : List Span) (end start : ℕ) (p : Place)
+pub scans_space : {most : ℕ} (bytes : List ℕ) (tail : Tail) (i : ℕ) (found : List Span) (end start : ℕ) (p : ScanPosition)
     → Scans most bytes tail i found end start p → i < length bytes → start ≡ i → IsSpace (get_or bytes i 0)
     → Scans most bytes tail (i + 1) found end (i + 1) p
 scans_space bytes tail i found end start p s lt same blank = record {
@@ -64,7 +64,7 @@ scans_space bytes tail i found end start p s lt same blank = record {
   whole = s.whole;
 }
 
-pub scans_more : {most : ℕ} (bytes : List ℕ) (tail : Tail) (i : ℕ) (found : List Span) (end start : ℕ) (p q : Place)
+pub scans_more : {most : ℕ} (bytes : List ℕ) (tail : Tail) (i : ℕ) (found : List Span) (end start : ℕ) (p q : ScanPosition)
     → Scans most bytes tail i found end start p → i < length bytes → (i - start ≡ 0 → get_or bytes i 0 ≡ 123)
     → Next p (get_or bytes i 0) q → 0 < q.depth → q.depth ≤ most_nesting → i - start < most
     → Scans most bytes tail (i + 1) found end start q
@@ -74,7 +74,7 @@ scans_more bytes tail i found end start p q s lt head next deep low short = reco
   whole = s.whole;
 }
 
-pub scans_whole : {most : ℕ} (bytes : List ℕ) (tail : Tail) (i : ℕ) (found : List Span) (end start : ℕ) (p q : Place) (span : Span)
+pub scans_whole : {most : ℕ} (bytes : List ℕ) (tail : Tail) (i : ℕ) (found : List Span) (end start : ℕ) (p q : ScanPosition) (span : Span)
     → Scans most bytes tail i found end start p → i < length bytes → (i - start ≡ 0 → get_or bytes i 0 ≡ 123)
     → Next p (get_or bytes i 0) q → q.depth ≡ 0 → i - start < most
     → span ≡ record { skip = start - end; len = i - start + 1 }
@@ -93,7 +93,7 @@ scans_whole {most} bytes tail i found end start p q span s lt head next deep sho
       whole = omega (arith, spanned-append found (span ∷ []), ap (λ (x : Span). x.skip + x.len) is, s.whole, s.ends, s.stands.within);
     }
 
-pub scans_fault : {most : ℕ} (bytes : List ℕ) (tail : Tail) (i : ℕ) (found : List Span) (end start : ℕ) (p : Place) (f : FrameError)
+pub scans_fault : {most : ℕ} (bytes : List ℕ) (tail : Tail) (i : ℕ) (found : List Span) (end start : ℕ) (p : ScanPosition) (f : FrameError)
     → Scans most bytes tail i found end start p → i < length bytes
     → ((before : List ℕ) → IsUnfinished most before → length before ≡ i - start → p ≡ place_after before
     → Breaks most before (get_or bytes i 0) f)
@@ -101,14 +101,14 @@ pub scans_fault : {most : ℕ} (bytes : List ℕ) (tail : Tail) (i : ℕ) (found
 scans_fault bytes tail i found end start p f s lt breaks =
     stands_fault bytes tail.start i start (messages found (drop tail.end bytes)) p f s.stands lt breaks
 
-pub moved : {most : ℕ} (bytes : List ℕ) (tail : Tail) (i : ℕ) (found found' : List Span) (end end' start start' : ℕ) (p p' : Place)
+pub moved : {most : ℕ} (bytes : List ℕ) (tail : Tail) (i : ℕ) (found found' : List Span) (end end' start start' : ℕ) (p p' : ScanPosition)
     → Scans most bytes tail i found end start p → found' ≡ found → end' ≡ end → start' ≡ start → p' ≡ p
     → Scans most bytes tail i found' end' start' p'
 moved {most} bytes tail i found found' end end' start start' p p' s a b c d =
     subst (λ (l : List Span). Scans most bytes tail i l end' start' p') (sym a)
     (subst (λ (k : ℕ). Scans most bytes tail i found k start' p') (sym b)
     (subst (λ (k : ℕ). Scans most bytes tail i found end k p') (sym c)
-    (subst (λ (x : Place). Scans most bytes tail i found end start x) (sym d) s)))
+    (subst (λ (x : ScanPosition). Scans most bytes tail i found end start x) (sym d) s)))
 
 -- ---- feeding
 

@@ -2,7 +2,7 @@
 use Rattle.std.specs.Prelude.{◌≡◌, ℕ, ◌+◌, ◌≤◌, List, [], ◌∷◌, length, take, drop}
 use Rattle.ovs_wire.specs.declared.framing.scan.Span.{Span}
 use Rattle.ovs_wire.specs.declared.framing.scan.Tail.{Tail}
-use Rattle.ovs_wire.specs.Place.{place_after}
+use Rattle.ovs_wire.specs.ScanPosition.{place_after}
 use Rattle.ovs_wire.specs.Frames.{IsUnfinished}
 
 -- how many bytes the messages and the white space before them take

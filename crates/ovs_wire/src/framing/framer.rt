@@ -6,8 +6,8 @@ ghost use Rattle.ovs_wire.specs.Framing.{IsNew, Feeds, Answers};
 
 use crate::error::FrameError;
 use crate::framing::limits::MAX_MESSAGE_BYTES;
-use crate::framing::place::Place;
 use crate::framing::scan::{Span, Tail, scan};
+use crate::framing::scan_position::ScanPosition;
 use ovs_json::NoMemory;
 use std::alloc::Global;
 use std::collections::VecDeque;
@@ -116,7 +116,7 @@ impl Framer {
         let tail = Tail {
             end: 0,
             start: 0,
-            place: Place::start(),
+            place: ScanPosition::start(),
         };
         Framer {
             limit,

@@ -1,14 +1,14 @@
 //! The messages in the bytes that came.
 ghost use Rattle.std.specs.Prelude.{◌≡◌, ◌+◌, ◌≤◌, ◌<◌, ◌↔◌, ◌++◌, ◌∷◌, [], ℕ, List, length, take, drop, IsTrue, IfOk, IfErr, OnOk};
 ghost use Rattle.ovs_wire.specs.Limits.{most_nesting};
-ghost use Rattle.ovs_wire.specs.Place.{place_after};
+ghost use Rattle.ovs_wire.specs.ScanPosition.{place_after};
 ghost use Rattle.ovs_wire.specs.Frames.{AreFrames, Breaks, IsSpace, IsUnfinished};
 ghost use Rattle.ovs_wire.specs.Framing.{ending_of};
 ghost use Rattle.ovs_wire.specs.Spans.{IsTail, messages, spanned};
 
 use crate::error::FrameError;
 use crate::framing::limits::MAX_NESTING;
-use crate::framing::place::Place;
+use crate::framing::scan_position::ScanPosition;
 use ovs_json::NoMemory;
 use std::alloc::Global;
 use std::collections::VecDeque;
@@ -26,7 +26,7 @@ pub(crate) struct Span {
 pub(crate) struct Tail {
     pub end: usize,
     pub start: usize,
-    pub place: Place,
+    pub place: ScanPosition,
 }
 
 /// What a scan found: whole messages, what stands behind them, and the first fault.
@@ -46,7 +46,7 @@ fn is_space(byte: u8) -> bool
 
 // The place after one more byte of a message that has `len` bytes up to `place` and may have `most`, or the fault that this
 // byte is.
-fn go_on(place: Place, len: usize, byte: u8, most: usize) -> Result<Place, FrameError>
+fn go_on(place: ScanPosition, len: usize, byte: u8, most: usize) -> Result<ScanPosition, FrameError>
     requires nests { place.depth ≤ most_nesting }
     requires no_space { len ≡ 0 → IsSpace byte → ⊥ }
     ensures place { IfOk result (λ next. (before : List ℕ) → place ≡ place_after before
@@ -102,7 +102,7 @@ pub(crate) fn scan(
                 tail: Tail {
                     end,
                     start: bytes.len(),
-                    place: Place::start(),
+                    place: ScanPosition::start(),
                 },
                 fault: Some(fault),
             }),
@@ -115,7 +115,7 @@ pub(crate) fn scan(
             found.push_back(span)?;
             end = i + 1;
             start = i + 1;
-            place = Place::start();
+            place = ScanPosition::start();
         }
     }
     Ok(Scanned {
