@@ -14,7 +14,7 @@ pub(crate) enum Fault {
     /// A message is above the limits of one.
     TooLarge,
     /// The relay wasn't run to its end.
-    RunError,
+    NotRun,
     /// Memory ran out.
     NoMemory,
 }

@@ -226,7 +226,7 @@ fn run_threads<
         board,
         desk,
         wakers: &[],
-        upward: &NoWaker,
+        uplink_waker: &NoWaker,
         counters: &Counters::new(),
         observer: &NoObserver,
         limits: LIMITS,
