@@ -1,6 +1,6 @@
 //! A case by its first word.
 
-use crate::case_error::CaseError;
+use crate::fault::Fault;
 use crate::{
     authorities, changes, commands, data, desks, devices, folds, forwards, full_stores, ids, locks,
     messages, queries, readers, relay_desks, schemas, scripts, sources, stores, stories, streams,
@@ -11,30 +11,30 @@ use serde_json::Value;
 use std::alloc::Global;
 
 /// The argument at a place; the word is at 0.
-pub(crate) fn part(parts: &[Value], at: usize) -> Result<&Value, CaseError> {
-    parts.get(at).ok_or(CaseError::Malformed)
+pub(crate) fn part(parts: &[Value], at: usize) -> Result<&Value, Fault> {
+    parts.get(at).ok_or(Fault::Malformed)
 }
 
 /// The same where it is a text.
-pub(crate) fn text(parts: &[Value], at: usize) -> Result<&str, CaseError> {
-    part(parts, at)?.as_str().ok_or(CaseError::Malformed)
+pub(crate) fn text(parts: &[Value], at: usize) -> Result<&str, Fault> {
+    part(parts, at)?.as_str().ok_or(Fault::Malformed)
 }
 
 /// The same where it is a list.
-pub(crate) fn list(parts: &[Value], at: usize) -> Result<&[Value], CaseError> {
+pub(crate) fn list(parts: &[Value], at: usize) -> Result<&[Value], Fault> {
     match part(parts, at)?.as_array() {
         Some(items) => Ok(items.as_slice()),
-        None => Err(CaseError::Malformed),
+        None => Err(Fault::Malformed),
     }
 }
 
 /// A word as an answer.
-pub(crate) fn word(alloc: Global, word: &str) -> Result<String, CaseError> {
+pub(crate) fn word(alloc: Global, word: &str) -> Result<String, Fault> {
     Ok(String::from_str(alloc, word)?)
 }
 
 /// Puts an answer behind those before it.
-pub(crate) fn add(answers: &mut String, answer: &str) -> Result<(), CaseError> {
+pub(crate) fn add(answers: &mut String, answer: &str) -> Result<(), Fault> {
     if !answers.is_empty() {
         answers.push_str(" | ")?;
     }
@@ -43,17 +43,12 @@ pub(crate) fn add(answers: &mut String, answer: &str) -> Result<(), CaseError> {
 }
 
 /// `true` or `false`.
-pub(crate) fn truth(alloc: Global, truth: bool) -> Result<String, CaseError> {
+pub(crate) fn truth(alloc: Global, truth: bool) -> Result<String, Fault> {
     word(alloc, if truth { "true" } else { "false" })
 }
 
 // The cases that are asked of the schema in use.
-fn of_schema(
-    alloc: Global,
-    schema: &Schema,
-    what: &str,
-    parts: &[Value],
-) -> Result<String, CaseError> {
+fn of_schema(alloc: Global, schema: &Schema, what: &str, parts: &[Value]) -> Result<String, Fault> {
     match what {
         "find" => schemas::find(alloc, schema, parts),
         "change" => changes::change(alloc, schema, parts),
@@ -73,12 +68,12 @@ fn of_schema(
         "authorities" => authorities::authorities(alloc, schema, parts),
         "upstream" => upstreams::upstream(alloc, schema, parts),
         "reader" => readers::reader(alloc, schema, parts),
-        _ => Err(CaseError::Malformed),
+        _ => Err(Fault::Malformed),
     }
 }
 
 // The cases that need none.
-fn alone(alloc: Global, what: &str, parts: &[Value]) -> Result<Option<String>, CaseError> {
+fn alone(alloc: Global, what: &str, parts: &[Value]) -> Result<Option<String>, Fault> {
     let answer = match what {
         "id" => ids::id(alloc, parts)?,
         "row id" => ids::row_id(alloc, parts)?,
@@ -123,7 +118,7 @@ pub(crate) fn answer(
     alloc: Global,
     schema: &mut Option<Box<Schema>>,
     parts: &[Value],
-) -> Result<String, CaseError> {
+) -> Result<String, Fault> {
     let what = text(parts, 0)?;
     if what == "use" {
         *schema = Some(schemas::read(alloc, parts, 1)?);
@@ -132,7 +127,7 @@ pub(crate) fn answer(
     match alone(alloc, what, parts)? {
         Some(answer) => Ok(answer),
         None => {
-            let schema = schema.as_ref().ok_or(CaseError::Malformed)?;
+            let schema = schema.as_ref().ok_or(Fault::Malformed)?;
             of_schema(alloc, schema, what, parts)
         }
     }

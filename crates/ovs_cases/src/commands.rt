@@ -1,7 +1,7 @@
 //! Command lines of the program: what they ask for, and what is said on standard error.
 
 use crate::case::{part, text, word};
-use crate::case_error::CaseError;
+use crate::fault::Fault;
 use ovs_command_line::{
     Complaint, RelayOptions, SchemaOrigin, SourceOptions, Task, command, complaint_of,
 };
@@ -17,7 +17,7 @@ fn flag(is_there: bool, word: &'static str) -> &'static str {
 }
 
 // How often something is done at most.
-fn count_told(alloc: Global, count: Option<u32>) -> Result<String, CaseError> {
+fn count_told(alloc: Global, count: Option<u32>) -> Result<String, Fault> {
     match count {
         Some(count) => Ok(format!(in alloc; "{count}")?),
         None => word(alloc, "any"),
@@ -25,7 +25,7 @@ fn count_told(alloc: Global, count: Option<u32>) -> Result<String, CaseError> {
 }
 
 // What a source is given.
-fn source_told(alloc: Global, given: &SourceOptions) -> Result<String, CaseError> {
+fn source_told(alloc: Global, given: &SourceOptions) -> Result<String, Fault> {
     let first_id = given.first_id.to_text(alloc)?;
     let first_row = given.first_row.to_text(alloc)?;
     let (schema, listen) = (&given.schema, given.listen);
@@ -42,7 +42,7 @@ fn source_told(alloc: Global, given: &SourceOptions) -> Result<String, CaseError
 }
 
 // The addresses of an upstream.
-fn upstream_told(alloc: Global, addresses: &[SocketAddr]) -> Result<String, CaseError> {
+fn upstream_told(alloc: Global, addresses: &[SocketAddr]) -> Result<String, Fault> {
     let mut told = String::new(alloc);
     for address in addresses {
         let before = if told.is_empty() { " " } else { " or " };
@@ -53,7 +53,7 @@ fn upstream_told(alloc: Global, addresses: &[SocketAddr]) -> Result<String, Case
 }
 
 // What a relay is given.
-fn relay_told(alloc: Global, given: &RelayOptions) -> Result<String, CaseError> {
+fn relay_told(alloc: Global, given: &RelayOptions) -> Result<String, Fault> {
     let schema = match &given.schema {
         SchemaOrigin::File(file) => format!(in alloc; "{file}")?,
         SchemaOrigin::FirstUpstream(database) => format!(in alloc; "of {database}")?,
@@ -65,22 +65,16 @@ fn relay_told(alloc: Global, given: &RelayOptions) -> Result<String, CaseError> 
     }
     let accepts = count_told(alloc, given.accepts)?;
     let tries = count_told(alloc, given.tries)?;
-    let most = match given.most_bytes {
-        Some(bytes) => format!(in alloc; ", messages of {bytes}")?,
-        None => String::new(alloc),
-    };
     let verbose = flag(given.verbose, ", tells");
     let ends = flag(given.end_on_refusal, ", ends on refusal");
     let prunes = flag(given.prunes, ", prunes");
-    let rest = format!(in alloc;
-        ", accepts {accepts}, tries {tries}{most}{verbose}{ends}{prunes}"
-    )?;
+    let rest = format!(in alloc; ", accepts {accepts}, tries {tries}{verbose}{ends}{prunes}")?;
     told.push_str(rest.as_str())?;
     Ok(told)
 }
 
 // What is asked for; of a text of help its line of usage.
-fn task_told(alloc: Global, task: &Task) -> Result<String, CaseError> {
+fn task_told(alloc: Global, task: &Task) -> Result<String, Fault> {
     match task {
         Task::Fold { merge: None } => word(alloc, "fold"),
         Task::Fold { merge: Some(file) } => Ok(format!(in alloc; "fold and merge {file}")?),
@@ -93,13 +87,13 @@ fn task_told(alloc: Global, task: &Task) -> Result<String, CaseError> {
                 .as_str()
                 .lines()
                 .find(|line| line.starts_with("Usage:"));
-            word(alloc, usage.ok_or(CaseError::Malformed)?)
+            word(alloc, usage.ok_or(Fault::Malformed)?)
         }
     }
 }
 
 /// What a command line asks for, or the status and the line of its fault.
-pub(crate) fn command_line(alloc: Global, parts: &[Value]) -> Result<String, CaseError> {
+pub(crate) fn command_line(alloc: Global, parts: &[Value]) -> Result<String, Fault> {
     let words = text(parts, 1)?.split(' ').collect::<Vec<&str>>(alloc)?;
     match command(alloc, words.as_slice()) {
         Ok(task) => task_told(alloc, &task),
@@ -111,7 +105,7 @@ pub(crate) fn command_line(alloc: Global, parts: &[Value]) -> Result<String, Cas
 }
 
 // The status and the line of what is told, if anything is.
-fn complaint_told(alloc: Global, complaint: Option<Complaint<'_>>) -> Result<String, CaseError> {
+fn complaint_told(alloc: Global, complaint: Option<Complaint<'_>>) -> Result<String, Fault> {
     match complaint {
         None => word(alloc, "nothing"),
         Some(complaint) => {
@@ -121,7 +115,7 @@ fn complaint_told(alloc: Global, complaint: Option<Complaint<'_>>) -> Result<Str
     }
 }
 
-fn end_of(word: &str) -> Result<RunEnd, CaseError> {
+fn end_of(word: &str) -> Result<RunEnd, Fault> {
     match word {
         "clean" => Ok(RunEnd::Clean),
         "refused" => Ok(RunEnd::Refused),
@@ -129,42 +123,42 @@ fn end_of(word: &str) -> Result<RunEnd, CaseError> {
         "write fault" => Ok(RunEnd::WriteFault),
         "turns spent" => Ok(RunEnd::TurnsSpent),
         "no memory" => Ok(RunEnd::NoMemory),
-        _ => Err(CaseError::Malformed),
+        _ => Err(Fault::Malformed),
     }
 }
 
 /// What is said of the end of a run over a file, if it has one, and an input with so many failures.
-pub(crate) fn run_end(alloc: Global, parts: &[Value]) -> Result<String, CaseError> {
+pub(crate) fn run_end(alloc: Global, parts: &[Value]) -> Result<String, Fault> {
     let end = end_of(text(parts, 1)?)?;
     let file = part(parts, 2)?.as_str();
-    let failures = part(parts, 3)?.as_u64().ok_or(CaseError::Malformed)?;
+    let failures = part(parts, 3)?.as_u64().ok_or(Fault::Malformed)?;
     complaint_told(alloc, complaint_of(end, file, failures))
 }
 
 /// What is said of a file that can't be opened.
-pub(crate) fn unopened(alloc: Global, parts: &[Value]) -> Result<String, CaseError> {
+pub(crate) fn unopened(alloc: Global, parts: &[Value]) -> Result<String, Fault> {
     complaint_told(alloc, Some(Complaint::Unopened(text(parts, 1)?)))
 }
 
 // The system's error of this number.
-fn cause(parts: &[Value]) -> Result<io::Error, CaseError> {
-    let number = part(parts, 2)?.as_i64().ok_or(CaseError::Malformed)?;
-    let number = i32::try_from(number).map_err(|_| CaseError::Malformed)?;
+fn cause(parts: &[Value]) -> Result<io::Error, Fault> {
+    let number = part(parts, 2)?.as_i64().ok_or(Fault::Malformed)?;
+    let number = i32::try_from(number).map_err(|_| Fault::Malformed)?;
     Ok(io::Error::from_raw_os_error(number))
 }
 
 /// What is said of a file that can't be opened for an error of this number.
-pub(crate) fn unopened_for(alloc: Global, parts: &[Value]) -> Result<String, CaseError> {
+pub(crate) fn unopened_for(alloc: Global, parts: &[Value]) -> Result<String, Fault> {
     let file = text(parts, 1)?;
     let cause = cause(parts)?;
     complaint_told(alloc, Some(Complaint::UnopenedFor { file, cause }))
 }
 
 /// What is said of an address where nothing can be done for an error of this number.
-pub(crate) fn unreached(alloc: Global, parts: &[Value]) -> Result<String, CaseError> {
+pub(crate) fn unreached(alloc: Global, parts: &[Value]) -> Result<String, Fault> {
     let address = text(parts, 1)?
         .parse::<SocketAddr>()
-        .map_err(|_| CaseError::Malformed)?;
+        .map_err(|_| Fault::Malformed)?;
     let cause = cause(parts)?;
     let complaint = match text(parts, 0)? {
         "unlistened" => Complaint::Unlistened { address, cause },
@@ -175,6 +169,6 @@ pub(crate) fn unreached(alloc: Global, parts: &[Value]) -> Result<String, CaseEr
 }
 
 /// What is said of a command line with a word that is no UTF-8.
-pub(crate) fn not_utf8(alloc: Global) -> Result<String, CaseError> {
+pub(crate) fn not_utf8(alloc: Global) -> Result<String, Fault> {
     complaint_told(alloc, Some(Complaint::NotUtf8))
 }

@@ -5,7 +5,7 @@ ghost use Rattle.ovs_links.specs.Sets.{IsOfTables};
 ghost use Rattle.ovs_links.specs.Store.{tables_of};
 
 use crate::case::{list, part, text, truth, word};
-use crate::case_error::{CaseError, is_refused, is_so};
+use crate::fault::{Fault, is_refused, is_so};
 use crate::ids::{commit, letter};
 use ovs_links::{By, Link, LinkStore, MergeError, Settled, TakeError, Took};
 use ovs_rows::Change;
@@ -14,24 +14,24 @@ use serde_json::Value;
 use std::alloc::Global;
 
 // The link of three arguments: the ids and the change.
-fn link(alloc: Global, schema: &Schema, parts: &[Value]) -> Result<Link, CaseError>
+fn link(alloc: Global, schema: &Schema, parts: &[Value]) -> Result<Link, Fault>
     ensures tables { IfOk result (IsOfTables schema.now.description.tables) }
 {
     let [prev, id, change] = parts else {
-        return Err(CaseError::Malformed);
+        return Err(Fault::Malformed);
     };
-    let prev = commit(prev.as_str().ok_or(CaseError::Malformed)?)?;
-    let id = commit(id.as_str().ok_or(CaseError::Malformed)?)?;
+    let prev = commit(prev.as_str().ok_or(Fault::Malformed)?)?;
+    let id = commit(id.as_str().ok_or(Fault::Malformed)?)?;
     let Ok(change) = Change::read(alloc, change, schema) else {
-        return Err(CaseError::Malformed);
+        return Err(Fault::Malformed);
     };
     match Link::new(prev, id, change) {
         Ok(link) => Ok(link),
-        Err(_) => Err(CaseError::BadId),
+        Err(_) => Err(Fault::BadId),
     }
 }
 
-fn fork_text(alloc: Global, by: By, prev: TxnId, id: TxnId) -> Result<String, CaseError> {
+fn fork_text(alloc: Global, by: By, prev: TxnId, id: TxnId) -> Result<String, Fault> {
     let shared = match by {
         By::Prev => "prev",
         By::Id => "id",
@@ -41,7 +41,7 @@ fn fork_text(alloc: Global, by: By, prev: TxnId, id: TxnId) -> Result<String, Ca
     Ok(format!(in alloc; "fork by {shared} with {prev} {id}")?)
 }
 
-fn refused_text(alloc: Global, error: &TakeError) -> Result<String, CaseError> {
+fn refused_text(alloc: Global, error: &TakeError) -> Result<String, Fault> {
     match error {
         TakeError::Fork {
             by,
@@ -50,16 +50,12 @@ fn refused_text(alloc: Global, error: &TakeError) -> Result<String, CaseError> {
             ..
         } => fork_text(alloc, *by, *held_prev, *held_id),
         TakeError::Full { .. } => word(alloc, "full"),
-        TakeError::NoMemory { .. } => Err(CaseError::Refused),
+        TakeError::NoMemory { .. } => Err(Fault::Refused),
     }
 }
 
 /// Takes a link, and says how it went.
-pub(crate) fn take(
-    alloc: Global,
-    store: &mut LinkStore,
-    parts: &[Value],
-) -> Result<String, CaseError>
+pub(crate) fn take(alloc: Global, store: &mut LinkStore, parts: &[Value]) -> Result<String, Fault>
     ensures tables { tables_of store.new ≡ tables_of store.old }
     ensures schema { store.new.schema ≡ store.old.schema }
     ensures folded { store.new.folded ≡ store.old.folded }
@@ -73,7 +69,7 @@ pub(crate) fn take(
 }
 
 // Where no held link follows the head, and where this one does and fits.
-fn append_link(alloc: Global, store: &mut LinkStore, link: Link) -> Result<String, CaseError>
+fn append_link(alloc: Global, store: &mut LinkStore, link: Link) -> Result<String, Fault>
     requires tables { IsOfTables (tables_of store.old) link }
     ensures tables { tables_of store.new ≡ tables_of store.old }
 {
@@ -89,17 +85,17 @@ fn append_link(alloc: Global, store: &mut LinkStore, link: Link) -> Result<Strin
     }
 }
 
-fn append(alloc: Global, store: &mut LinkStore, parts: &[Value]) -> Result<String, CaseError>
+fn append(alloc: Global, store: &mut LinkStore, parts: &[Value]) -> Result<String, Fault>
     ensures tables { tables_of store.new ≡ tables_of store.old }
 {
     let link = link(alloc, store.schema(), parts)?;
     append_link(alloc, store, link)
 }
 
-fn settle(alloc: Global, store: &mut LinkStore) -> Result<String, CaseError>
+fn settle(alloc: Global, store: &mut LinkStore) -> Result<String, Fault>
     ensures tables { tables_of store.new ≡ tables_of store.old }
 {
-    match store.settle(alloc).ok().ok_or(CaseError::Refused)? {
+    match store.settle(alloc).ok().ok_or(Fault::Refused)? {
         Settled::Done => word(alloc, "done"),
         Settled::Stuck(id) => {
             let id = letter(id);
@@ -109,7 +105,7 @@ fn settle(alloc: Global, store: &mut LinkStore) -> Result<String, CaseError>
 }
 
 // Folds the chain, and drops the links of lower starts that can be reached.
-fn prune(alloc: Global, store: &mut LinkStore) -> Result<String, CaseError>
+fn prune(alloc: Global, store: &mut LinkStore) -> Result<String, Fault>
     ensures tables { tables_of store.new ≡ tables_of store.old }
 {
     let _settled = store.settle(alloc)?;
@@ -117,11 +113,11 @@ fn prune(alloc: Global, store: &mut LinkStore) -> Result<String, CaseError>
     Ok(format!(in alloc; "{dropped} dropped")?)
 }
 
-fn take_all(alloc: Global, store: &mut LinkStore, links: &[Value]) -> Result<(), CaseError>
+fn take_all(alloc: Global, store: &mut LinkStore, links: &[Value]) -> Result<(), Fault>
     ensures tables { tables_of store.new ≡ tables_of store.old }
 {
     for parts in links {
-        let parts = parts.as_array().ok_or(CaseError::Malformed)?;
+        let parts = parts.as_array().ok_or(Fault::Malformed)?;
         let _ = take(alloc, store, parts.as_slice())?;
     }
     Ok(())
@@ -132,7 +128,7 @@ pub(crate) fn settled(
     alloc: Global,
     schema: &Schema,
     links: &[Value],
-) -> Result<Box<LinkStore>, CaseError>
+) -> Result<Box<LinkStore>, Fault>
     ensures tables { IfOk result (λ store. tables_of store.value ≡ schema.now.description.tables) }
 {
     let mut store = Box::new(alloc, LinkStore::new(alloc, schema)?)?;
@@ -141,7 +137,7 @@ pub(crate) fn settled(
     Ok(store)
 }
 
-fn merge_refusal(alloc: Global, error: &MergeError) -> Result<String, CaseError> {
+fn merge_refusal(alloc: Global, error: &MergeError) -> Result<String, Fault> {
     match error {
         MergeError::Fork {
             by,
@@ -149,11 +145,11 @@ fn merge_refusal(alloc: Global, error: &MergeError) -> Result<String, CaseError>
             held_id,
         } => fork_text(alloc, *by, *held_prev, *held_id),
         MergeError::Full => word(alloc, "full"),
-        MergeError::NoMemory => Err(CaseError::Refused),
+        MergeError::NoMemory => Err(Fault::Refused),
     }
 }
 
-fn merge(alloc: Global, store: &mut LinkStore, links: &[Value]) -> Result<String, CaseError>
+fn merge(alloc: Global, store: &mut LinkStore, links: &[Value]) -> Result<String, Fault>
     ensures tables { tables_of store.new ≡ tables_of store.old }
 {
     let other = settled(alloc, store.schema(), links)?;
@@ -163,15 +159,15 @@ fn merge(alloc: Global, store: &mut LinkStore, links: &[Value]) -> Result<String
     }
 }
 
-fn position(alloc: Global, store: &LinkStore, id: TxnId) -> Result<String, CaseError> {
+fn position(alloc: Global, store: &LinkStore, id: TxnId) -> Result<String, Fault> {
     match store.position_of(id) {
         Some(place) => Ok(format!(in alloc; "{place}")?),
         None => word(alloc, "none"),
     }
 }
 
-fn link_at(alloc: Global, store: &LinkStore, number: &Value) -> Result<String, CaseError> {
-    let number = number.as_u64().ok_or(CaseError::Malformed)?;
+fn link_at(alloc: Global, store: &LinkStore, number: &Value) -> Result<String, Fault> {
+    let number = number.as_u64().ok_or(Fault::Malformed)?;
     match store.link_at(number as usize) {
         Some(link) => word(alloc, letter(link.id())),
         None => word(alloc, "none"),
@@ -179,7 +175,7 @@ fn link_at(alloc: Global, store: &LinkStore, number: &Value) -> Result<String, C
 }
 
 // What the store answers to a question that changes nothing.
-fn looked_up(alloc: Global, store: &LinkStore, parts: &[Value]) -> Result<String, CaseError> {
+fn looked_up(alloc: Global, store: &LinkStore, parts: &[Value]) -> Result<String, Fault> {
     match text(parts, 0)? {
         "position" => position(alloc, store, commit(text(parts, 1)?)?),
         "link at" => link_at(alloc, store, part(parts, 1)?),
@@ -187,18 +183,18 @@ fn looked_up(alloc: Global, store: &LinkStore, parts: &[Value]) -> Result<String
             let link = link(alloc, store.schema(), list(parts, 1)?)?;
             truth(alloc, store.holds(&link))
         }
-        _ => Err(CaseError::Malformed),
+        _ => Err(Fault::Malformed),
     }
 }
 
 // What the store answers to an event.
-fn event(alloc: Global, store: &mut LinkStore, parts: &[Value]) -> Result<String, CaseError>
+fn event(alloc: Global, store: &mut LinkStore, parts: &[Value]) -> Result<String, Fault>
     ensures tables { tables_of store.new ≡ tables_of store.old }
 {
     let [what, link @ ..] = parts else {
-        return Err(CaseError::Malformed);
+        return Err(Fault::Malformed);
     };
-    match what.as_str().ok_or(CaseError::Malformed)? {
+    match what.as_str().ok_or(Fault::Malformed)? {
         "take" => take(alloc, store, link),
         "append" => append(alloc, store, link),
         "settle" => settle(alloc, store),
@@ -209,7 +205,7 @@ fn event(alloc: Global, store: &mut LinkStore, parts: &[Value]) -> Result<String
 }
 
 // Carries out an event (`event`). Where there is no memory for its call the links are as they were, and it is called again.
-fn event_again(alloc: Global, store: &mut LinkStore, parts: &[Value]) -> Result<String, CaseError>
+fn event_again(alloc: Global, store: &mut LinkStore, parts: &[Value]) -> Result<String, Fault>
     ensures tables { tables_of store.new ≡ tables_of store.old }
 {
     let held = store.len();
@@ -222,7 +218,7 @@ fn event_again(alloc: Global, store: &mut LinkStore, parts: &[Value]) -> Result<
 }
 
 // The head, how many links are held and parked, and of copies of the steps the ids and how many rows each named.
-fn state(alloc: Global, store: &LinkStore) -> Result<String, CaseError> {
+fn state(alloc: Global, store: &LinkStore) -> Result<String, Fault> {
     let head = letter(store.head());
     let held = store.len();
     let parked = store.parked();
@@ -239,10 +235,10 @@ fn state(alloc: Global, store: &LinkStore) -> Result<String, CaseError> {
 }
 
 // What the store answers to the events, and what stands in it then.
-fn events(alloc: Global, store: &mut LinkStore, events: &[Value]) -> Result<String, CaseError> {
+fn events(alloc: Global, store: &mut LinkStore, events: &[Value]) -> Result<String, Fault> {
     let mut told = String::new(alloc);
     for parts in events {
-        let parts = parts.as_array().ok_or(CaseError::Malformed)?;
+        let parts = parts.as_array().ok_or(Fault::Malformed)?;
         let answer = event_again(alloc, store, parts.as_slice())?;
         told.push_str(answer.as_str())?;
         told.push_str("; ")?;
@@ -255,7 +251,7 @@ fn events(alloc: Global, store: &mut LinkStore, events: &[Value]) -> Result<Stri
 /// `["store", [EVENT, ..]]`: what a new store answers to the events, and what stands in it then. An event is `["take",
 /// PREV, ID, CHANGE]`, the same with `append`, `["settle"]`, `["prune"]`, `["merge", [[PREV, ID, CHANGE], ..]]`, or a question:
 /// `["position", ID]`, `["link at", NUMBER]`, `["holds", [PREV, ID, CHANGE]]`.
-pub(crate) fn store(alloc: Global, schema: &Schema, parts: &[Value]) -> Result<String, CaseError> {
+pub(crate) fn store(alloc: Global, schema: &Schema, parts: &[Value]) -> Result<String, Fault> {
     let asked = list(parts, 1)?;
     let mut store = LinkStore::new(alloc, schema)?;
     events(alloc, &mut store, asked)

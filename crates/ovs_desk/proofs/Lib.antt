@@ -13,4 +13,3 @@ pub mod Places
 pub mod Search
 pub mod Shown
 pub mod Steps
-pub mod Memory

@@ -1,5 +1,5 @@
-pub mod UpstreamState
+pub mod Following
 pub mod Deriving
 pub mod Telling
 pub mod Faults
-pub mod UpstreamEnd
+pub mod Followed

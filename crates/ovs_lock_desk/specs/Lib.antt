@@ -1,7 +1,7 @@
-pub mod LockState
-pub mod RelayLock
+pub mod Course
+pub mod DeskLock
 pub mod DueNames
-pub mod PendingSteal
+pub mod LateSteal
 pub mod LockDesk
 pub mod OwedMarks
 pub mod UpwardTable

@@ -5,11 +5,11 @@ ghost use Rattle.std.specs.List.{AllByRecursion};
 ghost use Rattle.ovs_node.specs.Nodes.{NodeInStep, OpenNodeInStep};
 ghost use Rattle.ovs_node.specs.Ledger.{IsFresh};
 
+use crate::fault::Fault;
 use crate::memory_threads::{SharedParts, senders_of, threads_of};
-use crate::node_case_error::NodeCaseError;
 use crate::outcome::{Question, shown};
 use crate::readers::request_text;
-use crate::upstreams::{ScriptedUpstream, UpstreamScript, number_in, read_sessions};
+use crate::upstreams::{UpSession, Upstream, number_in, read_sessions};
 use ovs_json::Text;
 use ovs_links::Step;
 use ovs_node::{
@@ -45,7 +45,7 @@ pub(crate) struct Scene {
 /// Those who talk to the node.
 #[derive(Drop)]
 pub(crate) struct Talkers {
-    pub(crate) upstreams: Vec<Vec<UpstreamScript>>,
+    pub(crate) upstreams: Vec<Vec<UpSession>>,
     pub(crate) readers: usize,
     // Whether it is to be told how many of them were shown what they wait for.
     counts_readers: bool,
@@ -55,18 +55,14 @@ pub(crate) struct Talkers {
 
 impl Scene {
     /// What stands in a line.
-    pub(crate) fn read(
-        alloc: Global,
-        schema: &Schema,
-        parts: &[Value],
-    ) -> Result<Scene, NodeCaseError> {
+    pub(crate) fn read(alloc: Global, schema: &Schema, parts: &[Value]) -> Result<Scene, Fault> {
         let [upstreams, until, select, kept_back @ ..] = parts else {
-            return Err(NodeCaseError::Malformed);
+            return Err(Fault::Malformed);
         };
         let questions = match kept_back {
             [] => one_view(alloc, read_question(alloc, schema, select)?)?,
             [lists] => read_questions(alloc, schema, lists)?,
-            _ => return Err(NodeCaseError::Malformed),
+            _ => return Err(Fault::Malformed),
         };
         let mut sessions = Vec::new(alloc);
         for upstream in list(upstreams)? {
@@ -93,30 +89,30 @@ impl Scene {
     }
 }
 
-fn list(json: &Value) -> Result<&[Value], NodeCaseError> {
-    Ok(json.as_array().ok_or(NodeCaseError::Malformed)?.as_slice())
+fn list(json: &Value) -> Result<&[Value], Fault> {
+    Ok(json.as_array().ok_or(Fault::Malformed)?.as_slice())
 }
 
 // The number of the commit that readers are to see, 0 where null stands, and how many readers there are, where that stands beside it.
-fn read_readers(json: &Value) -> Result<(u64, Option<usize>), NodeCaseError> {
+fn read_readers(json: &Value) -> Result<(u64, Option<usize>), Fault> {
     let Some(parts) = json.as_array() else {
         return Ok((number_in(json)?, None));
     };
     let [until, readers] = parts.as_slice() else {
-        return Err(NodeCaseError::Malformed);
+        return Err(Fault::Malformed);
     };
-    let readers = readers.as_u64().ok_or(NodeCaseError::Malformed)?;
+    let readers = readers.as_u64().ok_or(Fault::Malformed)?;
     Ok((number_in(until)?, Some(readers as usize)))
 }
 
 // A select, or a number: how many steps come after the first so many.
-fn read_question(alloc: Global, schema: &Schema, json: &Value) -> Result<Question, NodeCaseError> {
+fn read_question(alloc: Global, schema: &Schema, json: &Value) -> Result<Question, Fault> {
     if let Some(steps) = json.as_u64() {
         return Ok(Question::Steps(steps as usize));
     }
     match Select::read(alloc, json, schema) {
         Ok(select) => Ok(Question::Rows(select)),
-        Err(_) => Err(NodeCaseError::Malformed),
+        Err(_) => Err(Fault::Malformed),
     }
 }
 
@@ -125,7 +121,7 @@ fn read_questions(
     alloc: Global,
     schema: &Schema,
     lists: &Value,
-) -> Result<Vec<Vec<Question>>, NodeCaseError> {
+) -> Result<Vec<Vec<Question>>, Fault> {
     let mut views = Vec::new(alloc);
     for questions in list(lists)? {
         let mut read = Vec::new(alloc);
@@ -138,7 +134,7 @@ fn read_questions(
 }
 
 // One view, which is asked this.
-fn one_view(alloc: Global, question: Question) -> Result<Vec<Vec<Question>>, NodeCaseError> {
+fn one_view(alloc: Global, question: Question) -> Result<Vec<Vec<Question>>, Fault> {
     let mut questions = Vec::new(alloc);
     questions.push(question)?;
     let mut views = Vec::new(alloc);
@@ -153,7 +149,7 @@ pub(crate) fn opened<K: NodeName + Send + Sync, R: Threads + Wait + Sync>(
     schema: &Schema,
     opened: Opened<Step>,
     scene: Scene,
-) -> Result<String, NodeCaseError>
+) -> Result<String, Fault>
     requires name { (opened.seen.book ≡ K.book) × (schema.now ≡ K.schema) }
 {
     let desk = DeskOf {
@@ -173,7 +169,7 @@ fn named<K: NodeName + Send + Sync, Q: FeedName + Send + Sync, R: Threads + Wait
     node: OpenNode<K, Handle<K, &R>>,
     desk: DeskOf,
     scene: Scene,
-) -> Result<String, NodeCaseError>
+) -> Result<String, Fault>
     requires schema { schema.now ≡ K.schema }
     requires table { node.feed.items.table.shared.table_id ≡ Q.table }
     requires upstreams { node.upstreams ≤ 4 }
@@ -205,7 +201,7 @@ fn run<
     parts: Parts<K, Q, Handle<K, &'x R>>,
     desk: DeskOf,
     scene: Scene,
-) -> Result<String, NodeCaseError>
+) -> Result<String, Fault>
     requires desk { (desk.opened.seen.book ≡ N.book) × (desk.database ≡ N.database) }
     requires schema { schema.now ≡ K.schema }
     requires in_step { NodeInStep parts.node }
@@ -225,7 +221,7 @@ fn run<
     let DeskOf { database, opened } = desk;
     let common = SharedParts::<'x, N, R>::new(rt, alloc, talkers.readers, database, opened)?;
     let senders = senders_of(alloc, ends)?;
-    let own = CaseParts {
+    let own = OwnParts {
         talkers,
         senders,
         views,
@@ -244,19 +240,19 @@ fn kept_back<K: NodeName>(
     alloc: Global,
     views: &mut Vec<View<K>>,
     count: usize,
-) -> Result<Vec<View<K>>, NodeCaseError> {
+) -> Result<Vec<View<K>>, Fault> {
     let mut kept = Vec::new(alloc);
     for _ in 0..count {
-        kept.push(views.pop().ok_or(NodeCaseError::BadCount)?)?;
+        kept.push(views.pop().ok_or(Fault::BadCount)?)?;
     }
     Ok(kept)
 }
 
 // What the threads of a node are made of.
 #[derive(Drop)]
-struct CaseParts<K: NodeName, Q: FeedName> {
+struct OwnParts<K: NodeName, Q: FeedName> {
     talkers: Talkers,
-    senders: Vec<UpstreamSender<K, Q, ScriptedUpstream>>,
+    senders: Vec<UpstreamSender<K, Q, Upstream>>,
     views: Vec<View<K>>,
 }
 
@@ -276,13 +272,13 @@ fn run_threads<
     board: &'a Mutex<Board<K>>,
     common: &'a SharedParts<'x, N, R>,
     node: Node<K, Q, Handle<K, &'x R>>,
-    own: CaseParts<K, Q>,
-) -> Result<Report<K, Q, Handle<K, &'x R>>, NodeCaseError>
+    own: OwnParts<K, Q>,
+) -> Result<Report<K, Q, Handle<K, &'x R>>, Fault>
     requires schema { schema.now ≡ K.schema }
     requires in_step { NodeInStep node }
     requires none { node.intake.feed.returned ≡ [] }
 {
-    let CaseParts {
+    let OwnParts {
         talkers,
         senders,
         views,
@@ -294,7 +290,7 @@ fn run_threads<
         board: &*board,
         desk: &common.desk,
         wakers: &common.wakers,
-        uplink_waker: &common.uplink_waker,
+        upward: &common.upward,
         counters: &common.counters,
         observer: &NoObserver,
         limits: LIMITS,

@@ -7,6 +7,7 @@
 mod case;
 mod client;
 mod engine;
+mod fault;
 mod fold;
 mod hosts;
 mod ids;
@@ -15,7 +16,6 @@ mod links;
 mod many;
 mod memory_threads;
 mod node;
-mod node_case_error;
 mod outcome;
 mod poller;
 mod readers;

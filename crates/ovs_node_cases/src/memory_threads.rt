@@ -4,14 +4,13 @@ ghost use Rattle.std.specs.Prelude.{◌≡◌, []};
 ghost use Rattle.std.specs.List.{AllByRecursion};
 
 use crate::engine::Talkers;
-use crate::node_case_error::NodeCaseError;
+use crate::fault::Fault;
 use crate::readers::{Chat, MemoryWaker, ReaderPoller, counter};
-use crate::upstreams::{ScriptedUpstream, UpstreamScript};
+use crate::upstreams::{UpSession, Upstream};
 use ovs_json::Text;
 use ovs_node::{FeedEnd, FeedName, NodeLink, NodeName, Opened, View};
 use ovs_node_threads::{
-    Counters, LockedForwarder, NodeThreads, RelayThreads, SharedUpstreamHandler, UnusedPoller,
-    UpstreamSender,
+    Counters, LockedDesk, NodeThreads, RelayThreads, SharedSide, UnusedPoller, UpstreamSender,
 };
 use ovs_recorded_desk::{DeskName, DeskStep, RecordedDesk};
 use std::alloc::Global;
@@ -26,8 +25,8 @@ pub(crate) struct SharedParts<'a, N: DeskName, R: Wait> {
     // One for each reader.
     pub(crate) chats: Vec<Chat>,
     pub(crate) wakers: Vec<MemoryWaker>,
-    pub(crate) desk: LockedForwarder<'a, N, R>,
-    pub(crate) uplink_waker: MemoryWaker,
+    pub(crate) desk: LockedDesk<'a, N, R>,
+    pub(crate) upward: MemoryWaker,
     pub(crate) counters: Counters,
 }
 
@@ -39,7 +38,7 @@ impl<'a, N: DeskName, R: Wait> SharedParts<'a, N, R> {
         readers: usize,
         database: Text,
         opened: Opened<DeskStep>,
-    ) -> Result<SharedParts<'a, N, R>, NodeCaseError>
+    ) -> Result<SharedParts<'a, N, R>, Fault>
         requires name { (opened.seen.book ≡ N.book) × (database ≡ N.database) }
     {
         let (desk, _known) = RecordedDesk::new(alloc, database, opened);
@@ -49,8 +48,8 @@ impl<'a, N: DeskName, R: Wait> SharedParts<'a, N, R> {
             seen,
             chats,
             wakers: wakers_of(alloc, readers)?,
-            desk: LockedForwarder::new(rt, desk),
-            uplink_waker: MemoryWaker::new(alloc)?,
+            desk: LockedDesk::new(rt, desk),
+            upward: MemoryWaker::new(alloc)?,
             counters: Counters::new(),
         })
     }
@@ -65,11 +64,7 @@ impl<'a, N: DeskName, R: Wait> SharedParts<'a, N, R> {
 }
 
 // What each of so many readers shares with its poller.
-fn chats_of(
-    alloc: Global,
-    readers: usize,
-    seen: &Arc<AtomicU64>,
-) -> Result<Vec<Chat>, NodeCaseError> {
+fn chats_of(alloc: Global, readers: usize, seen: &Arc<AtomicU64>) -> Result<Vec<Chat>, Fault> {
     let mut chats = Vec::new(alloc);
     for _ in 0..readers {
         chats.push(Chat::new(alloc, seen)?)?;
@@ -78,7 +73,7 @@ fn chats_of(
 }
 
 // What wakes each of so many workers.
-fn wakers_of(alloc: Global, workers: usize) -> Result<Vec<MemoryWaker>, NodeCaseError> {
+fn wakers_of(alloc: Global, workers: usize) -> Result<Vec<MemoryWaker>, Fault> {
     let mut wakers = Vec::new(alloc);
     for _ in 0..workers {
         wakers.push(MemoryWaker::new(alloc)?)?;
@@ -90,7 +85,7 @@ fn wakers_of(alloc: Global, workers: usize) -> Result<Vec<MemoryWaker>, NodeCase
 pub(crate) fn senders_of<K: NodeName, Q: FeedName>(
     alloc: Global,
     ends: Vec<FeedEnd<NodeLink<K>, Q>>,
-) -> Result<Vec<UpstreamSender<K, Q, ScriptedUpstream>>, NodeCaseError>
+) -> Result<Vec<UpstreamSender<K, Q, Upstream>>, Fault>
     requires unsent { AllByRecursion (λ e. e.1 ≡ []) ends.items }
 {
     let mut senders = Vec::new(alloc);
@@ -105,9 +100,9 @@ pub(crate) type MemoryThreads<'a, 'x, K, Q, N, R> = RelayThreads<
     'a,
     K,
     Q,
-    ScriptedUpstream,
+    Upstream,
     ReaderPoller,
-    LockedForwarder<'x, N, R>,
+    LockedDesk<'x, N, R>,
     MemoryWaker,
 >;
 
@@ -116,18 +111,18 @@ fn add_upstreams<'a, 'x, K: NodeName, Q: FeedName, N: DeskName + Send, R: Wait>(
     alloc: Global,
     threads: MemoryThreads<'a, 'x, K, Q, N, R>,
     common: &'a SharedParts<'x, N, R>,
-    senders: Vec<UpstreamSender<K, Q, ScriptedUpstream>>,
-    upstreams: Vec<Vec<UpstreamScript>>,
+    senders: Vec<UpstreamSender<K, Q, Upstream>>,
+    upstreams: Vec<Vec<UpSession>>,
     views: &mut Vec<View<K>>,
-) -> Result<MemoryThreads<'a, 'x, K, Q, N, R>, NodeCaseError> {
+) -> Result<MemoryThreads<'a, 'x, K, Q, N, R>, Fault> {
     let mut threads = threads;
     for (sender, sessions) in senders.into_iter().zip(upstreams) {
         let seen = common.seen.clone()?;
-        let view = views.pop().ok_or(NodeCaseError::BadCount)?;
+        let view = views.pop().ok_or(Fault::BadCount)?;
         let upstream = ovs_node_threads::Upstream {
             sender,
-            connector: ScriptedUpstream::new(sessions, seen),
-            source: SharedUpstreamHandler::new(alloc, None),
+            connector: Upstream::new(sessions, seen),
+            source: SharedSide::new(alloc, None),
         };
         threads.add_feed(upstream, view)?;
     }
@@ -141,7 +136,7 @@ fn pollers_of(
     waker: &MemoryWaker,
     request: &str,
     until: u64,
-) -> Result<UnusedPoller<ReaderPoller>, NodeCaseError> {
+) -> Result<UnusedPoller<ReaderPoller>, Fault> {
     let request = String::from_str(alloc, request)?;
     let (chat, waker) = (chat.again()?, waker.again()?);
     Ok(UnusedPoller::new(ReaderPoller::new(chat, waker, request, until)))
@@ -155,11 +150,11 @@ fn add_readers<'a, 'x, K: NodeName, Q: FeedName, N: DeskName + Send, R: Wait>(
     request: &str,
     until: u64,
     views: &mut Vec<View<K>>,
-) -> Result<MemoryThreads<'a, 'x, K, Q, N, R>, NodeCaseError> {
+) -> Result<MemoryThreads<'a, 'x, K, Q, N, R>, Fault> {
     let mut threads = threads;
     for (chat, waker) in common.chats.iter().zip(&common.wakers) {
         let poller = pollers_of(alloc, chat, waker, request, until)?;
-        threads.add_worker(poller, views.pop().ok_or(NodeCaseError::BadCount)?)?;
+        threads.add_worker(poller, views.pop().ok_or(Fault::BadCount)?)?;
     }
     Ok(threads)
 }
@@ -169,9 +164,9 @@ pub(crate) fn threads_of<'a, 'x, K: NodeName, Q: FeedName, N: DeskName + Send, R
     alloc: Global,
     talkers: Talkers,
     common: &'a SharedParts<'x, N, R>,
-    senders: Vec<UpstreamSender<K, Q, ScriptedUpstream>>,
+    senders: Vec<UpstreamSender<K, Q, Upstream>>,
     views: Vec<View<K>>,
-) -> Result<MemoryThreads<'a, 'x, K, Q, N, R>, NodeCaseError> {
+) -> Result<MemoryThreads<'a, 'x, K, Q, N, R>, Fault> {
     let Talkers {
         upstreams,
         until,

@@ -1,14 +1,13 @@
 //! A source and a relay behind it, over sockets and in one process, with a client of the relay: what the client is answered, and
 //! what both nodes say at their ends.
 
-use crate::client::RequestClient;
+use crate::client::Client;
+use crate::fault::Fault;
 use crate::links::id_of;
-use crate::node_case_error::NodeCaseError;
 use log::{LevelFilter, Log, Logged};
 use ovs_data::{RowId, TxnId};
 use ovs_server::{ExitReport, NodeRuntime, NodeServer, RelayPlan, ServerError, SourcePlan, Stop};
 use ovs_types::Schema;
-use ovs_wire::MAX_MESSAGE_BYTES;
 use serde_json::Value;
 use std::alloc::Global;
 use std::net::{Net, SocketAddr, TcpStream};
@@ -32,14 +31,14 @@ pub(crate) struct Scene {
 
 impl Scene {
     /// What stands in a line.
-    pub(crate) fn read(alloc: Global, parts: &[Value]) -> Result<Scene, NodeCaseError> {
+    pub(crate) fn read(alloc: Global, parts: &[Value]) -> Result<Scene, Fault> {
         let [commit, row, insert, select] = parts else {
-            return Err(NodeCaseError::Malformed);
+            return Err(Fault::Malformed);
         };
-        let row = row.as_str().ok_or(NodeCaseError::Malformed)?;
+        let row = row.as_str().ok_or(Fault::Malformed)?;
         Ok(Scene {
             first_commit: id_of(commit)?,
-            first_row: RowId::read(row).or(Err(NodeCaseError::Malformed))?,
+            first_row: RowId::read(row).or(Err(Fault::Malformed))?,
             insert: insert.to_string(alloc)?,
             select: select.to_string(alloc)?,
         })
@@ -50,13 +49,13 @@ impl Scene {
 type NodeEnd = Result<ExitReport, ServerError>;
 
 // What the client was answered.
-type ClientAnswers = Result<(String, String), NodeCaseError>;
+type ClientAnswers = Result<(String, String), Fault>;
 
 // An address of this machine, with a port that the system chooses.
-fn any_port() -> Result<SocketAddr, NodeCaseError> {
+fn any_port() -> Result<SocketAddr, Fault> {
     "127.0.0.1:0"
         .parse::<SocketAddr>()
-        .or(Err(NodeCaseError::Malformed))
+        .or(Err(Fault::Malformed))
 }
 
 // A source whose first commit and first row have the ids of the scene.
@@ -64,7 +63,7 @@ fn source<R: NodeRuntime + Log>(
     rt: R,
     alloc: Global,
     scene: &Scene,
-) -> Result<NodeServer<R>, NodeCaseError> {
+) -> Result<NodeServer<R>, Fault> {
     let plan = SourcePlan {
         listen: any_port()?,
         first_commit: scene.first_commit,
@@ -80,13 +79,12 @@ fn relay<R: NodeRuntime + Log>(
     rt: R,
     alloc: Global,
     upstream: SocketAddr,
-) -> Result<NodeServer<R>, NodeCaseError> {
+) -> Result<NodeServer<R>, Fault> {
     let plan = RelayPlan {
         listen: any_port()?,
         upstreams: &[Vec::from_slice(alloc, &[upstream])?],
         accepts: Some(MOST_CONNECTIONS),
         tries: Some(MOST_CONNECTIONS),
-        most_bytes: MAX_MESSAGE_BYTES,
         ends_on_refusal: false,
         prunes: false,
     };
@@ -107,7 +105,7 @@ struct Talk<'a> {
 impl<'a> Talk<'a> {
     // Inserts the row, and selects until one is shown: what was answered to the insert, and to the last select.
     fn answers<R: Net<Stream = TcpStream>>(&self, rt: &R) -> ClientAnswers {
-        let mut client = RequestClient::connect(rt, self.alloc, self.address)?;
+        let mut client = Client::connect(rt, self.alloc, self.address)?;
         let inserted = client.transact(self.scene.insert.as_str())?;
         for _ in 0..MOST_SELECTS {
             let shown = client.transact(self.scene.select.as_str())?;
@@ -115,7 +113,7 @@ impl<'a> Talk<'a> {
                 return Ok((inserted, shown));
             }
         }
-        Err(NodeCaseError::NotShown)
+        Err(Fault::NotShown)
     }
 
     // The same, and then both nodes are brought to their ends.
@@ -130,7 +128,7 @@ impl<'a> Talk<'a> {
 
 // Runs a source and a relay, each in a thread of its own, and their client in this one: what came of each. The nodes and what runs them
 // go apart to the threads, so that it is known of each node's type alone that it may.
-fn run_both<
+fn beside<
     R: Threads + Net<Stream = TcpStream> + Sync,
     S: Send + Drop,
     N: Send + Drop,
@@ -160,12 +158,12 @@ fn told(
     alloc: Global,
     answers: &(String, String),
     exit_reports: &[Result<ExitReport, ServerError>],
-) -> Result<String, NodeCaseError> {
+) -> Result<String, Fault> {
     let (inserted, shown) = answers;
     let mut told = format!(in alloc; "{inserted} | {shown}")?;
     for exit_report in exit_reports {
         let Ok(exit_report) = exit_report else {
-            return Err(NodeCaseError::NotDrained);
+            return Err(Fault::NotDrained);
         };
         let lines = exit_report.text.as_str().trim().replace(alloc, '\n', " ")?;
         told.push_str(" | ")?;
@@ -180,7 +178,7 @@ pub(crate) fn run_tier<R: NodeRuntime + Log>(
     alloc: Global,
     schema: &Schema,
     scene: &Scene,
-) -> Result<String, NodeCaseError> {
+) -> Result<String, Fault> {
     let quiet = Logged::new(rt, LevelFilter::Off, rt);
     let source = source(quiet, alloc, scene)?;
     let relay = relay(quiet, alloc, source.address())?;
@@ -191,7 +189,7 @@ pub(crate) fn run_tier<R: NodeRuntime + Log>(
         scene,
         stops: &stops,
     };
-    let (of_source, (of_relay, answers)) = run_both(
+    let (of_source, (of_relay, answers)) = beside(
         &rt,
         source,
         |source: NodeServer<Logged<R, R>>| source.run(schema),

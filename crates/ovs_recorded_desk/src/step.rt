@@ -2,7 +2,6 @@
 
 use ovs_authority::Ask;
 use ovs_desk::{BadReply, SourceMessage};
-use ovs_json::SessionId;
 use ovs_wire::Message;
 
 /// A call of a relay's desk that wasn't refused memory, with what it gave. No value of it is made: it is what stands in the
@@ -12,7 +11,7 @@ pub enum DeskStep {
     /// A session asked.
     Asked {
         /// The session.
-        session: SessionId,
+        who: u64,
         /// What it asked.
         ask: Ask,
         /// The reply, where it was known at once.
@@ -21,14 +20,14 @@ pub enum DeskStep {
     /// A session was given what was owed to it.
     Collected {
         /// The session.
-        session: SessionId,
+        who: u64,
         /// What it was given, if something was owed.
         message: Option<Message>,
     },
     /// A session ended.
     Ended {
         /// The session.
-        session: SessionId,
+        who: u64,
     },
     /// The source was sent a request.
     WentUp {

@@ -1,7 +1,6 @@
 //! Steps of a source's desk.
 
 use ovs_authority::Ask;
-use ovs_json::SessionId;
 use ovs_links::Link;
 use ovs_wire::Message;
 
@@ -12,7 +11,7 @@ pub enum SourceStep {
     /// A session asked, and the desk replied. The reply to a transaction waits until it is given; any other is given at once.
     Asked {
         /// The session.
-        session: SessionId,
+        who: u64,
         /// What it asked.
         ask: Ask,
         /// The reply.
@@ -23,21 +22,21 @@ pub enum SourceStep {
     /// A session was given the reply that waited first for it.
     Given {
         /// The session.
-        session: SessionId,
+        who: u64,
         /// The reply.
         reply: Message,
     },
     /// A session for which no reply waited was given a notice of a lock, if one was owed.
     Collected {
         /// The session.
-        session: SessionId,
+        who: u64,
         /// The notice.
         notice: Option<Message>,
     },
     /// A session ended.
     Ended {
         /// The session.
-        session: SessionId,
+        who: u64,
     },
     /// The first link was taken out.
     TookLink {

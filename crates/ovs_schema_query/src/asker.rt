@@ -7,7 +7,7 @@ use crate::hearing::hear;
 use crate::reply::SchemaReply;
 use crate::request::request;
 use ovs_json::Text;
-use ovs_session::{Outbox, Service, ServiceError, TurnProgress};
+use ovs_session::{Outbox, Pace, Refusal, Service};
 use std::alloc::Global;
 
 /// What is known of a session in which a schema is asked for.
@@ -60,7 +60,7 @@ impl Service for SchemaAsker {
         query: &mut SchemaQuery,
         message: &[u8],
         _out: &mut Outbox,
-    ) -> Result<(), ServiceError> {
+    ) -> Result<(), Refusal> {
         match hear(self.alloc, message) {
             Ok(Some(reply)) => {
                 query.reply = Some(reply);
@@ -71,20 +71,16 @@ impl Service for SchemaAsker {
         }
     }
 
-    fn tell(
-        &mut self,
-        query: &mut SchemaQuery,
-        out: &mut Outbox,
-    ) -> Result<TurnProgress, ServiceError> {
+    fn tell(&mut self, query: &mut SchemaQuery, out: &mut Outbox) -> Result<Pace, Refusal> {
         self.is_replied = query.reply.is_some();
         if self.is_replied {
-            return Err(ServiceError::Gone);
+            return Err(Refusal::Gone);
         }
         if !query.has_asked {
             let text = request(self.alloc, query.database.as_str())?.write(self.alloc)?;
             out.push(&text)?;
             query.has_asked = true;
         }
-        Ok(TurnProgress::Idle)
+        Ok(Pace::Idle)
     }
 }

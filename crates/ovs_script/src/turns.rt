@@ -2,7 +2,7 @@
 ghost use Rattle.std.specs.Prelude.{◌≡◌, ◌+◌, OnOk, OnErr, IfErr};
 ghost use Rattle.ovs_script.specs.Turns.{most_turns};
 
-use crate::script_error::ScriptError;
+use crate::fault::Fault;
 use std::marker::Model;
 
 /// How many read and write calls one run makes at most.
@@ -38,13 +38,13 @@ impl Turns {
     }
 
     /// Spends a turn; `TurnsSpent` where none is left.
-    pub(crate) fn take(&mut self) -> Result<(), ScriptError>
+    pub(crate) fn take(&mut self) -> Result<(), Fault>
         ensures one { OnOk result (self.new + 1 ≡ self.old) }
         ensures none { OnErr result ((self.old ≡ 0) × (self.new ≡ 0)) }
-        ensures fault { IfErr result (λ fault. fault ≡ ScriptError.TurnsSpent) }
+        ensures fault { IfErr result (λ fault. fault ≡ Fault.TurnsSpent) }
     {
         if self.left == 0 {
-            return Err(ScriptError::TurnsSpent);
+            return Err(Fault::TurnsSpent);
         }
         self.left -= 1;
         Ok(())

@@ -20,8 +20,8 @@ use ovs_node::{
     Parts, Report, View,
 };
 use ovs_node_threads::{
-    Counters, ForwardingDesk, LockedForwarder, NodeThreads, RelayThreads, Shared,
-    SharedUpstreamHandler, UnusedPoller, Upstream, UpstreamSender, run_relay,
+    Counters, ForwardingDesk, LockedDesk, NodeThreads, RelayThreads, Shared, SharedSide,
+    UnusedPoller, Upstream, UpstreamSender, run_relay,
 };
 use ovs_recorded_desk::{DeskName, DeskStep, RecordedDesk, relay_desk_sends};
 use ovs_sockets::{Shutdown, SocketPoller, SocketWaker};
@@ -45,8 +45,6 @@ pub struct RelayPlan<'a> {
     pub accepts: Option<u32>,
     /// How many connections with each upstream are tried at most, where there is a bound.
     pub tries: Option<u32>,
-    /// How many bytes a message of an upstream may have.
-    pub most_bytes: usize,
     /// Whether it comes to its end once a link was refused, an upstream can't be followed, or none is tried any more.
     pub ends_on_refusal: bool,
     /// Whether it drops the links of older epochs once a newer one is published.
@@ -86,11 +84,11 @@ impl<R: Net + Log + Copy + Drop> RelayRole<R> {
 // What a relay's threads share beside its node's own.
 #[derive(Drop)]
 struct RelayShared<'x, N: DeskName, R: Wait> {
-    desk: LockedForwarder<'x, N, R>,
+    desk: LockedDesk<'x, N, R>,
     // Of the workers.
     wakers: Vec<SocketWaker>,
     // Of the source's thread.
-    uplink_waker: SocketWaker,
+    upward: SocketWaker,
     counters: Counters,
 }
 
@@ -102,19 +100,17 @@ impl<'x, N: DeskName, R: Wait> RelayShared<'x, N, R> {
         database: Text,
         opened: Opened<DeskStep>,
         wakers: Vec<SocketWaker>,
-        uplink_wakers: Vec<SocketWaker>,
+        upward: Vec<SocketWaker>,
     ) -> Result<RelayShared<'x, N, R>, ServerError>
         requires name { (opened.seen.book ≡ N.book) × (database ≡ N.database) }
     {
         let (desk, _known) = RecordedDesk::new(alloc, database, opened);
-        let mut uplink_wakers = uplink_wakers.into_iter();
-        let uplink_waker = uplink_wakers
-            .next()
-            .ok_or(ServerError::Node(NodeError::BadCount))?;
+        let mut upward = upward.into_iter();
+        let upward = upward.next().ok_or(ServerError::Node(NodeError::BadCount))?;
         Ok(RelayShared {
-            desk: LockedForwarder::new(rt, desk),
+            desk: LockedDesk::new(rt, desk),
             wakers,
-            uplink_waker,
+            upward,
             counters: Counters::new(),
         })
     }
@@ -139,7 +135,7 @@ type RelaySocketThreads<'a, 'x, K, Q, N, R> = RelayThreads<
     Q,
     UpstreamSockets<R>,
     SocketPoller<R>,
-    LockedForwarder<'x, N, R>,
+    LockedDesk<'x, N, R>,
     SocketWaker,
 >;
 
@@ -181,7 +177,7 @@ fn add_upstreams<'a, 'x, K: NodeName, Q: FeedName, N: DeskName + Send, R: Wait +
         let upstream = Upstream {
             sender,
             connector,
-            source: SharedUpstreamHandler::new(alloc, source.take()),
+            source: SharedSide::new(alloc, source.take()),
         };
         threads.add_feed(upstream, view)?;
     }
@@ -269,7 +265,7 @@ pub(crate) fn run_relay_node<
     } = sockets;
     let Upstreams {
         connectors,
-        wakers: uplink_wakers,
+        wakers: upward,
         ..
     } = upstreams;
     let own = OwnParts {
@@ -278,7 +274,7 @@ pub(crate) fn run_relay_node<
         connectors,
         views,
     };
-    let common = RelayShared::<'x, N, R>::new(rt, alloc, database, opened, wakers, uplink_wakers)?;
+    let common = RelayShared::<'x, N, R>::new(rt, alloc, database, opened, wakers, upward)?;
     let observer = LogObserver::new(rt, &*shutdown, UNFED, ends_on_refusal, ends_on_refusal);
     let report = run_threads(
         rt, alloc, schema, &queue, &board, &common, &observer, node, own,
@@ -323,7 +319,7 @@ fn run_threads<
         board: &*board,
         desk: &common.desk,
         wakers: &common.wakers,
-        uplink_waker: &common.uplink_waker,
+        upward: &common.upward,
         counters: &common.counters,
         observer: &*observer,
         limits: LIMITS,

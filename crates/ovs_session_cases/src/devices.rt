@@ -1,6 +1,6 @@
 //! Devices over memory that pass a part of what is said at a time, and answer an error at some of their calls.
 
-use crate::talks::TalkPart;
+use crate::talks::Part;
 use ovs_wire::{Counted, is_passing};
 use std::alloc::Global;
 use std::io::{self, ErrorKind, Read, Write};
@@ -34,7 +34,7 @@ impl Calls {
 
 /// One of the two devices of a session.
 #[derive(Clone, Copy, Debug, PartialEq, Eq)]
-pub(crate) enum DeviceSide {
+pub(crate) enum Side {
     Reader,
     Writer,
 }
@@ -67,13 +67,13 @@ impl Manner {
     }
 
     /// The same, where these calls of one device fail.
-    pub(crate) fn failing(self, side: DeviceSide, calls: Calls) -> Manner {
+    pub(crate) fn failing(self, side: Side, calls: Calls) -> Manner {
         match side {
-            DeviceSide::Reader => Manner {
+            Side::Reader => Manner {
                 reads: calls,
                 ..self
             },
-            DeviceSide::Writer => Manner {
+            Side::Writer => Manner {
                 writes: calls,
                 ..self
             },
@@ -119,7 +119,7 @@ impl Called {
 
 /// What the two devices of a session know of each other.
 #[derive(Drop)]
-pub(crate) struct DeviceExchange {
+pub(crate) struct Exchange {
     // How many bytes were written.
     written: AtomicU64,
     // How many links were taken.
@@ -128,10 +128,10 @@ pub(crate) struct DeviceExchange {
     is_waiting: AtomicBool,
 }
 
-impl DeviceExchange {
+impl Exchange {
     /// Nothing was read or written yet.
-    pub(crate) fn new() -> DeviceExchange {
-        DeviceExchange {
+    pub(crate) fn new() -> Exchange {
+        Exchange {
             written: AtomicU64::new(0),
             links: AtomicU64::new(0),
             is_waiting: AtomicBool::new(false),
@@ -165,20 +165,20 @@ impl DeviceExchange {
 #[derive(Drop)]
 pub(crate) struct Giving<'a> {
     rest: &'a [u8],
-    later: &'a [TalkPart],
+    later: &'a [Part],
     manner: Manner,
     calls: u64,
     marks: Vec<Mark>,
-    exchange: Arc<DeviceExchange>,
+    exchange: Arc<Exchange>,
 }
 
 impl<'a> Giving<'a> {
     /// Nothing was given yet.
     pub(crate) fn new(
         alloc: Global,
-        parts: &'a [TalkPart],
+        parts: &'a [Part],
         manner: Manner,
-        exchange: Arc<DeviceExchange>,
+        exchange: Arc<Exchange>,
     ) -> Giving<'a> {
         Giving {
             rest: &[],
@@ -222,22 +222,18 @@ impl<'a> Read for Giving<'a> {
 
 /// Takes what is written.
 #[derive(Drop)]
-pub(crate) struct TakingDevice {
+pub(crate) struct Taking {
     bytes: Vec<u8>,
     manner: Manner,
     calls: u64,
     marks: Vec<Mark>,
-    exchange: Arc<DeviceExchange>,
+    exchange: Arc<Exchange>,
 }
 
-impl TakingDevice {
+impl Taking {
     /// Nothing was taken yet.
-    pub(crate) fn new(
-        alloc: Global,
-        manner: Manner,
-        exchange: Arc<DeviceExchange>,
-    ) -> TakingDevice {
-        TakingDevice {
+    pub(crate) fn new(alloc: Global, manner: Manner, exchange: Arc<Exchange>) -> Taking {
+        Taking {
             bytes: Vec::new(alloc),
             manner,
             calls: 0,
@@ -247,7 +243,7 @@ impl TakingDevice {
     }
 }
 
-impl Write for TakingDevice {
+impl Write for Taking {
     fn write(&mut self, buf: &[u8]) -> io::Result<usize> {
         self.calls = self.calls.saturating_add(1);
         self.exchange.add_mark(&mut self.marks)?;
@@ -276,9 +272,9 @@ pub(crate) fn called_of_reader(reader: Counted<Giving>) -> Called {
 }
 
 /// What was written, and what is known of the calls of the writer.
-pub(crate) fn called_of_writer(writer: Counted<TakingDevice>) -> (Vec<u8>, Called) {
+pub(crate) fn called_of_writer(writer: Counted<Taking>) -> (Vec<u8>, Called) {
     let (calls, failures) = (writer.calls(), writer.failures());
-    let TakingDevice { bytes, marks, .. } = writer.into_inner();
+    let Taking { bytes, marks, .. } = writer.into_inner();
     let called = Called {
         calls,
         failures,

@@ -10,7 +10,7 @@ mod pause;
 mod poller;
 mod shutdown;
 mod timed_out;
-mod uplink;
+mod upward;
 mod waker;
 mod worker_group;
 
@@ -18,5 +18,5 @@ pub use client::Half;
 pub use listening::Listening;
 pub use poller::SocketPoller;
 pub use shutdown::{Shutdown, ShutdownFlag};
-pub use uplink::{FromUpstream, ToUpstream, Uplink, UpwardWakers};
+pub use upward::{FromUpstream, ToUpstream, Upward, UpwardWakers};
 pub use waker::SocketWaker;
