@@ -11,8 +11,8 @@ from processes import PATIENCE
 CRATE = os.path.join(os.path.dirname(os.path.abspath(__file__)), "..", "crates", "ovs_cases")
 CASES = os.path.join(CRATE, "out", "ovs_cases")
 # Cases in which a call that memory was refused to is made again; and others.
-AGAIN = ("store", "database", "transact", "reader", "source", "upstream", "locks", "frames")
-OTHERS = ("datum", "difference", "schema", "change", "told", "difference of databases", "monitor", "initial", "updates", "message", "desk", "relay desk", "forwards", "authorities")
+AGAIN = ("store", "database", "transact", "reader", "source", "upstream", "relay desk", "locks", "frames")
+OTHERS = ("datum", "difference", "schema", "change", "told", "difference of databases", "monitor", "initial", "updates", "message", "desk", "forwards", "authorities")
 # What a case says where memory ran out: within the call that it asks for, where that is made ready, or where the answer is told.
 RAN_OUT = re.compile(r"no[ -]memory|no such case|out of memory|OutOfMemory")
 # Of the calls of all cases of a word about so many are refused, where not all are; and all, where a word has no more than so many.
@@ -83,8 +83,8 @@ def each_of(lab, words, some, most):
 
 @check(LIMIT)
 def calls_that_are_made_again(lab):
-    """Stores, databases, selects, readers' sessions, sources, upstreams, locks and framers: a call that memory is refused to changes nothing, and made
-    again it is answered as ever."""
+    """Stores, databases, selects, readers' sessions, sources, upstreams, relays' desks, locks and framers: a call that memory is refused to changes
+    nothing, and made again it is answered as ever. A session, of readers and upstreams, and a relay's desk want no memory for what takes none."""
     told = each_of(lab, AGAIN, REFUSED_AGAIN, ALL_AGAIN)
     for word, (_, refused, good) in told.items():
         holds(good > 0, f"{word}: of {refused} calls that were refused none was made good")

@@ -4,7 +4,7 @@ ghost use Rattle.std.specs.Prelude.{◌≡◌, ◌≢◌, ℕ, List, Option, Som
 ghost use Rattle.ovs_authority.specs.Owing.{Owing, AsksTo, CollectsTo, LeavesOthers, IsSame, silent, marked};
 
 use crate::ask::Ask;
-use ovs_json::NoMemory;
+use ovs_json::{NoMemory, SessionId};
 use ovs_wire::Message;
 use std::alloc::Global;
 
@@ -12,7 +12,7 @@ use std::alloc::Global;
 #[derive(Clone, Copy, Debug, PartialEq, Eq)]
 pub struct Member {
     /// The session.
-    pub who: u64,
+    pub session: SessionId,
     /// Whether `collect` has a message for it.
     pub owed: bool,
 }
@@ -32,9 +32,14 @@ pub trait Authority {
     ///
     /// # Errors
     /// `NoMemory` alone; then nothing was asked.
-    fn ask(&mut self, alloc: Global, who: u64, ask: Ask) -> Result<Option<Message>, NoMemory>
-        ensures asked { IfOk result (λ r. AsksTo (owing self.old who) ask.id r (owing self.new who)) }
-        ensures others { LeavesOthers who (owing self.old) (owing self.new) }
+    fn ask(
+        &mut self,
+        alloc: Global,
+        session: SessionId,
+        ask: Ask,
+    ) -> Result<Option<Message>, NoMemory>
+        ensures asked { IfOk result (λ r. AsksTo (owing self.old session) ask.id r (owing self.new session)) }
+        ensures others { LeavesOthers session (owing self.old) (owing self.new) }
         ensures unchanged { OnErr result (IsSame (owing self.old) (owing self.new)) };
 
     /// The next message for a session: an answer that is known now before a notice, and `None` where neither is owed. No lock
@@ -42,17 +47,17 @@ pub trait Authority {
     ///
     /// # Errors
     /// `NoMemory` alone; then nothing was given.
-    fn collect(&mut self, alloc: Global, who: u64) -> Result<Option<Message>, NoMemory>
-        ensures given { IfOk result (λ r. CollectsTo (owing self.old who) r (owing self.new who)) }
-        ensures others { (other : ℕ) → other ≢ who → owing self.new other ≡ owing self.old other }
+    fn collect(&mut self, alloc: Global, session: SessionId) -> Result<Option<Message>, NoMemory>
+        ensures given { IfOk result (λ r. CollectsTo (owing self.old session) r (owing self.new session)) }
+        ensures others { (other : ℕ) → other ≢ session → owing self.new other ≡ owing self.old other }
         ensures owners { (name : List ℕ) → owner self.new name ≡ owner self.old name }
         ensures unchanged { OnErr result (IsSame (owing self.old) (owing self.new)) };
 
     /// Ends a session: nothing is owed to it, and it owns no lock. No memory is taken.
-    fn end_session(&mut self, who: u64)
-        ensures silent { owing self.new who ≡ silent }
-        ensures owns_none { (name : List ℕ) → owner self.new name ≢ Some who }
-        ensures others { LeavesOthers who (owing self.old) (owing self.new) };
+    fn end_session(&mut self, session: SessionId)
+        ensures silent { owing self.new session ≡ silent }
+        ensures owns_none { (name : List ℕ) → owner self.new name ≢ Some session }
+        ensures others { LeavesOthers session (owing self.old) (owing self.new) };
 
     /// Notes for each of these sessions whether `collect` has a message for it: one call for all of a worker's sessions. No
     /// memory is taken.

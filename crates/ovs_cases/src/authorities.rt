@@ -1,10 +1,11 @@
 //! What every authority answers, whichever it is: the source's desk and a relay's.
 
 use crate::case::{add, list, text, word};
+use crate::case_error::CaseError;
 use crate::desks::{ended, session, verb};
-use crate::fault::Fault;
 use ovs_authority::{Ask, Authority, Member, Verb};
 use ovs_desk::RelayDesk;
+use ovs_json::SessionId;
 use ovs_source::{FreshRows, Source, SourceDesk};
 use ovs_types::{RowId, Schema, Text, TxnId};
 use ovs_wire::{Id, Message};
@@ -30,26 +31,44 @@ fn kind(message: &Option<Message>) -> &'static str {
 fn asked<A: Authority>(
     alloc: Global,
     authority: &mut A,
-    who: u64,
+    session_id: SessionId,
     verb: Verb,
-) -> Result<String, Fault> {
-    let id = Id::from_number(who);
-    word(alloc, kind(&authority.ask(alloc, who, Ask { id, verb })?))
+) -> Result<String, CaseError> {
+    let id = Id::from_number(session_id);
+    word(
+        alloc,
+        kind(&authority.ask(alloc, session_id, Ask { id, verb })?),
+    )
 }
 
-fn collected<A: Authority>(alloc: Global, authority: &mut A, who: u64) -> Result<String, Fault> {
-    word(alloc, kind(&authority.collect(alloc, who)?))
+fn collected<A: Authority>(
+    alloc: Global,
+    authority: &mut A,
+    session_id: SessionId,
+) -> Result<String, CaseError> {
+    word(alloc, kind(&authority.collect(alloc, session_id)?))
 }
 
 // Whether `collect` has something for a session.
-fn marked<A: Authority>(alloc: Global, authority: &A, who: u64) -> Result<String, Fault> {
-    let mut members = [Member { who, owed: true }];
+fn marked<A: Authority>(
+    alloc: Global,
+    authority: &A,
+    session_id: SessionId,
+) -> Result<String, CaseError> {
+    let mut members = [Member {
+        session: session_id,
+        owed: true,
+    }];
     authority.mark(&mut members);
     let owed = members.iter().all(|member| member.owed);
     word(alloc, if owed { "owed" } else { "not owed" })
 }
 
-fn event<A: Authority>(alloc: Global, authority: &mut A, parts: &[Value]) -> Result<String, Fault> {
+fn event<A: Authority>(
+    alloc: Global,
+    authority: &mut A,
+    parts: &[Value],
+) -> Result<String, CaseError> {
     match text(parts, 0)? {
         "told" => collected(alloc, authority, session(parts)?),
         "marked" => marked(alloc, authority, session(parts)?),
@@ -62,24 +81,24 @@ fn answers<A: Authority>(
     alloc: Global,
     authority: &mut A,
     events: &[Value],
-) -> Result<String, Fault> {
+) -> Result<String, CaseError> {
     let mut answers = String::new(alloc);
     for one in events {
-        let parts = one.as_array().ok_or(Fault::Malformed)?;
+        let parts = one.as_array().ok_or(CaseError::Malformed)?;
         let answer = event(alloc, authority, parts.as_slice())?;
         add(&mut answers, answer.as_str())?;
     }
     Ok(answers)
 }
 
-fn of_source(alloc: Global, schema: &Schema, events: &[Value]) -> Result<String, Fault> {
+fn of_source(alloc: Global, schema: &Schema, events: &[Value]) -> Result<String, CaseError> {
     let source = Source::new(alloc, schema)?;
     let first = TxnId::from(1u128 << 64);
     let mut desk = SourceDesk::new(alloc, source, FreshRows::new(RowId::from(1u128)), first);
     answers(alloc, &mut desk, events)
 }
 
-fn of_relay(alloc: Global, events: &[Value]) -> Result<String, Fault> {
+fn of_relay(alloc: Global, events: &[Value]) -> Result<String, CaseError> {
     let mut desk = RelayDesk::new(alloc, Text::new(alloc, "net")?);
     desk.found_source();
     answers(alloc, &mut desk, events)
@@ -92,7 +111,7 @@ pub(crate) fn authorities(
     alloc: Global,
     schema: &Schema,
     parts: &[Value],
-) -> Result<String, Fault> {
+) -> Result<String, CaseError> {
     let events = list(parts, 1)?;
     let source = of_source(alloc, schema, events)?;
     let relay = of_relay(alloc, events)?;

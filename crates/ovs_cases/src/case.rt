@@ -1,6 +1,6 @@
 //! A case by its first word.
 
-use crate::fault::Fault;
+use crate::case_error::CaseError;
 use crate::{
     authorities, changes, commands, data, desks, devices, folds, forwards, full_stores, ids, locks,
     messages, queries, readers, relay_desks, schemas, scripts, sources, stores, stories, streams,
@@ -11,30 +11,30 @@ use serde_json::Value;
 use std::alloc::Global;
 
 /// The argument at a place; the word is at 0.
-pub(crate) fn part(parts: &[Value], at: usize) -> Result<&Value, Fault> {
-    parts.get(at).ok_or(Fault::Malformed)
+pub(crate) fn part(parts: &[Value], at: usize) -> Result<&Value, CaseError> {
+    parts.get(at).ok_or(CaseError::Malformed)
 }
 
 /// The same where it is a text.
-pub(crate) fn text(parts: &[Value], at: usize) -> Result<&str, Fault> {
-    part(parts, at)?.as_str().ok_or(Fault::Malformed)
+pub(crate) fn text(parts: &[Value], at: usize) -> Result<&str, CaseError> {
+    part(parts, at)?.as_str().ok_or(CaseError::Malformed)
 }
 
 /// The same where it is a list.
-pub(crate) fn list(parts: &[Value], at: usize) -> Result<&[Value], Fault> {
+pub(crate) fn list(parts: &[Value], at: usize) -> Result<&[Value], CaseError> {
     match part(parts, at)?.as_array() {
         Some(items) => Ok(items.as_slice()),
-        None => Err(Fault::Malformed),
+        None => Err(CaseError::Malformed),
     }
 }
 
 /// A word as an answer.
-pub(crate) fn word(alloc: Global, word: &str) -> Result<String, Fault> {
+pub(crate) fn word(alloc: Global, word: &str) -> Result<String, CaseError> {
     Ok(String::from_str(alloc, word)?)
 }
 
 /// Puts an answer behind those before it.
-pub(crate) fn add(answers: &mut String, answer: &str) -> Result<(), Fault> {
+pub(crate) fn add(answers: &mut String, answer: &str) -> Result<(), CaseError> {
     if !answers.is_empty() {
         answers.push_str(" | ")?;
     }
@@ -43,12 +43,17 @@ pub(crate) fn add(answers: &mut String, answer: &str) -> Result<(), Fault> {
 }
 
 /// `true` or `false`.
-pub(crate) fn truth(alloc: Global, truth: bool) -> Result<String, Fault> {
+pub(crate) fn truth(alloc: Global, truth: bool) -> Result<String, CaseError> {
     word(alloc, if truth { "true" } else { "false" })
 }
 
 // The cases that are asked of the schema in use.
-fn of_schema(alloc: Global, schema: &Schema, what: &str, parts: &[Value]) -> Result<String, Fault> {
+fn of_schema(
+    alloc: Global,
+    schema: &Schema,
+    what: &str,
+    parts: &[Value],
+) -> Result<String, CaseError> {
     match what {
         "find" => schemas::find(alloc, schema, parts),
         "change" => changes::change(alloc, schema, parts),
@@ -68,12 +73,12 @@ fn of_schema(alloc: Global, schema: &Schema, what: &str, parts: &[Value]) -> Res
         "authorities" => authorities::authorities(alloc, schema, parts),
         "upstream" => upstreams::upstream(alloc, schema, parts),
         "reader" => readers::reader(alloc, schema, parts),
-        _ => Err(Fault::Malformed),
+        _ => Err(CaseError::Malformed),
     }
 }
 
 // The cases that need none.
-fn alone(alloc: Global, what: &str, parts: &[Value]) -> Result<Option<String>, Fault> {
+fn alone(alloc: Global, what: &str, parts: &[Value]) -> Result<Option<String>, CaseError> {
     let answer = match what {
         "id" => ids::id(alloc, parts)?,
         "row id" => ids::row_id(alloc, parts)?,
@@ -118,7 +123,7 @@ pub(crate) fn answer(
     alloc: Global,
     schema: &mut Option<Box<Schema>>,
     parts: &[Value],
-) -> Result<String, Fault> {
+) -> Result<String, CaseError> {
     let what = text(parts, 0)?;
     if what == "use" {
         *schema = Some(schemas::read(alloc, parts, 1)?);
@@ -127,7 +132,7 @@ pub(crate) fn answer(
     match alone(alloc, what, parts)? {
         Some(answer) => Ok(answer),
         None => {
-            let schema = schema.as_ref().ok_or(Fault::Malformed)?;
+            let schema = schema.as_ref().ok_or(CaseError::Malformed)?;
             of_schema(alloc, schema, what, parts)
         }
     }

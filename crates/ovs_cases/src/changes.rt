@@ -5,7 +5,7 @@ ghost use Rattle.ovs_rows.specs.Change.{IsChangeOf};
 ghost use Rattle.ovs_query.specs.Updates.{AreTouchedOf};
 
 use crate::case::{list, part, truth, word};
-use crate::fault::{Fault, is_refused};
+use crate::case_error::{CaseError, is_refused};
 use crate::ids::commit;
 use ovs_rows::{Applied, ApplyError, Change, Database};
 use ovs_types::{Schema, TxnId};
@@ -15,28 +15,28 @@ use std::alloc::Global;
 const IDS: [&str; 4] = ["a", "b", "c", "d"];
 
 // The id of the commit of this number, the first of which is 0. Those past the letters count down from the last id.
-fn commit_at(number: usize) -> Result<TxnId, Fault> {
+fn commit_at(number: usize) -> Result<TxnId, CaseError> {
     match IDS.get(number) {
         Some(letter) => commit(letter),
         None => Ok(TxnId::from(u128::MAX - number as u128)),
     }
 }
 
-fn read(alloc: Global, schema: &Schema, value: &Value) -> Result<Change, Fault>
+fn read(alloc: Global, schema: &Schema, value: &Value) -> Result<Change, CaseError>
     ensures tables { IfOk result (IsChangeOf schema.now.description.tables) }
 {
     match Change::read(alloc, value, schema) {
         Ok(change) => Ok(change),
-        Err(_) => Err(Fault::Malformed),
+        Err(_) => Err(CaseError::Malformed),
     }
 }
 
-fn text(alloc: Global, json: &Value) -> Result<String, Fault> {
+fn text(alloc: Global, json: &Value) -> Result<String, CaseError> {
     Ok(json.to_string(alloc)?)
 }
 
 // What a change is written as, where that reads back as a clone of the change.
-fn written(alloc: Global, schema: &Schema, change: &Change) -> Result<String, Fault>
+fn written(alloc: Global, schema: &Schema, change: &Change) -> Result<String, CaseError>
     requires tables { IsChangeOf schema.now.description.tables change.now }
 {
     let json = change.to_json(alloc, schema)?;
@@ -52,12 +52,12 @@ fn is_read_as(
     schema: &Schema,
     json: &Value,
     change: &Change,
-) -> Result<bool, Fault> {
+) -> Result<bool, CaseError> {
     Ok(read(alloc, schema, json)?.same(change))
 }
 
 /// `["change", JSON]`: what the change is written as.
-pub(crate) fn change(alloc: Global, schema: &Schema, parts: &[Value]) -> Result<String, Fault> {
+pub(crate) fn change(alloc: Global, schema: &Schema, parts: &[Value]) -> Result<String, CaseError> {
     match Change::read(alloc, part(parts, 1)?, schema) {
         Ok(change) => written(alloc, schema, &change),
         Err(fault) => word(alloc, fault.word()),
@@ -65,14 +65,14 @@ pub(crate) fn change(alloc: Global, schema: &Schema, parts: &[Value]) -> Result<
 }
 
 /// `["same change", JSON, JSON]`.
-pub(crate) fn same(alloc: Global, schema: &Schema, parts: &[Value]) -> Result<String, Fault> {
+pub(crate) fn same(alloc: Global, schema: &Schema, parts: &[Value]) -> Result<String, CaseError> {
     let one = read(alloc, schema, part(parts, 1)?)?;
     let same = is_read_as(alloc, schema, part(parts, 2)?, &one)?;
     truth(alloc, same)
 }
 
 // For each touched row, by a copy of what was told, a letter: `i` it was inserted, `d` deleted, `m` modified.
-fn letters(alloc: Global, applied: &Applied) -> Result<String, Fault> {
+fn letters(alloc: Global, applied: &Applied) -> Result<String, CaseError> {
     let mut told = String::new(alloc);
     for row in applied.rows() {
         told.push(match (row.before.is_some(), row.after.is_some()) {
@@ -86,12 +86,12 @@ fn letters(alloc: Global, applied: &Applied) -> Result<String, Fault> {
 }
 
 // The letters of the rows, or why the change doesn't fit.
-fn answer(alloc: Global, applied: &Result<Applied, ApplyError>) -> Result<String, Fault> {
+fn answer(alloc: Global, applied: &Result<Applied, ApplyError>) -> Result<String, CaseError> {
     match applied {
         Ok(applied) => letters(alloc, &applied.copy()?),
         Err(ApplyError::RowThere) => word(alloc, "row-there"),
         Err(ApplyError::NoRow) => word(alloc, "no-row"),
-        Err(ApplyError::NoMemory) => Err(Fault::Refused),
+        Err(ApplyError::NoMemory) => Err(CaseError::Refused),
     }
 }
 
@@ -100,7 +100,7 @@ fn apply(
     database: &mut Database,
     change: &Change,
     id: TxnId,
-) -> Result<String, Fault>
+) -> Result<String, CaseError>
     requires tables { IsChangeOf database.old.schema.description.tables change.now }
     ensures schema { database.new.schema ≡ database.old.schema }
 {
@@ -114,7 +114,7 @@ pub(crate) fn applied(
     database: &mut Database,
     value: &Value,
     number: usize,
-) -> Result<Applied, Fault>
+) -> Result<Applied, CaseError>
     ensures schema { database.new.schema ≡ database.old.schema }
     ensures touched { IfOk result (AreTouchedOf database.old.schema.description.tables) }
 {
@@ -122,7 +122,7 @@ pub(crate) fn applied(
     let change = read(alloc, database.schema(), value)?;
     match database.apply(alloc, &change, id) {
         Ok(applied) => Ok(applied),
-        Err(_) => Err(Fault::Malformed),
+        Err(_) => Err(CaseError::Malformed),
     }
 }
 
@@ -131,7 +131,7 @@ fn step(
     database: &mut Database,
     value: &Value,
     number: usize,
-) -> Result<String, Fault>
+) -> Result<String, CaseError>
     ensures schema { database.new.schema ≡ database.old.schema }
 {
     let id = commit_at(number)?;
@@ -145,7 +145,7 @@ fn step_again(
     database: &mut Database,
     value: &Value,
     number: usize,
-) -> Result<String, Fault>
+) -> Result<String, CaseError>
     ensures schema { database.new.schema ≡ database.old.schema }
 {
     let answer = step(alloc, database, value, number);
@@ -155,7 +155,7 @@ fn step_again(
     step(alloc, database, value, number)
 }
 
-fn steps(alloc: Global, database: &mut Database, changes: &[Value]) -> Result<(), Fault>
+fn steps(alloc: Global, database: &mut Database, changes: &[Value]) -> Result<(), CaseError>
     ensures schema { database.new.schema ≡ database.old.schema }
 {
     for (number, change) in changes.iter().enumerate() {
@@ -169,7 +169,7 @@ pub(crate) fn after(
     alloc: Global,
     schema: &Schema,
     changes: &[Value],
-) -> Result<Box<Database>, Fault>
+) -> Result<Box<Database>, CaseError>
     ensures schema { IfOk result (λ database. database.value.schema ≡ schema.now) }
 {
     let mut database = Box::new(alloc, Database::empty(alloc, schema)?)?;
@@ -178,13 +178,17 @@ pub(crate) fn after(
 }
 
 /// `["database", [CHANGE, ..]]`: the database after those of the changes that fit.
-pub(crate) fn database(alloc: Global, schema: &Schema, parts: &[Value]) -> Result<String, Fault> {
+pub(crate) fn database(
+    alloc: Global,
+    schema: &Schema,
+    parts: &[Value],
+) -> Result<String, CaseError> {
     let json = after(alloc, schema, list(parts, 1)?)?.to_json(alloc)?;
     text(alloc, &json)
 }
 
 /// `["told", [CHANGE, ..], CHANGE]`: what applying the last one tells, or why it doesn't fit.
-pub(crate) fn told(alloc: Global, schema: &Schema, parts: &[Value]) -> Result<String, Fault> {
+pub(crate) fn told(alloc: Global, schema: &Schema, parts: &[Value]) -> Result<String, CaseError> {
     let changes = list(parts, 1)?;
     let last = part(parts, 2)?;
     let mut database = after(alloc, schema, changes)?;
@@ -192,7 +196,7 @@ pub(crate) fn told(alloc: Global, schema: &Schema, parts: &[Value]) -> Result<St
 }
 
 // What the difference of two databases is written as.
-fn difference_of(alloc: Global, old: &Database, new: &Database) -> Result<String, Fault>
+fn difference_of(alloc: Global, old: &Database, new: &Database) -> Result<String, CaseError>
     requires schema { old.now.schema ≡ new.now.schema }
 {
     let change = Database::diff(alloc, old, new)?;
@@ -205,7 +209,7 @@ fn difference_by(
     old: &Database,
     changes: &[Value],
     last: &Value,
-) -> Result<String, Fault> {
+) -> Result<String, CaseError> {
     let mut new = after(alloc, old.schema(), changes)?;
     let _ = step(alloc, &mut new, last, changes.len())?;
     difference_of(alloc, old, &new)
@@ -213,7 +217,11 @@ fn difference_by(
 
 /// `["difference of databases", [CHANGE, ..], CHANGE]`: the difference from the database before the last change to
 /// the one after it.
-pub(crate) fn difference(alloc: Global, schema: &Schema, parts: &[Value]) -> Result<String, Fault> {
+pub(crate) fn difference(
+    alloc: Global,
+    schema: &Schema,
+    parts: &[Value],
+) -> Result<String, CaseError> {
     let changes = list(parts, 1)?;
     let last = part(parts, 2)?;
     let old = after(alloc, schema, changes)?;

@@ -1,7 +1,7 @@
 //! Command lines of the program: what they ask for, and what is said on standard error.
 
 use crate::case::{part, text, word};
-use crate::fault::Fault;
+use crate::case_error::CaseError;
 use ovs_command_line::{
     Complaint, RelayOptions, SchemaOrigin, SourceOptions, Task, command, complaint_of,
 };
@@ -17,7 +17,7 @@ fn flag(is_there: bool, word: &'static str) -> &'static str {
 }
 
 // How often something is done at most.
-fn count_told(alloc: Global, count: Option<u32>) -> Result<String, Fault> {
+fn count_told(alloc: Global, count: Option<u32>) -> Result<String, CaseError> {
     match count {
         Some(count) => Ok(format!(in alloc; "{count}")?),
         None => word(alloc, "any"),
@@ -25,7 +25,7 @@ fn count_told(alloc: Global, count: Option<u32>) -> Result<String, Fault> {
 }
 
 // What a source is given.
-fn source_told(alloc: Global, given: &SourceOptions) -> Result<String, Fault> {
+fn source_told(alloc: Global, given: &SourceOptions) -> Result<String, CaseError> {
     let first_id = given.first_id.to_text(alloc)?;
     let first_row = given.first_row.to_text(alloc)?;
     let (schema, listen) = (&given.schema, given.listen);
@@ -42,7 +42,7 @@ fn source_told(alloc: Global, given: &SourceOptions) -> Result<String, Fault> {
 }
 
 // The addresses of an upstream.
-fn upstream_told(alloc: Global, addresses: &[SocketAddr]) -> Result<String, Fault> {
+fn upstream_told(alloc: Global, addresses: &[SocketAddr]) -> Result<String, CaseError> {
     let mut told = String::new(alloc);
     for address in addresses {
         let before = if told.is_empty() { " " } else { " or " };
@@ -53,7 +53,7 @@ fn upstream_told(alloc: Global, addresses: &[SocketAddr]) -> Result<String, Faul
 }
 
 // What a relay is given.
-fn relay_told(alloc: Global, given: &RelayOptions) -> Result<String, Fault> {
+fn relay_told(alloc: Global, given: &RelayOptions) -> Result<String, CaseError> {
     let schema = match &given.schema {
         SchemaOrigin::File(file) => format!(in alloc; "{file}")?,
         SchemaOrigin::FirstUpstream(database) => format!(in alloc; "of {database}")?,
@@ -65,16 +65,22 @@ fn relay_told(alloc: Global, given: &RelayOptions) -> Result<String, Fault> {
     }
     let accepts = count_told(alloc, given.accepts)?;
     let tries = count_told(alloc, given.tries)?;
+    let most = match given.most_bytes {
+        Some(bytes) => format!(in alloc; ", messages of {bytes}")?,
+        None => String::new(alloc),
+    };
     let verbose = flag(given.verbose, ", tells");
     let ends = flag(given.end_on_refusal, ", ends on refusal");
     let prunes = flag(given.prunes, ", prunes");
-    let rest = format!(in alloc; ", accepts {accepts}, tries {tries}{verbose}{ends}{prunes}")?;
+    let rest = format!(in alloc;
+        ", accepts {accepts}, tries {tries}{most}{verbose}{ends}{prunes}"
+    )?;
     told.push_str(rest.as_str())?;
     Ok(told)
 }
 
 // What is asked for; of a text of help its line of usage.
-fn task_told(alloc: Global, task: &Task) -> Result<String, Fault> {
+fn task_told(alloc: Global, task: &Task) -> Result<String, CaseError> {
     match task {
         Task::Fold { merge: None } => word(alloc, "fold"),
         Task::Fold { merge: Some(file) } => Ok(format!(in alloc; "fold and merge {file}")?),
@@ -87,13 +93,13 @@ fn task_told(alloc: Global, task: &Task) -> Result<String, Fault> {
                 .as_str()
                 .lines()
                 .find(|line| line.starts_with("Usage:"));
-            word(alloc, usage.ok_or(Fault::Malformed)?)
+            word(alloc, usage.ok_or(CaseError::Malformed)?)
         }
     }
 }
 
 /// What a command line asks for, or the status and the line of its fault.
-pub(crate) fn command_line(alloc: Global, parts: &[Value]) -> Result<String, Fault> {
+pub(crate) fn command_line(alloc: Global, parts: &[Value]) -> Result<String, CaseError> {
     let words = text(parts, 1)?.split(' ').collect::<Vec<&str>>(alloc)?;
     match command(alloc, words.as_slice()) {
         Ok(task) => task_told(alloc, &task),
@@ -105,7 +111,7 @@ pub(crate) fn command_line(alloc: Global, parts: &[Value]) -> Result<String, Fau
 }
 
 // The status and the line of what is told, if anything is.
-fn complaint_told(alloc: Global, complaint: Option<Complaint<'_>>) -> Result<String, Fault> {
+fn complaint_told(alloc: Global, complaint: Option<Complaint<'_>>) -> Result<String, CaseError> {
     match complaint {
         None => word(alloc, "nothing"),
         Some(complaint) => {
@@ -115,7 +121,7 @@ fn complaint_told(alloc: Global, complaint: Option<Complaint<'_>>) -> Result<Str
     }
 }
 
-fn end_of(word: &str) -> Result<RunEnd, Fault> {
+fn end_of(word: &str) -> Result<RunEnd, CaseError> {
     match word {
         "clean" => Ok(RunEnd::Clean),
         "refused" => Ok(RunEnd::Refused),
@@ -123,42 +129,42 @@ fn end_of(word: &str) -> Result<RunEnd, Fault> {
         "write fault" => Ok(RunEnd::WriteFault),
         "turns spent" => Ok(RunEnd::TurnsSpent),
         "no memory" => Ok(RunEnd::NoMemory),
-        _ => Err(Fault::Malformed),
+        _ => Err(CaseError::Malformed),
     }
 }
 
 /// What is said of the end of a run over a file, if it has one, and an input with so many failures.
-pub(crate) fn run_end(alloc: Global, parts: &[Value]) -> Result<String, Fault> {
+pub(crate) fn run_end(alloc: Global, parts: &[Value]) -> Result<String, CaseError> {
     let end = end_of(text(parts, 1)?)?;
     let file = part(parts, 2)?.as_str();
-    let failures = part(parts, 3)?.as_u64().ok_or(Fault::Malformed)?;
+    let failures = part(parts, 3)?.as_u64().ok_or(CaseError::Malformed)?;
     complaint_told(alloc, complaint_of(end, file, failures))
 }
 
 /// What is said of a file that can't be opened.
-pub(crate) fn unopened(alloc: Global, parts: &[Value]) -> Result<String, Fault> {
+pub(crate) fn unopened(alloc: Global, parts: &[Value]) -> Result<String, CaseError> {
     complaint_told(alloc, Some(Complaint::Unopened(text(parts, 1)?)))
 }
 
 // The system's error of this number.
-fn cause(parts: &[Value]) -> Result<io::Error, Fault> {
-    let number = part(parts, 2)?.as_i64().ok_or(Fault::Malformed)?;
-    let number = i32::try_from(number).map_err(|_| Fault::Malformed)?;
+fn cause(parts: &[Value]) -> Result<io::Error, CaseError> {
+    let number = part(parts, 2)?.as_i64().ok_or(CaseError::Malformed)?;
+    let number = i32::try_from(number).map_err(|_| CaseError::Malformed)?;
     Ok(io::Error::from_raw_os_error(number))
 }
 
 /// What is said of a file that can't be opened for an error of this number.
-pub(crate) fn unopened_for(alloc: Global, parts: &[Value]) -> Result<String, Fault> {
+pub(crate) fn unopened_for(alloc: Global, parts: &[Value]) -> Result<String, CaseError> {
     let file = text(parts, 1)?;
     let cause = cause(parts)?;
     complaint_told(alloc, Some(Complaint::UnopenedFor { file, cause }))
 }
 
 /// What is said of an address where nothing can be done for an error of this number.
-pub(crate) fn unreached(alloc: Global, parts: &[Value]) -> Result<String, Fault> {
+pub(crate) fn unreached(alloc: Global, parts: &[Value]) -> Result<String, CaseError> {
     let address = text(parts, 1)?
         .parse::<SocketAddr>()
-        .map_err(|_| Fault::Malformed)?;
+        .map_err(|_| CaseError::Malformed)?;
     let cause = cause(parts)?;
     let complaint = match text(parts, 0)? {
         "unlistened" => Complaint::Unlistened { address, cause },
@@ -169,6 +175,6 @@ pub(crate) fn unreached(alloc: Global, parts: &[Value]) -> Result<String, Fault>
 }
 
 /// What is said of a command line with a word that is no UTF-8.
-pub(crate) fn not_utf8(alloc: Global) -> Result<String, Fault> {
+pub(crate) fn not_utf8(alloc: Global) -> Result<String, CaseError> {
     complaint_told(alloc, Some(Complaint::NotUtf8))
 }

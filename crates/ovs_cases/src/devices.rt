@@ -1,7 +1,7 @@
 //! Counted devices: what is counted of one that answers an error, and of one that takes nothing.
 
 use crate::case::text;
-use crate::fault::Fault;
+use crate::case_error::CaseError;
 use ovs_wire::Counted;
 use serde_json::Value;
 use std::alloc::Global;
@@ -44,7 +44,7 @@ impl Write for Full {
 }
 
 // What was counted of a read, a write and a flush, and whether each answered the error.
-fn of_failing(alloc: Global, kind: ErrorKind) -> Result<String, Fault> {
+fn of_failing(alloc: Global, kind: ErrorKind) -> Result<String, CaseError> {
     let mut device = Counted::new(Failing { kind });
     let mut buf = [0; 4];
     let read = device.read(&mut buf).is_err();
@@ -55,7 +55,7 @@ fn of_failing(alloc: Global, kind: ErrorKind) -> Result<String, Fault> {
     Ok(format!(in alloc; "{calls} calls, {failures} failures, errors {read} {written} {flushed}")?)
 }
 
-fn of_full(alloc: Global) -> Result<String, Fault> {
+fn of_full(alloc: Global) -> Result<String, CaseError> {
     let mut device = Counted::new(Full);
     let some = matches!(device.write(b"a"), Ok(0));
     let none = matches!(device.write(b""), Ok(0));
@@ -65,12 +65,12 @@ fn of_full(alloc: Global) -> Result<String, Fault> {
 }
 
 // Reads of three bytes by two at a time, up to the end.
-fn of_bytes(alloc: Global) -> Result<String, Fault> {
+fn of_bytes(alloc: Global) -> Result<String, CaseError> {
     let mut device = Counted::new(b"abc".as_slice());
     let mut buf = [0; 2];
     let mut told = String::new(alloc);
     for _ in 0..3u8 {
-        let len = device.read(&mut buf).map_err(|_| Fault::Malformed)?;
+        let len = device.read(&mut buf).map_err(|_| CaseError::Malformed)?;
         let len = format!(in alloc; "{len} ")?;
         told.push_str(len.as_str())?;
     }
@@ -82,7 +82,7 @@ fn of_bytes(alloc: Global) -> Result<String, Fault> {
 
 /// `["counted", KIND]`: what is counted of a device that answers this kind of error, of one that is `full`, or of
 /// `bytes`.
-pub(crate) fn counted(alloc: Global, parts: &[Value]) -> Result<String, Fault> {
+pub(crate) fn counted(alloc: Global, parts: &[Value]) -> Result<String, CaseError> {
     let kind = match text(parts, 1)? {
         "full" => return of_full(alloc),
         "bytes" => return of_bytes(alloc),
@@ -93,7 +93,7 @@ pub(crate) fn counted(alloc: Global, parts: &[Value]) -> Result<String, Fault> {
         "BrokenPipe" => ErrorKind::BrokenPipe,
         "OutOfMemory" => ErrorKind::OutOfMemory,
         "Other" => ErrorKind::Other,
-        _ => return Err(Fault::Malformed),
+        _ => return Err(CaseError::Malformed),
     };
     of_failing(alloc, kind)
 }

@@ -2,7 +2,7 @@
 //! it, `0` for the id of zeros and `r` for a row's.
 
 use crate::case::list;
-use crate::fault::Fault;
+use crate::case_error::CaseError;
 use crate::streams::add_bytes_of;
 use ovs_fold_script::fold_run;
 use ovs_script::RunEnd;
@@ -21,7 +21,7 @@ const IDS: [(&str, &str); 6] = [
 ];
 
 // The text with one part in the place of another, wherever that stands.
-fn replaced(alloc: Global, text: &str, part: &str, by: &str) -> Result<String, Fault> {
+fn replaced(alloc: Global, text: &str, part: &str, by: &str) -> Result<String, CaseError> {
     let mut told = String::new(alloc);
     for (number, between) in text.split(part).enumerate() {
         if number > 0 {
@@ -33,7 +33,7 @@ fn replaced(alloc: Global, text: &str, part: &str, by: &str) -> Result<String, F
 }
 
 /// A line as it is read: each text of one letter is spelled out.
-pub(crate) fn spelled_out(alloc: Global, line: &Value) -> Result<String, Fault> {
+pub(crate) fn spelled_out(alloc: Global, line: &Value) -> Result<String, CaseError> {
     let mut text = line.to_string(alloc)?;
     for (letter, id) in IDS {
         let short = format!(in alloc; "\"{letter}\"")?;
@@ -44,7 +44,7 @@ pub(crate) fn spelled_out(alloc: Global, line: &Value) -> Result<String, Fault> 
 }
 
 /// What was written in one line, the ids as letters.
-pub(crate) fn shortened(alloc: Global, text: &str) -> Result<String, Fault> {
+pub(crate) fn shortened(alloc: Global, text: &str) -> Result<String, CaseError> {
     let mut text = replaced(alloc, text, "\n", " | ")?;
     for (letter, id) in IDS {
         text = replaced(alloc, text.as_str(), id, letter)?;
@@ -53,7 +53,11 @@ pub(crate) fn shortened(alloc: Global, text: &str) -> Result<String, Fault> {
 }
 
 /// Adds lines: a text is one as it stands, any other value its JSON.
-pub(crate) fn add_lines(alloc: Global, text: &mut Vec<u8>, lines: &[Value]) -> Result<(), Fault> {
+pub(crate) fn add_lines(
+    alloc: Global,
+    text: &mut Vec<u8>,
+    lines: &[Value],
+) -> Result<(), CaseError> {
     for line in lines {
         match line {
             Value::String(line) => text.extend_from_slice(line.as_bytes())?,
@@ -77,7 +81,7 @@ pub(crate) fn end_word(end: RunEnd) -> &'static str {
 }
 
 /// The line that gives a schema.
-pub(crate) fn schema_line(alloc: Global, schema: &Schema) -> Result<Vec<u8>, Fault> {
+pub(crate) fn schema_line(alloc: Global, schema: &Schema) -> Result<Vec<u8>, CaseError> {
     let mut line = Vec::new(alloc);
     let schema = schema.to_json()?;
     line.extend_from_slice(schema.to_string(alloc)?.as_bytes())?;
@@ -86,7 +90,7 @@ pub(crate) fn schema_line(alloc: Global, schema: &Schema) -> Result<Vec<u8>, Fau
 }
 
 /// The pieces one after another.
-pub(crate) fn bytes_of_pieces(alloc: Global, pieces: &[Value]) -> Result<Vec<u8>, Fault> {
+pub(crate) fn bytes_of_pieces(alloc: Global, pieces: &[Value]) -> Result<Vec<u8>, CaseError> {
     let mut bytes = Vec::new(alloc);
     for piece in pieces {
         add_bytes_of(alloc, &mut bytes, piece)?;
@@ -95,9 +99,9 @@ pub(crate) fn bytes_of_pieces(alloc: Global, pieces: &[Value]) -> Result<Vec<u8>
 }
 
 /// What a run has written, and how it ended.
-pub(crate) fn told(alloc: Global, written: Vec<u8>, end: RunEnd) -> Result<String, Fault> {
+pub(crate) fn told(alloc: Global, written: Vec<u8>, end: RunEnd) -> Result<String, CaseError> {
     let Ok(text) = std::str::from_utf8(written.as_slice()) else {
-        return Err(Fault::Malformed);
+        return Err(CaseError::Malformed);
     };
     let text = shortened(alloc, text)?;
     let end = end_word(end);
@@ -105,7 +109,7 @@ pub(crate) fn told(alloc: Global, written: Vec<u8>, end: RunEnd) -> Result<Strin
 }
 
 // What is written, how the run ended, and whether a second text stayed unread.
-fn run(alloc: Global, input: &[u8], second: Option<&[u8]>) -> Result<String, Fault> {
+fn run(alloc: Global, input: &[u8], second: Option<&[u8]>) -> Result<String, CaseError> {
     let mut reader = Counted::new(input);
     let mut merge = second.map(Counted::new);
     let mut writer = Counted::new(Vec::new(alloc));
@@ -119,7 +123,7 @@ fn run(alloc: Global, input: &[u8], second: Option<&[u8]>) -> Result<String, Fau
 }
 
 /// `["fold", [LINK, ..]]`, or with the links of a file as a second list: the schema in use, and then these lines.
-pub(crate) fn fold(alloc: Global, schema: &Schema, parts: &[Value]) -> Result<String, Fault> {
+pub(crate) fn fold(alloc: Global, schema: &Schema, parts: &[Value]) -> Result<String, CaseError> {
     let mut input = schema_line(alloc, schema)?;
     add_lines(alloc, &mut input, list(parts, 1)?)?;
     if parts.len() == 2 {
@@ -131,7 +135,7 @@ pub(crate) fn fold(alloc: Global, schema: &Schema, parts: &[Value]) -> Result<St
 }
 
 /// `["fold bytes", [PIECE, ..]]`, or with a file's as a second list: the pieces one after another are what is read.
-pub(crate) fn fold_bytes(alloc: Global, parts: &[Value]) -> Result<String, Fault> {
+pub(crate) fn fold_bytes(alloc: Global, parts: &[Value]) -> Result<String, CaseError> {
     let input = bytes_of_pieces(alloc, list(parts, 1)?)?;
     if parts.len() == 2 {
         return run(alloc, input.as_slice(), None);

@@ -5,7 +5,7 @@ ghost use Rattle.ovs_links.specs.Sets.{IsOfTables};
 ghost use Rattle.ovs_links.specs.Store.{tables_of};
 
 use crate::case::add;
-use crate::fault::Fault;
+use crate::case_error::CaseError;
 use ovs_links::{By, Link, LinkStore, MergeError, Settled, TakeError, Took};
 use ovs_rows::Change;
 use ovs_types::{NoMemory, Schema, TxnId};
@@ -13,9 +13,9 @@ use serde_json::Value;
 use std::alloc::Global;
 
 // What a call answered, and two ids: at a fork those of the held link, of a link that is handed back its own, else zeros.
-type Told = (&'static str, u128, u128);
+type CallOutcome = (&'static str, u128, u128);
 
-const OUT_OF_MEMORY: Told = ("out of memory", 0, 0);
+const OUT_OF_MEMORY: CallOutcome = ("out of memory", 0, 0);
 
 // The id of the k-th link of the chain.
 fn along(k: u32) -> u128 {
@@ -58,14 +58,14 @@ fn link(alloc: Global, schema: &Schema, prev: u128, id: u128) -> Result<Link, No
     }
 }
 
-fn fork_told(by: By, prev: TxnId, id: TxnId) -> Told {
+fn fork_told(by: By, prev: TxnId, id: TxnId) -> CallOutcome {
     match by {
         By::Prev => ("fork by prev", u128::from(prev), u128::from(id)),
         By::Id => ("fork by id", u128::from(prev), u128::from(id)),
     }
 }
 
-fn refusal_told(error: &TakeError) -> Told {
+fn refusal_told(error: &TakeError) -> CallOutcome {
     match error {
         TakeError::Fork {
             by,
@@ -78,7 +78,7 @@ fn refusal_told(error: &TakeError) -> Told {
     }
 }
 
-fn take(alloc: Global, store: &mut LinkStore, prev: u128, id: u128) -> Told
+fn take(alloc: Global, store: &mut LinkStore, prev: u128, id: u128) -> CallOutcome
     ensures tables { tables_of store.new ≡ tables_of store.old }
 {
     let Ok(link) = link(alloc, store.schema(), prev, id) else {
@@ -105,7 +105,7 @@ fn store_of(
     Ok(store)
 }
 
-fn merge_refusal_told(error: &MergeError) -> Told {
+fn merge_refusal_told(error: &MergeError) -> CallOutcome {
     match error {
         MergeError::Fork {
             by,
@@ -118,7 +118,7 @@ fn merge_refusal_told(error: &MergeError) -> Told {
 }
 
 // Merges a store of one link.
-fn merge(alloc: Global, store: &mut LinkStore, prev: u128, id: u128) -> Told {
+fn merge(alloc: Global, store: &mut LinkStore, prev: u128, id: u128) -> CallOutcome {
     let Ok(other) = store_of(alloc, store.schema(), prev, id) else {
         return OUT_OF_MEMORY;
     };
@@ -129,7 +129,7 @@ fn merge(alloc: Global, store: &mut LinkStore, prev: u128, id: u128) -> Told {
 }
 
 // Settles the store, and tells how many links are folded then, and how many aren't.
-fn settle(alloc: Global, store: &mut LinkStore) -> Told {
+fn settle(alloc: Global, store: &mut LinkStore) -> CallOutcome {
     let told = match store.settle(alloc) {
         Ok(Settled::Done) => "done",
         Ok(Settled::Stuck(_)) => "stuck",
@@ -139,7 +139,7 @@ fn settle(alloc: Global, store: &mut LinkStore) -> Told {
 }
 
 // Takes the links of a chain of so many, and tells the first answer that isn't "new", or the last one.
-fn fill(alloc: Global, store: &mut LinkStore, links: u32) -> Told {
+fn fill(alloc: Global, store: &mut LinkStore, links: u32) -> CallOutcome {
     let mut prev = 0;
     let mut told = ("new", 0, 0);
     for k in 1..=links {
@@ -152,13 +152,13 @@ fn fill(alloc: Global, store: &mut LinkStore, links: u32) -> Told {
     told
 }
 
-fn add_told(alloc: Global, answers: &mut String, told: Told) -> Result<(), Fault> {
+fn add_told(alloc: Global, answers: &mut String, told: CallOutcome) -> Result<(), CaseError> {
     let (word, first, second) = told;
     let answer = format!(in alloc; "{word} {first} {second}")?;
     add(answers, answer.as_str())
 }
 
-fn add_held(alloc: Global, answers: &mut String, store: &LinkStore) -> Result<(), Fault> {
+fn add_held(alloc: Global, answers: &mut String, store: &LinkStore) -> Result<(), CaseError> {
     let held = store.len();
     add(answers, format!(in alloc; "holds {held}")?.as_str())
 }
@@ -170,7 +170,7 @@ fn add_asked(
     prev: u128,
     id: u128,
     answers: &mut String,
-) -> Result<(), Fault> {
+) -> Result<(), CaseError> {
     let taken = take(alloc, store, prev, id);
     add_told(alloc, answers, taken)?;
     add_held(alloc, answers, store)?;
@@ -181,7 +181,7 @@ fn add_asked(
 
 /// Fills a store and settles it, and asks it then for a link that it holds, for one that contradicts it, and for one too
 /// many.
-pub(crate) fn full_store(alloc: Global) -> Result<String, Fault> {
+pub(crate) fn full_store(alloc: Global) -> Result<String, CaseError> {
     let mut store = empty_store(alloc)?;
     let filled = fill(alloc, &mut store, 1_000_000);
     let settled = settle(alloc, &mut store);

@@ -1,13 +1,13 @@
 //! Ids and names.
 
 use crate::case::{text, word};
-use crate::fault::Fault;
+use crate::case_error::CaseError;
 use ovs_types::{RowId, TxnId, is_id, is_name};
 use serde_json::Value;
 use std::alloc::Global;
 
 /// `["id", TEXT]`: the id in lower case, and whether it is a start id or that of a commit.
-pub(crate) fn id(alloc: Global, parts: &[Value]) -> Result<String, Fault> {
+pub(crate) fn id(alloc: Global, parts: &[Value]) -> Result<String, CaseError> {
     match TxnId::read(text(parts, 1)?) {
         Ok(id) => {
             let text = id.to_text(alloc)?;
@@ -19,7 +19,7 @@ pub(crate) fn id(alloc: Global, parts: &[Value]) -> Result<String, Fault> {
 }
 
 /// `["row id", TEXT]`: the id in lower case, and its number.
-pub(crate) fn row_id(alloc: Global, parts: &[Value]) -> Result<String, Fault> {
+pub(crate) fn row_id(alloc: Global, parts: &[Value]) -> Result<String, CaseError> {
     match RowId::read(text(parts, 1)?) {
         Ok(id) => {
             let text = id.to_text(alloc)?;
@@ -31,7 +31,7 @@ pub(crate) fn row_id(alloc: Global, parts: &[Value]) -> Result<String, Fault> {
 }
 
 /// `["name", TEXT]`: whether it is an `<id>`, and one that isn't reserved.
-pub(crate) fn name(alloc: Global, parts: &[Value]) -> Result<String, Fault> {
+pub(crate) fn name(alloc: Global, parts: &[Value]) -> Result<String, CaseError> {
     let text = text(parts, 1)?;
     match (is_id(text), is_name(text)) {
         (true, true) => word(alloc, "name"),
@@ -42,14 +42,14 @@ pub(crate) fn name(alloc: Global, parts: &[Value]) -> Result<String, Fault> {
 }
 
 /// A commit's id: a letter stands for the id that is written with it, `0` for the start, other texts for themselves.
-pub(crate) fn commit(text: &str) -> Result<TxnId, Fault> {
+pub(crate) fn commit(text: &str) -> Result<TxnId, CaseError> {
     Ok(match text {
         "0" => TxnId::zero(),
         "a" => TxnId::from(0xaaaaaaaa_aaaa_4aaa_8aaa_aaaaaaaaaaaa),
         "b" => TxnId::from(0xbbbbbbbb_bbbb_4bbb_8bbb_bbbbbbbbbbbb),
         "c" => TxnId::from(0xcccccccc_cccc_4ccc_8ccc_cccccccccccc),
         "d" => TxnId::from(0xdddddddd_dddd_4ddd_8ddd_dddddddddddd),
-        _ => TxnId::read(text).map_err(|_| Fault::Malformed)?,
+        _ => TxnId::read(text).map_err(|_| CaseError::Malformed)?,
     })
 }
 

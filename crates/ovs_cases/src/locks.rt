@@ -1,62 +1,71 @@
 //! Locks of a server, asked for one after the other.
 
 use crate::case::{add, list, part, text, word};
-use crate::fault::{Fault, is_refused};
+use crate::case_error::{CaseError, is_refused};
+use ovs_json::SessionId;
 use ovs_locks::{LockError, LockNotice, LockTable};
 use ovs_types::Text;
 use serde_json::Value;
 use std::alloc::Global;
 
-fn session(parts: &[Value]) -> Result<u64, Fault> {
-    part(parts, 1)?.as_u64().ok_or(Fault::Malformed)
+fn session(parts: &[Value]) -> Result<SessionId, CaseError> {
+    part(parts, 1)?.as_u64().ok_or(CaseError::Malformed)
 }
 
-fn name(alloc: Global, parts: &[Value], at: usize) -> Result<Text, Fault> {
+fn name(alloc: Global, parts: &[Value], at: usize) -> Result<Text, CaseError> {
     Ok(Text::new(alloc, text(parts, at)?)?)
 }
 
-fn asked(alloc: Global, answer: Result<bool, LockError>) -> Result<String, Fault> {
+fn asked(alloc: Global, answer: Result<bool, LockError>) -> Result<String, CaseError> {
     match answer {
         Ok(true) => word(alloc, "true"),
         Ok(false) => word(alloc, "false"),
-        Err(LockError::NoMemory) => Err(Fault::Refused),
+        Err(LockError::NoMemory) => Err(CaseError::Refused),
         Err(LockError::BadLock) => word(alloc, "bad lock"),
         Err(LockError::AlreadyAsked) => word(alloc, "already asked"),
         Err(LockError::TooMany) => word(alloc, "too many requests"),
     }
 }
 
-fn owner(alloc: Global, locks: &LockTable, parts: &[Value]) -> Result<String, Fault> {
+fn owner(alloc: Global, locks: &LockTable, parts: &[Value]) -> Result<String, CaseError> {
     match locks.owner(&name(alloc, parts, 1)?) {
-        Some(who) => Ok(format!(in alloc; "{who}")?),
+        Some(session_id) => Ok(format!(in alloc; "{session_id}")?),
         None => word(alloc, "nobody"),
     }
 }
 
-fn notice(alloc: Global, notice: &LockNotice) -> Result<String, Fault> {
+fn notice(alloc: Global, notice: &LockNotice) -> Result<String, CaseError> {
     match notice {
         LockNotice::Locked(name) => Ok(format!(in alloc; "locked {}", name.as_str())?),
         LockNotice::Stolen(name) => Ok(format!(in alloc; "stolen {}", name.as_str())?),
     }
 }
 
-fn notices(alloc: Global, locks: &mut LockTable, who: u64) -> Result<String, Fault> {
+fn notices(
+    alloc: Global,
+    locks: &mut LockTable,
+    session_id: SessionId,
+) -> Result<String, CaseError> {
     let mut told = String::from_str(alloc, "told")?;
-    for one in locks.notices(alloc, who).ok().ok_or(Fault::Refused)? {
+    for one in locks
+        .notices(alloc, session_id)
+        .ok()
+        .ok_or(CaseError::Refused)?
+    {
         told.push(' ')?;
         told.push_str(notice(alloc, &one)?.as_str())?;
     }
     Ok(told)
 }
 
-fn unlock(alloc: Global, locks: &mut LockTable, parts: &[Value]) -> Result<String, Fault> {
+fn unlock(alloc: Global, locks: &mut LockTable, parts: &[Value]) -> Result<String, CaseError> {
     match locks.unlock(session(parts)?, &name(alloc, parts, 2)?) {
         Ok(()) => word(alloc, "ok"),
         Err(_) => word(alloc, "never asked"),
     }
 }
 
-fn event(alloc: Global, locks: &mut LockTable, parts: &[Value]) -> Result<String, Fault> {
+fn event(alloc: Global, locks: &mut LockTable, parts: &[Value]) -> Result<String, CaseError> {
     match text(parts, 0)? {
         "lock" => {
             let name = name(alloc, parts, 2)?;
@@ -73,12 +82,12 @@ fn event(alloc: Global, locks: &mut LockTable, parts: &[Value]) -> Result<String
             locks.end_session(session(parts)?);
             word(alloc, "ok")
         }
-        _ => Err(Fault::Malformed),
+        _ => Err(CaseError::Malformed),
     }
 }
 
 // Carries out an event (`event`). Where there is no memory for its call nothing is changed, and it is called again.
-fn event_again(alloc: Global, locks: &mut LockTable, parts: &[Value]) -> Result<String, Fault> {
+fn event_again(alloc: Global, locks: &mut LockTable, parts: &[Value]) -> Result<String, CaseError> {
     let answer = event(alloc, locks, parts);
     if !is_refused(&answer) {
         return answer;
@@ -88,11 +97,11 @@ fn event_again(alloc: Global, locks: &mut LockTable, parts: &[Value]) -> Result<
 
 /// `["locks", [EVENT, ..]]`, where an event is `["lock", SESSION, NAME]`, `["steal", SESSION, NAME]`, `["unlock", SESSION,
 /// NAME]`, `["owner", NAME]`, `["told", SESSION]` or `["end", SESSION]`: what each answers.
-pub(crate) fn locks(alloc: Global, parts: &[Value]) -> Result<String, Fault> {
+pub(crate) fn locks(alloc: Global, parts: &[Value]) -> Result<String, CaseError> {
     let mut locks = LockTable::new(alloc);
     let mut answers = String::new(alloc);
     for one in list(parts, 1)? {
-        let parts = one.as_array().ok_or(Fault::Malformed)?;
+        let parts = one.as_array().ok_or(CaseError::Malformed)?;
         let answer = event_again(alloc, &mut locks, parts.as_slice())?;
         add(&mut answers, answer.as_str())?;
     }

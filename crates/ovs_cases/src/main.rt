@@ -6,13 +6,13 @@
 
 mod authorities;
 mod case;
+mod case_error;
 mod changes;
 mod columns;
 mod commands;
 mod data;
 mod desks;
 mod devices;
-mod fault;
 mod folds;
 mod forwards;
 mod full_stores;
@@ -30,21 +30,25 @@ mod stories;
 mod streams;
 mod upstreams;
 
-use fault::Fault;
+use case_error::CaseError;
 use ovs_types::Schema;
 use serde_json::Value;
 use std::alloc::Global;
 use std::io::{self, BufRead, BufReader};
 
 // What a case answers.
-fn answer_of(alloc: Global, schema: &mut Option<Box<Schema>>, case: &str) -> Result<String, Fault> {
+fn answer_of(
+    alloc: Global,
+    schema: &mut Option<Box<Schema>>,
+    case: &str,
+) -> Result<String, CaseError> {
     let case = Value::from_str(alloc, case)?;
-    let parts = case.as_array().ok_or(Fault::Malformed)?;
+    let parts = case.as_array().ok_or(CaseError::Malformed)?;
     case::answer(alloc, schema, parts.as_slice())
 }
 
 // The same, with a fault as text.
-fn told(alloc: Global, schema: &mut Option<Box<Schema>>, case: &str) -> Result<String, Fault> {
+fn told(alloc: Global, schema: &mut Option<Box<Schema>>, case: &str) -> Result<String, CaseError> {
     match answer_of(alloc, schema, case) {
         Ok(answer) => Ok(answer),
         Err(fault) => Ok(String::from_str(alloc, fault.word())?),

@@ -5,8 +5,8 @@ ghost use Rattle.ovs_query.specs.Updates.{AreTouchedOf};
 ghost use Rattle.ovs_query.specs.View.{IsMonitorOf};
 
 use crate::case::{add, list, part, text, word};
+use crate::case_error::CaseError;
 use crate::changes::{after, applied};
-use crate::fault::Fault;
 use ovs_query::{Monitor, Notation, QueryError, read_only, transact_read};
 use ovs_rows::{Applied, Database};
 use ovs_types::Schema;
@@ -14,7 +14,11 @@ use serde_json::Value;
 use std::alloc::Global;
 
 /// `["transact", [CHANGE, ..], [OPERATION, ..]]`: the results from the database after the changes.
-pub(crate) fn transact(alloc: Global, schema: &Schema, parts: &[Value]) -> Result<String, Fault> {
+pub(crate) fn transact(
+    alloc: Global,
+    schema: &Schema,
+    parts: &[Value],
+) -> Result<String, CaseError> {
     let operations = list(parts, 2)?;
     if !read_only(operations) {
         return word(alloc, "not read-only");
@@ -28,41 +32,49 @@ pub(crate) fn transact(alloc: Global, schema: &Schema, parts: &[Value]) -> Resul
     Ok(results.to_string(alloc)?)
 }
 
-fn notation(parts: &[Value]) -> Result<Notation, Fault> {
+fn notation(parts: &[Value]) -> Result<Notation, CaseError> {
     match text(parts, 1)? {
         "update" => Ok(Notation::Update),
         "update2" => Ok(Notation::Update2),
         "update3" => Ok(Notation::Update3),
-        _ => Err(Fault::Malformed),
+        _ => Err(CaseError::Malformed),
     }
 }
 
 /// `["monitor", NOTATION, REQUESTS]`: `ok`, or why there is no such monitor.
-pub(crate) fn monitor(alloc: Global, schema: &Schema, parts: &[Value]) -> Result<String, Fault> {
+pub(crate) fn monitor(
+    alloc: Global,
+    schema: &Schema,
+    parts: &[Value],
+) -> Result<String, CaseError> {
     match Monitor::read(alloc, notation(parts)?, part(parts, 2)?, schema) {
         Ok(_) => word(alloc, "ok"),
-        Err(QueryError::NoMemory) => Err(Fault::NoMemory),
+        Err(QueryError::NoMemory) => Err(CaseError::NoMemory),
         Err(fault) => word(alloc, fault.text()),
     }
 }
 
-fn read(alloc: Global, schema: &Schema, parts: &[Value]) -> Result<Monitor, Fault>
+fn read(alloc: Global, schema: &Schema, parts: &[Value]) -> Result<Monitor, CaseError>
     ensures tables { IfOk result (λ monitor. IsMonitorOf schema.now.description.tables monitor.watches) }
 {
     match Monitor::read(alloc, notation(parts)?, part(parts, 2)?, schema) {
         Ok(monitor) => Ok(monitor),
-        Err(_) => Err(Fault::Malformed),
+        Err(_) => Err(CaseError::Malformed),
     }
 }
 
-fn shown(alloc: Global, monitor: &Monitor, database: &Database) -> Result<String, Fault>
+fn shown(alloc: Global, monitor: &Monitor, database: &Database) -> Result<String, CaseError>
     requires monitor { IsMonitorOf database.now.schema.description.tables monitor.now.watches }
 {
     Ok(monitor.initial(alloc, database)?.to_string(alloc)?)
 }
 
 /// `["initial", NOTATION, REQUESTS, [CHANGE, ..]]`: what a monitor shows at first of the database after the changes.
-pub(crate) fn initial(alloc: Global, schema: &Schema, parts: &[Value]) -> Result<String, Fault> {
+pub(crate) fn initial(
+    alloc: Global,
+    schema: &Schema,
+    parts: &[Value],
+) -> Result<String, CaseError> {
     let monitor = read(alloc, schema, parts)?;
     let database = after(alloc, schema, list(parts, 3)?)?;
     shown(alloc, &monitor, &database)
@@ -75,7 +87,7 @@ fn told(
     monitor: &Monitor,
     notation: Notation,
     applied: &Applied,
-) -> Result<String, Fault>
+) -> Result<String, CaseError>
     requires monitor { IsMonitorOf schema.now.description.tables monitor.now.watches }
     requires touched { AreTouchedOf schema.now.description.tables applied.now }
 {
@@ -93,7 +105,7 @@ fn step(
     notation: Notation,
     change: &Value,
     number: usize,
-) -> Result<String, Fault>
+) -> Result<String, CaseError>
     requires monitor { IsMonitorOf database.old.schema.description.tables monitor.now.watches }
     ensures schema { database.new.schema ≡ database.old.schema }
 {
@@ -109,7 +121,7 @@ fn steps(
     notation: Notation,
     changes: &[Value],
     first: usize,
-) -> Result<String, Fault>
+) -> Result<String, CaseError>
     requires monitor { IsMonitorOf database.old.schema.description.tables monitor.now.watches }
 {
     let mut lines = String::new(alloc);
@@ -122,7 +134,11 @@ fn steps(
 }
 
 /// `["updates", NOTATION, REQUESTS, [CHANGE, ..], [CHANGE, ..]]`: what a monitor tells of each of the last changes.
-pub(crate) fn updates(alloc: Global, schema: &Schema, parts: &[Value]) -> Result<String, Fault> {
+pub(crate) fn updates(
+    alloc: Global,
+    schema: &Schema,
+    parts: &[Value],
+) -> Result<String, CaseError> {
     let notation = notation(parts)?;
     let before = list(parts, 3)?;
     let changes = list(parts, 4)?;

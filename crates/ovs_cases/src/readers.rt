@@ -6,7 +6,7 @@ ghost use Rattle.ovs_links.specs.Store.{IsStore};
 ghost use Rattle.ovs_reader.specs.Session.{MayBeShown};
 
 use crate::case::{add, list, text, word};
-use crate::fault::{Fault, is_refused};
+use crate::case_error::{CaseError, is_refused, is_so};
 use crate::folds::{shortened, spelled_out};
 use crate::messages::text_of;
 use crate::stores::take;
@@ -28,16 +28,16 @@ fn verb_text(verb: &Verb) -> &'static str {
     }
 }
 
-fn turn_text(alloc: Global, turn: &Turn) -> Result<String, Fault> {
+fn turn_text(alloc: Global, turn: &Turn) -> Result<String, CaseError> {
     match (&turn.out, &turn.ask) {
         (Some(message), None) => text_of(alloc, message),
         (None, Some(ask)) => Ok(format!(in alloc; "ask {}", verb_text(&ask.verb))?),
         (None, None) => word(alloc, "nothing"),
-        (Some(_), Some(_)) => Err(Fault::Malformed),
+        (Some(_), Some(_)) => Err(CaseError::Malformed),
     }
 }
 
-fn messages_text(alloc: Global, messages: &[Message]) -> Result<String, Fault> {
+fn messages_text(alloc: Global, messages: &[Message]) -> Result<String, CaseError> {
     let mut told = String::new(alloc);
     for message in messages {
         if !told.is_empty() {
@@ -52,7 +52,7 @@ fn messages_text(alloc: Global, messages: &[Message]) -> Result<String, Fault> {
 }
 
 // Folds the chain.
-fn fold(alloc: Global, store: &mut LinkStore, session: &ReaderSession) -> Result<(), Fault>
+fn fold(alloc: Global, store: &mut LinkStore, session: &ReaderSession) -> Result<(), CaseError>
     requires shown { MayBeShown session.now (folded_of store.old.schema store.old.folded) }
     ensures shown { MayBeShown session.now (folded_of store.new.schema store.new.folded) }
 {
@@ -67,12 +67,12 @@ fn learn(
     store: &mut LinkStore,
     session: &ReaderSession,
     link: &Value,
-) -> Result<String, Fault>
+) -> Result<String, CaseError>
     requires shown { MayBeShown session.now (folded_of store.old.schema store.old.folded) }
     ensures shown { MayBeShown session.now (folded_of store.new.schema store.new.folded) }
 {
     let link = Value::from_str(alloc, spelled_out(alloc, link)?.as_str())?;
-    let parts = link.as_array().ok_or(Fault::Malformed)?;
+    let parts = link.as_array().ok_or(CaseError::Malformed)?;
     let told = take(alloc, store, parts.as_slice())?;
     fold(alloc, store, session)?;
     Ok(told)
@@ -83,7 +83,7 @@ fn answer(
     store: &LinkStore,
     session: &mut ReaderSession,
     message: &Value,
-) -> Result<String, Fault>
+) -> Result<String, CaseError>
     requires shown { MayBeShown session.old (folded_of store.now.schema store.now.folded) }
     ensures shown { MayBeShown session.new (folded_of store.now.schema store.now.folded) }
 {
@@ -92,7 +92,7 @@ fn answer(
     turn_text(alloc, &turn)
 }
 
-fn pump(alloc: Global, store: &LinkStore, session: &mut ReaderSession) -> Result<String, Fault>
+fn pump(alloc: Global, store: &LinkStore, session: &mut ReaderSession) -> Result<String, CaseError>
     requires shown { MayBeShown session.old (folded_of store.now.schema store.now.folded) }
     ensures shown { MayBeShown session.new (folded_of store.now.schema store.now.folded) }
 {
@@ -100,7 +100,7 @@ fn pump(alloc: Global, store: &LinkStore, session: &mut ReaderSession) -> Result
     messages_text(alloc, messages.as_slice())
 }
 
-fn end(alloc: Global, store: &LinkStore, session: &mut ReaderSession) -> Result<String, Fault>
+fn end(alloc: Global, store: &LinkStore, session: &mut ReaderSession) -> Result<String, CaseError>
     requires shown { MayBeShown session.old (folded_of store.now.schema store.now.folded) }
     ensures shown { MayBeShown session.new (folded_of store.now.schema store.now.folded) }
 {
@@ -113,7 +113,7 @@ fn event(
     store: &mut LinkStore,
     session: &mut ReaderSession,
     event: &Value,
-) -> Result<String, Fault>
+) -> Result<String, CaseError>
     requires shown { MayBeShown session.old (folded_of store.old.schema store.old.folded) }
     ensures shown { MayBeShown session.new (folded_of store.new.schema store.new.folded) }
 {
@@ -127,13 +127,23 @@ fn event(
     }
 }
 
+// Whether memory isn't taken to say what comes of a message of the client: it means nothing, the source is asked to transact, or a
+// monitor goes.
+fn is_told_at_once(message: &Value, answer: &str) -> bool {
+    let method = message.get("method").and_then(Value::as_str);
+    match answer {
+        "nothing" | "ask transact" => true,
+        _ => method == Some("monitor_cancel") && answer.split_once("\"error\":null").is_some(),
+    }
+}
+
 // Carries out an event (`event`). Where there is no memory for its call nothing is changed, and it is called again.
 fn event_again(
     alloc: Global,
     store: &mut LinkStore,
     session: &mut ReaderSession,
     one: &Value,
-) -> Result<String, Fault>
+) -> Result<String, CaseError>
     requires shown { MayBeShown session.old (folded_of store.old.schema store.old.folded) }
     ensures shown { MayBeShown session.new (folded_of store.new.schema store.new.folded) }
 {
@@ -141,10 +151,12 @@ fn event_again(
     if !is_refused(&answer) {
         return answer;
     }
-    event(alloc, store, session, one)
+    let answer = event(alloc, store, session, one)?;
+    is_so(one.as_array().is_some() || !is_told_at_once(one, answer.as_str()))?;
+    Ok(answer)
 }
 
-fn new_store(alloc: Global, schema: &Schema) -> Result<(LinkStore, ReaderSession), Fault>
+fn new_store(alloc: Global, schema: &Schema) -> Result<(LinkStore, ReaderSession), CaseError>
     ensures shown { IfOk result (λ p. MayBeShown p.1 (folded_of p.0.schema p.0.folded)) }
 {
     what_a_store_folded_may_be_shown();
@@ -159,7 +171,7 @@ fn answers(
     store: &mut LinkStore,
     session: &mut ReaderSession,
     events: &[Value],
-) -> Result<String, Fault>
+) -> Result<String, CaseError>
     requires shown { MayBeShown session.old (folded_of store.old.schema store.old.folded) }
 {
     let mut answers = String::new(alloc);
@@ -172,7 +184,7 @@ fn answers(
 
 /// `["reader", [EVENT, ..]]`, where an event is a link as `[ID, ID, CHANGE]`, `["pump"]`, `["end"]`, or a message of the client:
 /// how the link was taken; the notifications; and the reply, or what the source is asked.
-pub(crate) fn reader(alloc: Global, schema: &Schema, parts: &[Value]) -> Result<String, Fault> {
+pub(crate) fn reader(alloc: Global, schema: &Schema, parts: &[Value]) -> Result<String, CaseError> {
     let events = list(parts, 1)?;
     let (mut store, mut session) = new_store(alloc, schema)?;
     answers(alloc, &mut store, &mut session, events)

@@ -5,10 +5,10 @@ ghost use Rattle.std.specs.Fmt.{decimal};
 ghost use Rattle.std.specs.Option.{option_map_or};
 
 use crate::case::part;
-use crate::fault::Fault;
+use crate::case_error::CaseError;
 use crate::folds::end_word;
 use crate::streams::bytes_of;
-use ovs_script::{Closing, Script, run_script};
+use ovs_script::{Script, ScriptEnd, run_script};
 use ovs_types::NoMemory;
 use ovs_wire::Counted;
 use serde_json::Value;
@@ -94,9 +94,9 @@ impl Script for Lengths {
         self.heard == self.most
     }
 
-    fn close(&mut self, alloc: Global) -> Result<Closing, NoMemory> {
+    fn close(&mut self, alloc: Global) -> Result<ScriptEnd, NoMemory> {
         let text = last_text(alloc, self.heard)?;
-        Ok(Closing {
+        Ok(ScriptEnd {
             text,
             is_content: self.heard < self.most,
         })
@@ -160,14 +160,14 @@ impl Write for Narrow {
     }
 }
 
-fn number(parts: &[Value], at: usize) -> Result<u64, Fault> {
-    part(parts, at)?.as_u64().ok_or(Fault::Malformed)
+fn number(parts: &[Value], at: usize) -> Result<u64, CaseError> {
+    part(parts, at)?.as_u64().ok_or(CaseError::Malformed)
 }
 
 // What was written, on one line, and then the rest.
-fn told(alloc: Global, written: &[u8], rest: &str) -> Result<String, Fault> {
+fn told(alloc: Global, written: &[u8], rest: &str) -> Result<String, CaseError> {
     let Ok(text) = std::str::from_utf8(written) else {
-        return Err(Fault::Malformed);
+        return Err(CaseError::Malformed);
     };
     let mut told = String::new(alloc);
     for (number, line) in text.split('\n').enumerate() {
@@ -180,7 +180,7 @@ fn told(alloc: Global, written: &[u8], rest: &str) -> Result<String, Fault> {
     Ok(told)
 }
 
-fn run(alloc: Global, text: &[u8], most: u64, gives: u64, room: u64) -> Result<String, Fault> {
+fn run(alloc: Global, text: &[u8], most: u64, gives: u64, room: u64) -> Result<String, CaseError> {
     let mut reader = Counted::new(Trickle {
         rest: text,
         gives,
@@ -202,7 +202,7 @@ fn run(alloc: Global, text: &[u8], most: u64, gives: u64, room: u64) -> Result<S
 
 /// `["script", PIECE, MOST, GIVES, ROOM]`: a script that hears at most so many lines of the bytes, over a reader that
 /// fails after so many reads and a writer that is full after so many bytes.
-pub(crate) fn script(alloc: Global, parts: &[Value]) -> Result<String, Fault> {
+pub(crate) fn script(alloc: Global, parts: &[Value]) -> Result<String, CaseError> {
     let text = bytes_of(alloc, part(parts, 1)?)?;
     let most = number(parts, 2)?;
     let gives = number(parts, 3)?;
@@ -221,7 +221,7 @@ impl Read for Silent {
 }
 
 /// `["silent script"]`: the same over a reader that never has anything, and how often it is called.
-pub(crate) fn over_silence(alloc: Global) -> Result<String, Fault> {
+pub(crate) fn over_silence(alloc: Global) -> Result<String, CaseError> {
     let mut reader = Counted::new(Silent);
     let mut writer = Counted::new(Vec::new(alloc));
     let mut script = Lengths { heard: 0, most: 9 };

@@ -4,7 +4,8 @@ ghost use Rattle.std.specs.Prelude.{IfSome};
 ghost use Rattle.ovs_rows.specs.Change.{IsChangeOf};
 
 use crate::case::{add, list, part, text};
-use crate::fault::{Fault, is_refused, is_so};
+use crate::case_error::{CaseError, is_refused, is_so};
+use ovs_json::SessionId;
 use ovs_links::Link;
 use ovs_locks::LockTable;
 use ovs_rows::Change;
@@ -13,48 +14,48 @@ use ovs_types::{RowId, Schema, Text, TxnId};
 use serde_json::Value;
 use std::alloc::Global;
 
-fn commit_id(parts: &[Value]) -> Result<TxnId, Fault> {
-    TxnId::read(text(parts, 0)?).ok().ok_or(Fault::BadId)
+fn commit_id(parts: &[Value]) -> Result<TxnId, CaseError> {
+    TxnId::read(text(parts, 0)?).ok().ok_or(CaseError::BadId)
 }
 
-fn row_id(parts: &[Value]) -> Result<RowId, Fault> {
-    RowId::read(text(parts, 1)?).ok().ok_or(Fault::BadId)
+fn row_id(parts: &[Value]) -> Result<RowId, CaseError> {
+    RowId::read(text(parts, 1)?).ok().ok_or(CaseError::BadId)
 }
 
-fn session(parts: &[Value], at: usize) -> Result<u64, Fault> {
-    part(parts, at)?.as_u64().ok_or(Fault::Malformed)
+fn session(parts: &[Value], at: usize) -> Result<SessionId, CaseError> {
+    part(parts, at)?.as_u64().ok_or(CaseError::Malformed)
 }
 
 // The locks that sessions asked for, each a list of the session and the name.
-fn locks_of(alloc: Global, asked: &[Value]) -> Result<LockTable, Fault> {
+fn locks_of(alloc: Global, asked: &[Value]) -> Result<LockTable, CaseError> {
     let mut locks = LockTable::new(alloc);
     for one in asked {
-        let parts = one.as_array().ok_or(Fault::Malformed)?;
+        let parts = one.as_array().ok_or(CaseError::Malformed)?;
         let name = Text::new(alloc, text(parts, 1)?)?;
         if locks.lock(alloc, session(parts, 0)?, &name).is_err() {
-            return Err(Fault::Malformed);
+            return Err(CaseError::Malformed);
         }
     }
     Ok(locks)
 }
 
-fn refusal(error: SourceError) -> Result<&'static str, Fault> {
+fn refusal(error: SourceError) -> Result<&'static str, CaseError> {
     match error {
         SourceError::IdTaken => Ok("id taken"),
         SourceError::RowIdsSpent => Ok("row ids spent"),
         SourceError::Full => Ok("full"),
-        SourceError::NoMemory => Err(Fault::Refused),
+        SourceError::NoMemory => Err(CaseError::Refused),
     }
 }
 
-fn change_text(alloc: Global, schema: &Schema, change: &Change) -> Result<String, Fault>
+fn change_text(alloc: Global, schema: &Schema, change: &Change) -> Result<String, CaseError>
     requires tables { IsChangeOf schema.now.description.tables change.now }
 {
     Ok(change.to_json(alloc, schema)?.to_string(alloc)?)
 }
 
 /// The link's ids and its change.
-pub(crate) fn link_text(alloc: Global, schema: &Schema, link: &Link) -> Result<String, Fault>
+pub(crate) fn link_text(alloc: Global, schema: &Schema, link: &Link) -> Result<String, CaseError>
     requires tables { IsChangeOf schema.now.description.tables link.now.change }
 {
     let change = change_text(alloc, schema, link.change())?;
@@ -68,7 +69,7 @@ pub(crate) fn link_text(alloc: Global, schema: &Schema, link: &Link) -> Result<S
     )?)
 }
 
-fn outcome(alloc: Global, schema: &Schema, outcome: &Outcome) -> Result<String, Fault>
+fn outcome(alloc: Global, schema: &Schema, outcome: &Outcome) -> Result<String, CaseError>
     requires tables { IfSome outcome.now.link (λ l. IsChangeOf schema.now.description.tables l.change) }
 {
     let mut told = outcome.results.as_value().to_string(alloc)?;
@@ -84,10 +85,10 @@ fn transaction(
     fresh: &mut FreshRows,
     locks: &LockTable,
     parts: &[Value],
-) -> Result<String, Fault> {
+) -> Result<String, CaseError> {
     let id = commit_id(parts)?;
-    let who = session(parts, 1)?;
-    match source.transact(alloc, who, list(parts, 2)?, id, fresh, locks) {
+    let session_id = session(parts, 1)?;
+    match source.transact(alloc, session_id, list(parts, 2)?, id, fresh, locks) {
         Ok(done) => outcome(alloc, source.store().schema(), &done),
         Err(error) => Ok(String::from_str(alloc, refusal(error)?)?),
     }
@@ -100,7 +101,7 @@ fn transaction_again(
     fresh: &mut FreshRows,
     locks: &LockTable,
     parts: &[Value],
-) -> Result<String, Fault> {
+) -> Result<String, CaseError> {
     let held = source.store().len();
     let answer = transaction(alloc, source, fresh, locks, parts);
     if !is_refused(&answer) {
@@ -117,10 +118,10 @@ fn transactions(
     fresh: &mut FreshRows,
     locks: &LockTable,
     asked: &[Value],
-) -> Result<String, Fault> {
+) -> Result<String, CaseError> {
     let mut told = String::new(alloc);
     for one in asked {
-        let parts = one.as_array().ok_or(Fault::Malformed)?;
+        let parts = one.as_array().ok_or(CaseError::Malformed)?;
         let answer = transaction_again(alloc, source, fresh, locks, parts)?;
         add(&mut told, answer.as_str())?;
     }
@@ -129,7 +130,7 @@ fn transactions(
 
 /// `["source", ROW-ID, [[SESSION, LOCK], ..], [[ID, SESSION, [OPERATION, ..]], ..]]`: what each transaction answers, with the link that
 /// it makes, if it makes one. Rows get ids from the first on.
-pub(crate) fn source(alloc: Global, schema: &Schema, parts: &[Value]) -> Result<String, Fault> {
+pub(crate) fn source(alloc: Global, schema: &Schema, parts: &[Value]) -> Result<String, CaseError> {
     let asked = list(parts, 3)?;
     let mut fresh = FreshRows::new(row_id(parts)?);
     let locks = locks_of(alloc, list(parts, 2)?)?;

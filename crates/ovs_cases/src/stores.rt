@@ -5,7 +5,7 @@ ghost use Rattle.ovs_links.specs.Sets.{IsOfTables};
 ghost use Rattle.ovs_links.specs.Store.{tables_of};
 
 use crate::case::{list, part, text, truth, word};
-use crate::fault::{Fault, is_refused, is_so};
+use crate::case_error::{CaseError, is_refused, is_so};
 use crate::ids::{commit, letter};
 use ovs_links::{By, Link, LinkStore, MergeError, Settled, TakeError, Took};
 use ovs_rows::Change;
@@ -14,24 +14,24 @@ use serde_json::Value;
 use std::alloc::Global;
 
 // The link of three arguments: the ids and the change.
-fn link(alloc: Global, schema: &Schema, parts: &[Value]) -> Result<Link, Fault>
+fn link(alloc: Global, schema: &Schema, parts: &[Value]) -> Result<Link, CaseError>
     ensures tables { IfOk result (IsOfTables schema.now.description.tables) }
 {
     let [prev, id, change] = parts else {
-        return Err(Fault::Malformed);
+        return Err(CaseError::Malformed);
     };
-    let prev = commit(prev.as_str().ok_or(Fault::Malformed)?)?;
-    let id = commit(id.as_str().ok_or(Fault::Malformed)?)?;
+    let prev = commit(prev.as_str().ok_or(CaseError::Malformed)?)?;
+    let id = commit(id.as_str().ok_or(CaseError::Malformed)?)?;
     let Ok(change) = Change::read(alloc, change, schema) else {
-        return Err(Fault::Malformed);
+        return Err(CaseError::Malformed);
     };
     match Link::new(prev, id, change) {
         Ok(link) => Ok(link),
-        Err(_) => Err(Fault::BadId),
+        Err(_) => Err(CaseError::BadId),
     }
 }
 
-fn fork_text(alloc: Global, by: By, prev: TxnId, id: TxnId) -> Result<String, Fault> {
+fn fork_text(alloc: Global, by: By, prev: TxnId, id: TxnId) -> Result<String, CaseError> {
     let shared = match by {
         By::Prev => "prev",
         By::Id => "id",
@@ -41,7 +41,7 @@ fn fork_text(alloc: Global, by: By, prev: TxnId, id: TxnId) -> Result<String, Fa
     Ok(format!(in alloc; "fork by {shared} with {prev} {id}")?)
 }
 
-fn refused_text(alloc: Global, error: &TakeError) -> Result<String, Fault> {
+fn refused_text(alloc: Global, error: &TakeError) -> Result<String, CaseError> {
     match error {
         TakeError::Fork {
             by,
@@ -50,12 +50,16 @@ fn refused_text(alloc: Global, error: &TakeError) -> Result<String, Fault> {
             ..
         } => fork_text(alloc, *by, *held_prev, *held_id),
         TakeError::Full { .. } => word(alloc, "full"),
-        TakeError::NoMemory { .. } => Err(Fault::Refused),
+        TakeError::NoMemory { .. } => Err(CaseError::Refused),
     }
 }
 
 /// Takes a link, and says how it went.
-pub(crate) fn take(alloc: Global, store: &mut LinkStore, parts: &[Value]) -> Result<String, Fault>
+pub(crate) fn take(
+    alloc: Global,
+    store: &mut LinkStore,
+    parts: &[Value],
+) -> Result<String, CaseError>
     ensures tables { tables_of store.new ≡ tables_of store.old }
     ensures schema { store.new.schema ≡ store.old.schema }
     ensures folded { store.new.folded ≡ store.old.folded }
@@ -69,7 +73,7 @@ pub(crate) fn take(alloc: Global, store: &mut LinkStore, parts: &[Value]) -> Res
 }
 
 // Where no held link follows the head, and where this one does and fits.
-fn append_link(alloc: Global, store: &mut LinkStore, link: Link) -> Result<String, Fault>
+fn append_link(alloc: Global, store: &mut LinkStore, link: Link) -> Result<String, CaseError>
     requires tables { IsOfTables (tables_of store.old) link }
     ensures tables { tables_of store.new ≡ tables_of store.old }
 {
@@ -85,17 +89,17 @@ fn append_link(alloc: Global, store: &mut LinkStore, link: Link) -> Result<Strin
     }
 }
 
-fn append(alloc: Global, store: &mut LinkStore, parts: &[Value]) -> Result<String, Fault>
+fn append(alloc: Global, store: &mut LinkStore, parts: &[Value]) -> Result<String, CaseError>
     ensures tables { tables_of store.new ≡ tables_of store.old }
 {
     let link = link(alloc, store.schema(), parts)?;
     append_link(alloc, store, link)
 }
 
-fn settle(alloc: Global, store: &mut LinkStore) -> Result<String, Fault>
+fn settle(alloc: Global, store: &mut LinkStore) -> Result<String, CaseError>
     ensures tables { tables_of store.new ≡ tables_of store.old }
 {
-    match store.settle(alloc).ok().ok_or(Fault::Refused)? {
+    match store.settle(alloc).ok().ok_or(CaseError::Refused)? {
         Settled::Done => word(alloc, "done"),
         Settled::Stuck(id) => {
             let id = letter(id);
@@ -105,7 +109,7 @@ fn settle(alloc: Global, store: &mut LinkStore) -> Result<String, Fault>
 }
 
 // Folds the chain, and drops the links of lower starts that can be reached.
-fn prune(alloc: Global, store: &mut LinkStore) -> Result<String, Fault>
+fn prune(alloc: Global, store: &mut LinkStore) -> Result<String, CaseError>
     ensures tables { tables_of store.new ≡ tables_of store.old }
 {
     let _settled = store.settle(alloc)?;
@@ -113,11 +117,11 @@ fn prune(alloc: Global, store: &mut LinkStore) -> Result<String, Fault>
     Ok(format!(in alloc; "{dropped} dropped")?)
 }
 
-fn take_all(alloc: Global, store: &mut LinkStore, links: &[Value]) -> Result<(), Fault>
+fn take_all(alloc: Global, store: &mut LinkStore, links: &[Value]) -> Result<(), CaseError>
     ensures tables { tables_of store.new ≡ tables_of store.old }
 {
     for parts in links {
-        let parts = parts.as_array().ok_or(Fault::Malformed)?;
+        let parts = parts.as_array().ok_or(CaseError::Malformed)?;
         let _ = take(alloc, store, parts.as_slice())?;
     }
     Ok(())
@@ -128,7 +132,7 @@ pub(crate) fn settled(
     alloc: Global,
     schema: &Schema,
     links: &[Value],
-) -> Result<Box<LinkStore>, Fault>
+) -> Result<Box<LinkStore>, CaseError>
     ensures tables { IfOk result (λ store. tables_of store.value ≡ schema.now.description.tables) }
 {
     let mut store = Box::new(alloc, LinkStore::new(alloc, schema)?)?;
@@ -137,7 +141,7 @@ pub(crate) fn settled(
     Ok(store)
 }
 
-fn merge_refusal(alloc: Global, error: &MergeError) -> Result<String, Fault> {
+fn merge_refusal(alloc: Global, error: &MergeError) -> Result<String, CaseError> {
     match error {
         MergeError::Fork {
             by,
@@ -145,11 +149,11 @@ fn merge_refusal(alloc: Global, error: &MergeError) -> Result<String, Fault> {
             held_id,
         } => fork_text(alloc, *by, *held_prev, *held_id),
         MergeError::Full => word(alloc, "full"),
-        MergeError::NoMemory => Err(Fault::Refused),
+        MergeError::NoMemory => Err(CaseError::Refused),
     }
 }
 
-fn merge(alloc: Global, store: &mut LinkStore, links: &[Value]) -> Result<String, Fault>
+fn merge(alloc: Global, store: &mut LinkStore, links: &[Value]) -> Result<String, CaseError>
     ensures tables { tables_of store.new ≡ tables_of store.old }
 {
     let other = settled(alloc, store.schema(), links)?;
@@ -159,15 +163,15 @@ fn merge(alloc: Global, store: &mut LinkStore, links: &[Value]) -> Result<String
     }
 }
 
-fn position(alloc: Global, store: &LinkStore, id: TxnId) -> Result<String, Fault> {
+fn position(alloc: Global, store: &LinkStore, id: TxnId) -> Result<String, CaseError> {
     match store.position_of(id) {
         Some(place) => Ok(format!(in alloc; "{place}")?),
         None => word(alloc, "none"),
     }
 }
 
-fn link_at(alloc: Global, store: &LinkStore, number: &Value) -> Result<String, Fault> {
-    let number = number.as_u64().ok_or(Fault::Malformed)?;
+fn link_at(alloc: Global, store: &LinkStore, number: &Value) -> Result<String, CaseError> {
+    let number = number.as_u64().ok_or(CaseError::Malformed)?;
     match store.link_at(number as usize) {
         Some(link) => word(alloc, letter(link.id())),
         None => word(alloc, "none"),
@@ -175,7 +179,7 @@ fn link_at(alloc: Global, store: &LinkStore, number: &Value) -> Result<String, F
 }
 
 // What the store answers to a question that changes nothing.
-fn looked_up(alloc: Global, store: &LinkStore, parts: &[Value]) -> Result<String, Fault> {
+fn looked_up(alloc: Global, store: &LinkStore, parts: &[Value]) -> Result<String, CaseError> {
     match text(parts, 0)? {
         "position" => position(alloc, store, commit(text(parts, 1)?)?),
         "link at" => link_at(alloc, store, part(parts, 1)?),
@@ -183,18 +187,18 @@ fn looked_up(alloc: Global, store: &LinkStore, parts: &[Value]) -> Result<String
             let link = link(alloc, store.schema(), list(parts, 1)?)?;
             truth(alloc, store.holds(&link))
         }
-        _ => Err(Fault::Malformed),
+        _ => Err(CaseError::Malformed),
     }
 }
 
 // What the store answers to an event.
-fn event(alloc: Global, store: &mut LinkStore, parts: &[Value]) -> Result<String, Fault>
+fn event(alloc: Global, store: &mut LinkStore, parts: &[Value]) -> Result<String, CaseError>
     ensures tables { tables_of store.new ≡ tables_of store.old }
 {
     let [what, link @ ..] = parts else {
-        return Err(Fault::Malformed);
+        return Err(CaseError::Malformed);
     };
-    match what.as_str().ok_or(Fault::Malformed)? {
+    match what.as_str().ok_or(CaseError::Malformed)? {
         "take" => take(alloc, store, link),
         "append" => append(alloc, store, link),
         "settle" => settle(alloc, store),
@@ -205,7 +209,7 @@ fn event(alloc: Global, store: &mut LinkStore, parts: &[Value]) -> Result<String
 }
 
 // Carries out an event (`event`). Where there is no memory for its call the links are as they were, and it is called again.
-fn event_again(alloc: Global, store: &mut LinkStore, parts: &[Value]) -> Result<String, Fault>
+fn event_again(alloc: Global, store: &mut LinkStore, parts: &[Value]) -> Result<String, CaseError>
     ensures tables { tables_of store.new ≡ tables_of store.old }
 {
     let held = store.len();
@@ -218,7 +222,7 @@ fn event_again(alloc: Global, store: &mut LinkStore, parts: &[Value]) -> Result<
 }
 
 // The head, how many links are held and parked, and of copies of the steps the ids and how many rows each named.
-fn state(alloc: Global, store: &LinkStore) -> Result<String, Fault> {
+fn state(alloc: Global, store: &LinkStore) -> Result<String, CaseError> {
     let head = letter(store.head());
     let held = store.len();
     let parked = store.parked();
@@ -235,10 +239,10 @@ fn state(alloc: Global, store: &LinkStore) -> Result<String, Fault> {
 }
 
 // What the store answers to the events, and what stands in it then.
-fn events(alloc: Global, store: &mut LinkStore, events: &[Value]) -> Result<String, Fault> {
+fn events(alloc: Global, store: &mut LinkStore, events: &[Value]) -> Result<String, CaseError> {
     let mut told = String::new(alloc);
     for parts in events {
-        let parts = parts.as_array().ok_or(Fault::Malformed)?;
+        let parts = parts.as_array().ok_or(CaseError::Malformed)?;
         let answer = event_again(alloc, store, parts.as_slice())?;
         told.push_str(answer.as_str())?;
         told.push_str("; ")?;
@@ -251,7 +255,7 @@ fn events(alloc: Global, store: &mut LinkStore, events: &[Value]) -> Result<Stri
 /// `["store", [EVENT, ..]]`: what a new store answers to the events, and what stands in it then. An event is `["take",
 /// PREV, ID, CHANGE]`, the same with `append`, `["settle"]`, `["prune"]`, `["merge", [[PREV, ID, CHANGE], ..]]`, or a question:
 /// `["position", ID]`, `["link at", NUMBER]`, `["holds", [PREV, ID, CHANGE]]`.
-pub(crate) fn store(alloc: Global, schema: &Schema, parts: &[Value]) -> Result<String, Fault> {
+pub(crate) fn store(alloc: Global, schema: &Schema, parts: &[Value]) -> Result<String, CaseError> {
     let asked = list(parts, 1)?;
     let mut store = LinkStore::new(alloc, schema)?;
     events(alloc, &mut store, asked)

@@ -2,44 +2,58 @@
 //! text and how many times it comes.
 
 use crate::case::{list, text};
-use crate::fault::Fault;
+use crate::case_error::CaseError;
 use ovs_wire::{FrameError, Framer};
 use serde_json::Value;
 use std::alloc::Global;
 
-fn add_bytes(bytes: &mut Vec<u8>, text: &str) -> Result<(), Fault> {
+fn add_bytes(bytes: &mut Vec<u8>, text: &str) -> Result<(), CaseError> {
     for character in text.chars() {
         match u8::try_from(u32::from(character)) {
             Ok(byte) => bytes.push(byte)?,
-            Err(_) => return Err(Fault::Malformed),
+            Err(_) => return Err(CaseError::Malformed),
         }
     }
     Ok(())
 }
 
 /// Puts the bytes of a piece behind those that are there.
-pub(crate) fn add_bytes_of(alloc: Global, bytes: &mut Vec<u8>, piece: &Value) -> Result<(), Fault> {
+pub(crate) fn add_bytes_of(
+    alloc: Global,
+    bytes: &mut Vec<u8>,
+    piece: &Value,
+) -> Result<(), CaseError> {
     match piece {
         Value::String(text) => add_bytes(bytes, text.as_str()),
         Value::Array(parts) => {
             let [text, times] = parts.as_slice() else {
-                return Err(Fault::Malformed);
+                return Err(CaseError::Malformed);
             };
-            let text = text.as_str().ok_or(Fault::Malformed)?;
-            add_repeated(alloc, bytes, text, times.as_u64().ok_or(Fault::Malformed)?)
+            let text = text.as_str().ok_or(CaseError::Malformed)?;
+            add_repeated(
+                alloc,
+                bytes,
+                text,
+                times.as_u64().ok_or(CaseError::Malformed)?,
+            )
         }
-        _ => Err(Fault::Malformed),
+        _ => Err(CaseError::Malformed),
     }
 }
 
 /// The bytes of a piece.
-pub(crate) fn bytes_of(alloc: Global, piece: &Value) -> Result<Vec<u8>, Fault> {
+pub(crate) fn bytes_of(alloc: Global, piece: &Value) -> Result<Vec<u8>, CaseError> {
     let mut bytes = Vec::new(alloc);
     add_bytes_of(alloc, &mut bytes, piece)?;
     Ok(bytes)
 }
 
-fn add_repeated(alloc: Global, bytes: &mut Vec<u8>, text: &str, times: u64) -> Result<(), Fault> {
+fn add_repeated(
+    alloc: Global,
+    bytes: &mut Vec<u8>,
+    text: &str,
+    times: u64,
+) -> Result<(), CaseError> {
     let mut once = Vec::new(alloc);
     add_bytes(&mut once, text)?;
     for _ in 0..times {
@@ -57,7 +71,7 @@ fn fault_word(fault: FrameError) -> &'static str {
     }
 }
 
-fn add_message(alloc: Global, told: &mut String, message: &[u8]) -> Result<(), Fault> {
+fn add_message(alloc: Global, told: &mut String, message: &[u8]) -> Result<(), CaseError> {
     let len = message.len();
     let length = format!(in alloc; "{len} bytes")?;
     match std::str::from_utf8(message) {
@@ -69,7 +83,7 @@ fn add_message(alloc: Global, told: &mut String, message: &[u8]) -> Result<(), F
 }
 
 // The messages that wait, long ones by their length.
-fn waiting(alloc: Global, framer: &mut Framer) -> Result<String, Fault> {
+fn waiting(alloc: Global, framer: &mut Framer) -> Result<String, CaseError> {
     let mut told = String::new(alloc);
     for _ in 0..u64::MAX {
         match framer.next() {
@@ -89,7 +103,7 @@ fn feed_again(framer: &mut Framer, bytes: &[u8]) -> Result<(), FrameError> {
 }
 
 // The word of the answer to a piece.
-fn feed(alloc: Global, framer: &mut Framer, piece: &Value) -> Result<&'static str, Fault> {
+fn feed(alloc: Global, framer: &mut Framer, piece: &Value) -> Result<&'static str, CaseError> {
     let bytes = bytes_of(alloc, piece)?;
     match feed_again(framer, bytes.as_slice()) {
         Ok(()) => Ok("ok"),
@@ -97,9 +111,21 @@ fn feed(alloc: Global, framer: &mut Framer, piece: &Value) -> Result<&'static st
     }
 }
 
-/// `["frames", [PIECE, ..]]`: the messages, and the word of the answer to the last feed.
-pub(crate) fn frames(alloc: Global, parts: &[Value]) -> Result<String, Fault> {
-    let mut framer = Framer::new(alloc);
+// A framer of this limit, or of the one that stands where none is said.
+fn framer_of(alloc: Global, limit: Option<&Value>) -> Result<Framer, CaseError> {
+    match limit {
+        None => Ok(Framer::new(alloc)),
+        Some(limit) => {
+            let limit = limit.as_u64().ok_or(CaseError::Malformed)?;
+            Ok(Framer::with_limit(alloc, limit as usize))
+        }
+    }
+}
+
+/// `["frames", [PIECE, ..]]`, or with how many bytes a message may have: the messages, and the word of the answer to the last
+/// feed.
+pub(crate) fn frames(alloc: Global, parts: &[Value]) -> Result<String, CaseError> {
+    let mut framer = framer_of(alloc, parts.get(2))?;
     let mut last = "ok";
     for piece in list(parts, 1)? {
         last = feed(alloc, &mut framer, piece)?;
@@ -133,7 +159,7 @@ fn is_one(alloc: Global, first: &[u8], second: &[u8]) -> bool {
 
 /// `["cut anywhere", TEXT]`: how many cuts of the text into two pieces there are, where each gives the text as the one
 /// message.
-pub(crate) fn cut_anywhere(alloc: Global, parts: &[Value]) -> Result<String, Fault> {
+pub(crate) fn cut_anywhere(alloc: Global, parts: &[Value]) -> Result<String, CaseError> {
     let text = text(parts, 1)?.as_bytes();
     for cut in 0..text.len() + 1 {
         if !is_one(alloc, &text[..cut], &text[cut..]) {

@@ -10,17 +10,17 @@ use Rattle.std.specs.declared.net.socket_addr.SocketAddr.{SocketAddr}
 use Rattle.ovs_command_line.specs.declared.options.SchemaOrigin.{SchemaOrigin}
 use Rattle.ovs_command_line.specs.declared.options.SchemaOrigin.TheVariants as origins
 use Rattle.ovs_command_line.specs.declared.command_option.CommandOption.{CommandOption}
-use Rattle.ovs_command_line.specs.declared.command_option.CommandOption.TheVariants.{Schema, Database, Listen, Upstream, FirstId, FirstRow, TrimEvery, Accepts, Tries}
+use Rattle.ovs_command_line.specs.declared.command_option.CommandOption.TheVariants.{Schema, Database, Listen, Upstream, FirstId, FirstRow, TrimEvery, Accepts, Tries, MostBytes}
 use Rattle.ovs_command_line.specs.declared.command_fault.CommandFault.{CommandFault}
 use Rattle.ovs_command_line.specs.declared.command_fault.CommandFault.TheVariants.{Usage, Missing, TwoOrigins, BadValue, OneTooMany, OwnAddress, NoMemory}
-use Rattle.ovs_command_line.specs.Values.{SpellsCommit, SpellsRow, SpellsCount, SpellsNone, parts_of}
-use Rattle.ovs_command_line.specs.Options.{Addresses, is_count, word_of, words_of, Gives, SpellsIfGiven, SpellsAllowed, SpellsUpstream, GivesOrigin}
+use Rattle.ovs_command_line.specs.Values.{SpellsCommit, SpellsRow, SpellsNone, parts_of}
+use Rattle.ovs_command_line.specs.Options.{Addresses, is_count, word_of, words_of, Gives, SpellsCount, SpellsIfGiven, SpellsAllowed, SpellsUpstream, GivesOrigin}
 use Rattle.ovs_command_line.specs.declared.command_line.Task.{Task}
 use Rattle.ovs_command_line.specs.CommandLine.{Found, HasCommand}
 use Rattle.ovs_command_line.specs.Faults.{is_of_source, is_of_relay, IsReadable, IsPartOf, IsNoValue, StandsBehind, HasOwnAddress, IsFaultOf, IsFaultOfOrigin, IsFaultOfSource, IsFaultOfRelay, IsFoundReadable, IsNoValueOf, HasOptionFault}
 
 -- the fault of a number
-pub count_fault : (option : CommandOption) (rows : List Row) (word : Text) → is_count option ≡ true → word_of option rows ≡ Some word → SpellsNone SpellsCount word
+pub count_fault : (option : CommandOption) (rows : List Row) (word : Text) → is_count option ≡ true → word_of option rows ≡ Some word → SpellsNone (SpellsCount option) word
     → (fault : CommandFault) → IsNoValueOf option word fault → IsFaultOf option rows fault
 count_fault option rows word is at none (Usage line) made = absurd (let no : Usage line ≡ NoMemory = made in cc)
 count_fault option rows word is at none (Missing o) made = absurd (let no : Missing o ≡ NoMemory = made in cc)
@@ -28,9 +28,10 @@ count_fault option rows word is at none (OneTooMany w) made = absurd (let no : O
 count_fault option rows word is at none (OwnAddress a) made = absurd (let no : OwnAddress a ≡ NoMemory = made in cc)
 count_fault option rows word is at none TwoOrigins made = absurd (let no : TwoOrigins ≡ NoMemory = made in cc)
 count_fault option rows word is at none NoMemory made = tt
-count_fault TrimEvery rows word is at none (BadValue o w) made = (made.0, at ∙ ap Some (sym made.1), subst (SpellsNone SpellsCount) (sym made.1) none)
-count_fault Accepts rows word is at none (BadValue o w) made = (made.0, at ∙ ap Some (sym made.1), subst (SpellsNone SpellsCount) (sym made.1) none)
-count_fault Tries rows word is at none (BadValue o w) made = (made.0, at ∙ ap Some (sym made.1), subst (SpellsNone SpellsCount) (sym made.1) none)
+count_fault TrimEvery rows word is at none (BadValue o w) made = (made.0, at ∙ ap Some (sym made.1), subst (SpellsNone (SpellsCount TrimEvery)) (sym made.1) none)
+count_fault Accepts rows word is at none (BadValue o w) made = (made.0, at ∙ ap Some (sym made.1), subst (SpellsNone (SpellsCount Accepts)) (sym made.1) none)
+count_fault Tries rows word is at none (BadValue o w) made = (made.0, at ∙ ap Some (sym made.1), subst (SpellsNone (SpellsCount Tries)) (sym made.1) none)
+count_fault MostBytes rows word is at none (BadValue o w) made = (made.0, at ∙ ap Some (sym made.1), subst (SpellsNone (SpellsCount MostBytes)) (sym made.1) none)
 count_fault Schema rows word is at none (BadValue o w) made = absurd (true≢false (sym is))
 count_fault Database rows word is at none (BadValue o w) made = absurd (true≢false (sym is))
 count_fault Listen rows word is at none (BadValue o w) made = absurd (true≢false (sym is))
@@ -51,10 +52,11 @@ given_alone : {A : Type 0} (Spells : Text → A → Type 0) (option : CommandOpt
 given_alone Spells option rows value gives word is none =
     none value (subst (λ w. Spells w value) (same_word (word_of option rows) gives.0 word gives.1 is) gives.2)
 
-counted_if_given : (o : Option Text) (n : Option ℕ) → SpellsIfGiven o n → (word : Text) → o ≡ Some word → ¬ (SpellsNone SpellsCount word)
-counted_if_given None n counts word is none = let no : None ≡ Some word = is in cc
-counted_if_given (Some w) n counts word is none =
-    let same : w ≡ word = (let some : Some w ≡ Some word = is in cc) in none counts.0 (subst (λ v. SpellsCount v counts.0) same counts.2)
+counted_if_given : (option : CommandOption) (o : Option Text) (n : Option ℕ) → SpellsIfGiven option o n → (word : Text) → o ≡ Some word
+    → ¬ (SpellsNone (SpellsCount option) word)
+counted_if_given option None n counts word is none = let no : None ≡ Some word = is in cc
+counted_if_given option (Some w) n counts word is none =
+    let same : w ≡ word = (let some : Some w ≡ Some word = is in cc) in none counts.0 (subst (λ v. SpellsCount option v counts.0) same counts.2)
 
 -- each of several words spells a value
 each_spells : {A : Type 0} (Spells : Text → A → Type 0) (words : List Text) (values : List A) → AllZip Spells words values
@@ -108,6 +110,7 @@ is_there FirstRow rows needed readable none = no_word _ readable.1.0 readable.1.
 is_there TrimEvery rows needed readable none = absurd (true≢false needed)
 is_there Accepts rows needed readable none = absurd (true≢false needed)
 is_there Tries rows needed readable none = absurd (true≢false needed)
+is_there MostBytes rows needed readable none = absurd (true≢false needed)
 is_there Upstream rows needed readable none =
     let few = as_many (SpellsUpstream rows) (words_of Upstream rows) readable.0 readable.1.0 in
     let least = readable.1.1 in
@@ -122,9 +125,10 @@ is_value Listen rows readable word behind none = given_alone (SpellsAllowed rows
 is_value Upstream rows readable word behind none = part_spells rows (words_of Upstream rows) readable.0 readable.1.0 word behind none
 is_value FirstId rows readable word behind none = given_alone SpellsCommit FirstId rows readable.0 readable.1 word behind none
 is_value FirstRow rows readable word behind none = given_alone SpellsRow FirstRow rows readable.0 readable.1 word behind none
-is_value TrimEvery rows readable word behind none = counted_if_given (word_of TrimEvery rows) readable.0 readable.1 word behind none
-is_value Accepts rows readable word behind none = counted_if_given (word_of Accepts rows) readable.0 readable.1 word behind none
-is_value Tries rows readable word behind none = counted_if_given (word_of Tries rows) readable.0 readable.1 word behind none
+is_value TrimEvery rows readable word behind none = counted_if_given TrimEvery (word_of TrimEvery rows) readable.0 readable.1 word behind none
+is_value Accepts rows readable word behind none = counted_if_given Accepts (word_of Accepts rows) readable.0 readable.1 word behind none
+is_value Tries rows readable word behind none = counted_if_given Tries (word_of Tries rows) readable.0 readable.1 word behind none
+is_value MostBytes rows readable word behind none = counted_if_given MostBytes (word_of MostBytes rows) readable.0 readable.1 word behind none
 
 -- and no upstream is the fifth
 no_fifth : (rows : List Row) → IsReadable Upstream rows → (word : Text) → slice_get (words_of Upstream rows) 4 ≢ Some word

@@ -39,10 +39,11 @@ source_words = with_rule (with_rule (with_rule (with_rule (with_rule (with_rule 
 abbrev pub source_app : App
 source_app = with_rule (with_rule source_words (flag_rule (codes "verbose"))) (flag_rule (codes "beyond-loopback"))
 
--- a schema or the name of a database, an address to listen at and upstreams
+-- a schema or the name of a database, an address to listen at and upstreams, and how many bytes a message of theirs may have
 abbrev pub relay_words : App
-relay_words = with_rule (with_rule (with_rule (with_rule (with_rule (with_rule (new_app (codes "relay")) (word_rule (codes "schema")))
-    (word_rule (codes "database"))) (word_rule (codes "listen"))) (list_rule (codes "upstream"))) (word_rule (codes "accepts"))) (word_rule (codes "tries"))
+relay_words = with_rule (with_rule (with_rule (with_rule (with_rule (with_rule (with_rule (new_app (codes "relay")) (word_rule (codes "schema")))
+    (word_rule (codes "database"))) (word_rule (codes "listen"))) (list_rule (codes "upstream"))) (word_rule (codes "accepts"))) (word_rule (codes "tries")))
+    (word_rule (codes "most-bytes"))
 
 abbrev pub relay_app : App
 relay_app = with_rule (with_rule (with_rule (with_rule relay_words (flag_rule (codes "verbose"))) (flag_rule (codes "end-on-refusal"))) (flag_rule (codes "prune")))

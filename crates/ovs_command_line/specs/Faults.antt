@@ -5,14 +5,14 @@ use Rattle.clap.specs.Words.{Row, Text, fault_of, subcommand_of}
 use Rattle.clap.specs.declared.error.kind.ErrorKind.{ErrorKind}
 use Rattle.clap.specs.declared.error.kind.ErrorKind.TheVariants.{DisplayHelp, DisplayVersion, OutOfMemory}
 use Rattle.ovs_command_line.specs.declared.command_option.CommandOption.{CommandOption}
-use Rattle.ovs_command_line.specs.declared.command_option.CommandOption.TheVariants.{Schema, Database, Listen, Upstream, FirstId, FirstRow, TrimEvery, Accepts, Tries}
+use Rattle.ovs_command_line.specs.declared.command_option.CommandOption.TheVariants.{Schema, Database, Listen, Upstream, FirstId, FirstRow, TrimEvery, Accepts, Tries, MostBytes}
 use Rattle.ovs_command_line.specs.declared.command_fault.CommandFault.{CommandFault}
 use Rattle.ovs_command_line.specs.declared.command_fault.CommandFault.TheVariants.{Usage, Missing, TwoOrigins, BadValue, OneTooMany, OwnAddress, NoMemory}
 use Rattle.ovs_command_line.specs.declared.options.SchemaOrigin.{SchemaOrigin}
 use Rattle.ovs_command_line.specs.declared.command_line.Task.{Task}
 use Rattle.ovs_command_line.specs.declared.command_line.Task.TheVariants.{Help, Version}
-use Rattle.ovs_command_line.specs.Values.{SpellsAddress, SpellsCommit, SpellsRow, SpellsCount, SpellsNone, parts_of}
-use Rattle.ovs_command_line.specs.Options.{is_count, word_of, words_of, Gives, CountsIfGiven, Addresses, SpellsAllowed, GivesOrigin, AreUpstreams}
+use Rattle.ovs_command_line.specs.Values.{SpellsAddress, SpellsCommit, SpellsRow, SpellsNone, parts_of}
+use Rattle.ovs_command_line.specs.Options.{is_count, word_of, words_of, Gives, SpellsCount, CountsIfGiven, Addresses, SpellsAllowed, GivesOrigin, AreUpstreams}
 use Rattle.ovs_command_line.specs.CommandLine.{Found, HasCommand, AskForText, program}
 
 -- the exit status beside a fault: 2 a fault of the command line, 3 memory gave out
@@ -26,6 +26,7 @@ abbrev pub is_of_source : CommandOption → Bool
 is_of_source Database = false
 is_of_source Upstream = false
 is_of_source Tries = false
+is_of_source MostBytes = false
 is_of_source _ = true
 
 -- those that are read alone: what says where the schema comes from is read together
@@ -54,6 +55,7 @@ IsReadable FirstRow rows = (id : ℕ) × Gives SpellsRow FirstRow rows id
 IsReadable TrimEvery rows = (n : Option ℕ) × CountsIfGiven TrimEvery rows n
 IsReadable Accepts rows = (n : Option ℕ) × CountsIfGiven Accepts rows n
 IsReadable Tries rows = (n : Option ℕ) × CountsIfGiven Tries rows n
+IsReadable MostBytes rows = (n : Option ℕ) × CountsIfGiven MostBytes rows n
 
 -- an address of an upstream is the one at which the relay listens
 abbrev pub HasOwnAddress : List Row → SocketAddr → Type 0
@@ -81,9 +83,10 @@ IsNoValue Listen rows word = SpellsNone (SpellsAllowed rows) word
 IsNoValue Upstream rows word = SpellsNone (SpellsAllowed rows) word
 IsNoValue FirstId rows word = SpellsNone SpellsCommit word
 IsNoValue FirstRow rows word = SpellsNone SpellsRow word
-IsNoValue TrimEvery rows word = SpellsNone SpellsCount word
-IsNoValue Accepts rows word = SpellsNone SpellsCount word
-IsNoValue Tries rows word = SpellsNone SpellsCount word
+IsNoValue TrimEvery rows word = SpellsNone (SpellsCount TrimEvery) word
+IsNoValue Accepts rows word = SpellsNone (SpellsCount Accepts) word
+IsNoValue Tries rows word = SpellsNone (SpellsCount Tries) word
+IsNoValue MostBytes rows word = SpellsNone (SpellsCount MostBytes) word
 
 -- the word stands behind this option; of upstreams it is a part of one of the words
 abbrev pub StandsBehind : CommandOption → List Row → Text → Type 0

@@ -7,12 +7,12 @@ use Rattle.std.specs.declared.alloc.Global.{Global}
 use Rattle.std.specs.declared.vec.Vec.{Vec}
 use Rattle.clap.specs.Words.{Row, Text, first_of, all_of}
 use Rattle.ovs_command_line.specs.declared.command_option.CommandOption.{CommandOption}
-use Rattle.ovs_command_line.specs.declared.command_option.CommandOption.TheVariants.{Schema, Database, Listen, Upstream, FirstId, FirstRow, TrimEvery, Accepts, Tries}
+use Rattle.ovs_command_line.specs.declared.command_option.CommandOption.TheVariants.{Schema, Database, Listen, Upstream, FirstId, FirstRow, TrimEvery, Accepts, Tries, MostBytes}
 use Rattle.ovs_command_line.specs.declared.options.SourceOptions.{SourceOptions}
 use Rattle.ovs_command_line.specs.declared.options.RelayOptions.{RelayOptions}
 use Rattle.ovs_command_line.specs.declared.options.SchemaOrigin.{SchemaOrigin}
 use Rattle.ovs_command_line.specs.declared.options.SchemaOrigin.TheVariants as origins
-use Rattle.ovs_command_line.specs.Values.{SpellsAddress, SpellsAddresses, SpellsCommit, SpellsRow, SpellsCount}
+use Rattle.ovs_command_line.specs.Values.{SpellsAddress, SpellsAddresses, SpellsCommit, SpellsRow, SpellsNumber}
 
 abbrev pub option_name : CommandOption → Text
 option_name Schema = codes "schema"
@@ -24,13 +24,29 @@ option_name FirstRow = codes "first-row"
 option_name TrimEvery = codes "trim-every"
 option_name Accepts = codes "accepts"
 option_name Tries = codes "tries"
+option_name MostBytes = codes "most-bytes"
 
 -- it has a number behind it
 abbrev pub is_count : CommandOption → Bool
 is_count TrimEvery = true
 is_count Accepts = true
 is_count Tries = true
+is_count MostBytes = true
 is_count _ = false
+
+-- the least number that may stand behind it
+abbrev pub least : CommandOption → ℕ
+least MostBytes = 16777216
+least _ = 1
+
+-- and the greatest
+abbrev pub greatest : CommandOption → ℕ
+greatest MostBytes = 4294967295
+greatest _ = 1000000
+
+-- a number that may stand behind it
+abbrev pub SpellsCount : CommandOption → Text → ℕ → Type 0
+SpellsCount option word n = SpellsNumber (least option) (greatest option) word n
 
 -- ---- in what `clap` finds of a command
 
@@ -67,12 +83,12 @@ abbrev pub Gives : {A : Type 0} → (Text → A → Type 0) → CommandOption �
 Gives Spells option rows value = (word : Text) × (word_of option rows ≡ Some word) × Spells word value
 
 -- the number that the word behind an option spells, or none where it isn't there
-abbrev pub SpellsIfGiven : Option Text → Option ℕ → Type 0
-SpellsIfGiven None n = n ≡ None
-SpellsIfGiven (Some word) n = (count : ℕ) × (n ≡ Some count) × SpellsCount word count
+abbrev pub SpellsIfGiven : CommandOption → Option Text → Option ℕ → Type 0
+SpellsIfGiven option None n = n ≡ None
+SpellsIfGiven option (Some word) n = (count : ℕ) × (n ≡ Some count) × SpellsCount option word count
 
 abbrev pub CountsIfGiven : CommandOption → List Row → Option ℕ → Type 0
-CountsIfGiven option rows n = SpellsIfGiven (word_of option rows) n
+CountsIfGiven option rows n = SpellsIfGiven option (word_of option rows) n
 
 -- ---- what is asked of each command
 
@@ -103,6 +119,7 @@ pub record GiveRelay (rows : List Row) (o : RelayOptions) : Type 0 where
   pub others : All (λ upstream. All (λ address. address ≢ o.listen) upstream.items) o.upstreams.items
   pub accepts : CountsIfGiven Accepts rows o.accepts
   pub tries : CountsIfGiven Tries rows o.tries
+  pub most_bytes : CountsIfGiven MostBytes rows o.most_bytes
   pub verbose : o.verbose ≡ has_flag (codes "verbose") rows
   pub end_on_refusal : o.end_on_refusal ≡ has_flag (codes "end-on-refusal") rows
   pub prunes : o.prunes ≡ has_flag (codes "prune") rows

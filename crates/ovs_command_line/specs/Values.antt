@@ -30,9 +30,10 @@ SpellsCommit word id = (read_id word ≡ Some id) × (2 ^ 64 ≤ id)
 abbrev pub SpellsRow : Text → ℕ → Type 0
 SpellsRow word id = read_id word ≡ Some id
 
--- a number from 1 to 1,000,000, in digits that may have a plus before them
-abbrev pub SpellsCount : Text → ℕ → Type 0
-SpellsCount word n = IsNumeral 10 (without_leading_plus word) × (digits_value 10 (without_leading_plus word) ≡ n) × (1 ≤ n) × (n ≤ 1000000)
+-- a number within these bounds, in digits that may have a plus before them
+abbrev pub SpellsNumber : ℕ → ℕ → Text → ℕ → Type 0
+SpellsNumber least most word n =
+    IsNumeral 10 (without_leading_plus word) × (digits_value 10 (without_leading_plus word) ≡ n) × (least ≤ n) × (n ≤ most)
 
 -- the word is no value of this kind
 abbrev pub SpellsNone : {A : Type 0} → (Text → A → Type 0) → Text → Type 0

@@ -1,7 +1,7 @@
 //! The options that have a word behind them, of the commands `source` and `relay`.
 
 ghost use Rattle.std.specs.Prelude.{◌≡◌};
-ghost use Rattle.ovs_command_line.specs.Options.{option_name};
+ghost use Rattle.ovs_command_line.specs.Options.{option_name, least, greatest};
 
 use std::fmt;
 use std::fmt::{Display, Formatter};
@@ -27,6 +27,8 @@ pub enum CommandOption {
     Accepts,
     /// How many connections each thread of an upstream tries at most.
     Tries,
+    /// How many bytes a message from an upstream may have.
+    MostBytes,
 }
 
 impl CommandOption {
@@ -44,6 +46,7 @@ impl CommandOption {
             CommandOption::TrimEvery => "trim-every",
             CommandOption::Accepts => "accepts",
             CommandOption::Tries => "tries",
+            CommandOption::MostBytes => "most-bytes",
         }
     }
 
@@ -54,7 +57,10 @@ impl CommandOption {
             CommandOption::Database => "NAME",
             CommandOption::Listen | CommandOption::Upstream => "ADDR",
             CommandOption::FirstId | CommandOption::FirstRow => "ID",
-            CommandOption::TrimEvery | CommandOption::Accepts | CommandOption::Tries => "N",
+            CommandOption::TrimEvery
+            | CommandOption::Accepts
+            | CommandOption::Tries
+            | CommandOption::MostBytes => "N",
         }
     }
 
@@ -73,6 +79,27 @@ impl CommandOption {
             CommandOption::TrimEvery | CommandOption::Accepts | CommandOption::Tries => {
                 "a number from 1 to 1000000"
             }
+            CommandOption::MostBytes => "a number from 16777216 to 4294967295",
+        }
+    }
+
+    // The least number that may stand behind it.
+    pub(crate) fn least(self) -> u32
+        ensures value { result ≡ least self }
+    {
+        match self {
+            CommandOption::MostBytes => 16_777_216,
+            _ => 1,
+        }
+    }
+
+    // And the greatest.
+    pub(crate) fn greatest(self) -> u32
+        ensures value { result ≡ greatest self }
+    {
+        match self {
+            CommandOption::MostBytes => 4_294_967_295,
+            _ => 1_000_000,
         }
     }
 }

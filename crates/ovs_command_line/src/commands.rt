@@ -36,6 +36,9 @@ const ACCEPTS_HELP: &str =
 const TRIES_HELP: &str =
     "How many connections each thread of an upstream tries, 1 to 1000000; any number where this isn't given";
 
+const MOST_BYTES_HELP: &str =
+    "How many bytes a message from an upstream may have, 16777216 to 4294967295; 16777216 where this isn't given";
+
 const VERBOSE_HELP: &str = "Tells on standard error what happens";
 
 const END_ON_REFUSAL_HELP: &str = "Ends once something that an upstream sends is refused";
@@ -152,6 +155,7 @@ fn relay_command<'a>(alloc: Global) -> Result<Command<'a>, AllocError>
     let command = with_list(alloc, command, "upstream", "ADDR", UPSTREAM_HELP)?;
     let command = with_word(alloc, command, "accepts", "N", ACCEPTS_HELP)?;
     let command = with_word(alloc, command, "tries", "N", TRIES_HELP)?;
+    let command = with_word(alloc, command, "most-bytes", "N", MOST_BYTES_HELP)?;
     let command = with_flag(alloc, command, "verbose", VERBOSE_HELP)?;
     let command = with_flag(alloc, command, "end-on-refusal", END_ON_REFUSAL_HELP)?;
     let command = with_flag(alloc, command, "prune", PRUNE_HELP)?;

@@ -10,7 +10,7 @@ ghost use Rattle.ovs_command_line.specs.Faults.{IsFaultOf, IsFaultOfOrigin, IsFa
 use crate::command_fault::CommandFault;
 use crate::command_option::CommandOption;
 use crate::upstreams::other_upstreams_of;
-use crate::values::{read_address, read_commit, read_count, read_row};
+use crate::values::{read_address, read_commit, read_number, read_row};
 use clap::ArgMatches;
 use ovs_data::{RowId, TxnId};
 use std::alloc::Global;
@@ -58,6 +58,8 @@ pub struct RelayOptions {
     pub accepts: Option<u32>,
     /// How many connections each thread of an upstream tries, 1 to 1,000,000; none where it tries any number.
     pub tries: Option<u32>,
+    /// How many bytes a message from an upstream may have, 16,777,216 to 4,294,967,295; none where that isn't said.
+    pub most_bytes: Option<u32>,
     /// Whether to tell what happens.
     pub verbose: bool,
     /// Whether the program ends once something that an upstream sends is refused.
@@ -167,7 +169,7 @@ fn count_of(
 {
     match found.get_str(option.name()) {
         None => Ok(None),
-        Some(word) => match read_count(word) {
+        Some(word) => match read_number(word, option.least(), option.greatest()) {
             Some(count) => Ok(Some(count)),
             None => Err(no_value(alloc, option, word)),
         },
@@ -226,6 +228,7 @@ pub(crate) fn relay_options(
         upstreams: other_upstreams_of(alloc, found, listen)?,
         accepts: count_of(alloc, found, CommandOption::Accepts)?,
         tries: count_of(alloc, found, CommandOption::Tries)?,
+        most_bytes: count_of(alloc, found, CommandOption::MostBytes)?,
         verbose: has_flag(found, "verbose"),
         end_on_refusal: has_flag(found, "end-on-refusal"),
         prunes: has_flag(found, "prune"),

@@ -1,7 +1,7 @@
 //! What the words behind options stand for.
 
 ghost use Rattle.std.specs.Prelude.{IfSome};
-ghost use Rattle.ovs_command_line.specs.Values.{Stands, SpellsAddress, SpellsCommit, SpellsRow, SpellsCount};
+ghost use Rattle.ovs_command_line.specs.Values.{Stands, SpellsAddress, SpellsCommit, SpellsRow, SpellsNumber};
 
 use ovs_data::{RowId, TxnId};
 use std::net::SocketAddr;
@@ -43,14 +43,14 @@ pub(crate) fn read_row(word: &str) -> Option<RowId>
     }
 }
 
-/// The number from 1 to 1,000,000 that a word spells.
-pub(crate) fn read_count(word: &str) -> Option<u32>
-    ensures value { Stands SpellsCount word.now result }
+/// The number within these bounds that a word spells.
+pub(crate) fn read_number(word: &str, least: u32, greatest: u32) -> Option<u32>
+    ensures value { Stands (SpellsNumber least greatest) word.now result }
 {
     let Ok(count) = word.parse::<u32>() else {
         return None;
     };
-    if count == 0 || count > 1_000_000 {
+    if count < least || count > greatest {
         return None;
     }
     Some(count)

@@ -5,7 +5,7 @@ use Rattle.std.specs.Prelude.{nat_lt, option_map, slice_get}
 use Rattle.std.specs.List.{AllByRecursion, find, insert, remove}
 use Rattle.std.specs.List.Sorted.{IsPartitionedBy}
 use Rattle.ovs_desk.specs.declared.by_asker.ByAsker.{ByAsker}
-use Rattle.ovs_desk.specs.declared.pending.Pending.{Pending}
+use Rattle.ovs_desk.specs.declared.forwarded.Forwarded.{Forwarded}
 use Rattle.ovs_desk.specs.Book.{AscendIn}
 use Rattle.ovs_desk.specs.ByAsker.{is_before, is_same, is_this, InOrder, place, put, without, first_number, by_asker, listed}
 use Rattle.ovs_desk.specs.Ledger.{at_first, without_first}
@@ -106,7 +106,7 @@ in_order_put a (b ∷ l) o = by (is_before b a) refl (in_order_put a l o.1)
     by true is later = (all_put (λ (x : ByAsker). is_before x b ≡ false) a l (asym b a is) o.0, later)
     by false is later = ((is, all_not_before b a l is o.0), o)
 
-pub in_order : (test : Pending → Bool) (es : List Pending) → InOrder (listed test es)
+pub in_order : (test : Forwarded → Bool) (es : List Forwarded) → InOrder (listed test es)
 in_order test [] = tt
 in_order test (e ∷ es) = by (test e) (in_order test es)
   where
@@ -176,7 +176,7 @@ length_put a (b ∷ l) = by (is_before b a) (length_put a l)
     by true later = ap suc later
     by false later = refl
 
-pub fewer_listed : (test : Pending → Bool) (es : List Pending) → length (listed test es) ≤ length es
+pub fewer_listed : (test : Forwarded → Bool) (es : List Forwarded) → length (listed test es) ≤ length es
 fewer_listed test [] = omega arith
 fewer_listed test (e ∷ es) = by (test e) (fewer_listed test es)
   where
@@ -184,13 +184,13 @@ fewer_listed test (e ∷ es) = by (test e) (fewer_listed test es)
     by true less = let n = length_put (by_asker e) (listed test es) in omega (arith, n, less)
     by false less = omega (arith, less)
 
-pub all_listed : (test : Pending → Bool) → ((e : Pending) → test e ≡ true) → (es : List Pending) → length (listed test es) ≡ length es
+pub all_listed : (test : Forwarded → Bool) → ((e : Forwarded) → test e ≡ true) → (es : List Forwarded) → length (listed test es) ≡ length es
 all_listed test all [] = refl
 all_listed test all (e ∷ es) = rw (all e) (length_put (by_asker e) (listed test es) ∙ ap suc (all_listed test all es))
 
 -- ---- what a call makes of the list
 
-pub listed_more : (test : Pending → Bool) (es : List Pending) (e : Pending)
+pub listed_more : (test : Forwarded → Bool) (es : List Forwarded) (e : Forwarded)
     → listed test (es ++ e ∷ []) ≡ cond (test e) (put (by_asker e) (listed test es)) (listed test es)
 listed_more test [] e = refl
 listed_more test (f ∷ es) e = by (test f) (test e) (listed_more test es e)
@@ -203,9 +203,9 @@ listed_more test (f ∷ es) e = by (test f) (test e) (listed_more test es e)
     by false true h = h
     by false false h = h
 
-module _ (p : Pending → Bool) (f : Pending → Pending) (keeps : (e : Pending) → by_asker (f e) ≡ by_asker e) (test : Pending → Bool) where
+module _ (p : Forwarded → Bool) (f : Forwarded → Forwarded) (keeps : (e : Forwarded) → by_asker (f e) ≡ by_asker e) (test : Forwarded → Bool) where
   -- the test answers as before
-  pub listed_same : ((e : Pending) → p e ≡ true → test (f e) ≡ test e) → (es : List Pending) → listed test (at_first p f es) ≡ listed test es
+  pub listed_same : ((e : Forwarded) → p e ≡ true → test (f e) ≡ test e) → (es : List Forwarded) → listed test (at_first p f es) ≡ listed test es
   listed_same same [] = refl
   listed_same same (e ∷ es) = by (p e) refl (listed_same same es)
     where
@@ -215,7 +215,7 @@ module _ (p : Pending → Bool) (f : Pending → Pending) (keeps : (e : Pending)
       by false is later = ap (λ (l : List ByAsker). cond (test e) (put (by_asker e) l) l) later
 
   -- the one that was found passes the test only now
-  pub listed_anew : ((e : Pending) → p e ≡ true → test e ≡ false) → ((e : Pending) → test (f e) ≡ true) → (es : List Pending) (r : Pending) → find p es ≡ Some r
+  pub listed_anew : ((e : Forwarded) → p e ≡ true → test e ≡ false) → ((e : Forwarded) → test (f e) ≡ true) → (es : List Forwarded) (r : Forwarded) → find p es ≡ Some r
       → listed test (at_first p f es) ≡ put (by_asker r) (listed test es)
   listed_anew old new [] r is = absurd cc
   listed_anew old new (e ∷ es) r is = by (p e) refl is (λ found. listed_anew old new es r found)
@@ -230,12 +230,12 @@ module _ (p : Pending → Bool) (f : Pending → Pending) (keeps : (e : Pending)
           → listed test (cond c (f e ∷ es) (e ∷ at_first p f es)) ≡ put (by_asker r) (cond (test e) (put (by_asker e) (listed test es)) (listed test es))
       by true so found later =
           let same : e ≡ r = cc in
-          rw (new e) (rw (old e so) ((λ i. put (keeps e i) (listed test es)) ∙ ap (λ (x : Pending). put (by_asker x) (listed test es)) same))
+          rw (new e) (rw (old e so) ((λ i. put (keeps e i) (listed test es)) ∙ ap (λ (x : Forwarded). put (by_asker x) (listed test es)) same))
       by false so found later = late (test e) (later found)
 
 -- all pass then
-pub listed_all : (test every : Pending → Bool) (f : Pending → Pending) → ((e : Pending) → by_asker (f e) ≡ by_asker e) → ((e : Pending) → test (f e) ≡ true)
-    → ((e : Pending) → every e ≡ true) → (es : List Pending) → listed test (map f es) ≡ listed every es
+pub listed_all : (test every : Forwarded → Bool) (f : Forwarded → Forwarded) → ((e : Forwarded) → by_asker (f e) ≡ by_asker e) → ((e : Forwarded) → test (f e) ≡ true)
+    → ((e : Forwarded) → every e ≡ true) → (es : List Forwarded) → listed test (map f es) ≡ listed every es
 listed_all test every f keeps passes all [] = refl
 listed_all test every f keeps passes all (e ∷ es) =
     rw (passes e) (rw (all e) (λ i. put (keeps e i) (listed_all test every f keeps passes all es i)))
@@ -249,7 +249,7 @@ from_lower : (low from : ℕ) (l : List ByAsker) → low ≤ from → AreFrom fr
 from_lower low from [] h a = tt
 from_lower low from (b ∷ l) h a = (omega (arith, h, a.0), from_lower low from l h a.1)
 
-pub listed_from : (test : Pending → Bool) (low high : ℕ) (es : List Pending) → AscendIn low high es → AreFrom low (listed test es)
+pub listed_from : (test : Forwarded → Bool) (low high : ℕ) (es : List Forwarded) → AscendIn low high es → AreFrom low (listed test es)
 listed_from test low high [] a = tt
 listed_from test low high (e ∷ es) a = by (test e) (from_lower low (suc e.number) (listed test es) (omega (arith, a.0)) (listed_from test (suc e.number) high es a.1))
   where
@@ -268,16 +268,16 @@ absent_above : (low : ℕ) (a : ByAsker) (l : List ByAsker) → a.number < low �
 absent_above low a [] less f = tt
 absent_above low a (b ∷ l) less f = (other_number b a (λ e. absurd (omega (arith, less, f.0, e))), absent_above low a l less f.1)
 
-found_from : (p : Pending → Bool) (low high : ℕ) (es : List Pending) (r : Pending) → AscendIn low high es → find p es ≡ Some r → low ≤ r.number
+found_from : (p : Forwarded → Bool) (low high : ℕ) (es : List Forwarded) (r : Forwarded) → AscendIn low high es → find p es ≡ Some r → low ≤ r.number
 found_from p low high [] r a is = absurd cc
 found_from p low high (e ∷ es) r a is = by (p e) is (found_from p (suc e.number) high es r a.1)
   where
     by : (c : Bool) → cond c (Some e) (find p es) ≡ Some r → (find p es ≡ Some r → suc e.number ≤ r.number) → low ≤ r.number
-    by true here later = (let same : e ≡ r = cc in subst (λ (x : Pending). low ≤ x.number) same a.0)
+    by true here later = (let same : e ≡ r = cc in subst (λ (x : Forwarded). low ≤ x.number) same a.0)
     by false here later = let more = later here in omega (arith, more, a.0)
 
-module _ (p test : Pending → Bool) where
-  absent_if : (low high : ℕ) (es : List Pending) (r : Pending) → AscendIn low high es → find p es ≡ Some r → test r ≡ false → IsAbsent (by_asker r) (listed test es)
+module _ (p test : Forwarded → Bool) where
+  absent_if : (low high : ℕ) (es : List Forwarded) (r : Forwarded) → AscendIn low high es → find p es ≡ Some r → test r ≡ false → IsAbsent (by_asker r) (listed test es)
   absent_if low high [] r a is fails = tt
   absent_if low high (e ∷ es) r a is fails = by (p e) (test e) refl is (λ here. absent_if (suc e.number) high es r a.1 here fails)
     where
@@ -289,14 +289,14 @@ module _ (p test : Pending → Bool) where
       by true true so here later = absurd (let same : e ≡ r = cc in let clash = sym so ∙ ap test same ∙ fails in cc)
       by true false so here later =
           let same : e ≡ r = cc in
-          subst (λ (x : Pending). IsAbsent (by_asker x) (listed test es)) same (absent_above (suc e.number) (by_asker e) (listed test es) (omega arith) after)
+          subst (λ (x : Forwarded). IsAbsent (by_asker x) (listed test es)) same (absent_above (suc e.number) (by_asker e) (listed test es) (omega arith) after)
       by false true so here later =
           let more = found_from p (suc e.number) high es r a.1 here in
           all_put (λ (b : ByAsker). is_same b (by_asker r) ≡ false) (by_asker e) (listed test es)
           (other_number (by_asker e) (by_asker r) (λ same. absurd (omega (arith, more, same)))) (later here)
       by false false so here later = later here
 
-  left_out : (es : List Pending) (r : Pending) → find p es ≡ Some r → test r ≡ false → listed test (without_first p es) ≡ listed test es
+  left_out : (es : List Forwarded) (r : Forwarded) → find p es ≡ Some r → test r ≡ false → listed test (without_first p es) ≡ listed test es
   left_out [] r is fails = absurd cc
   left_out (e ∷ es) r is fails = by (p e) is (λ here. left_out es r here fails)
     where
@@ -305,7 +305,7 @@ module _ (p test : Pending → Bool) where
       by true here later = let same : e ≡ r = cc in rw (ap test same ∙ fails) refl
       by false here later = ap (λ (l : List ByAsker). cond (test e) (put (by_asker e) l) l) (later here)
 
-  taken_out : (es : List Pending) (r : Pending) → find p es ≡ Some r → test r ≡ true → listed test es ≡ put (by_asker r) (listed test (without_first p es))
+  taken_out : (es : List Forwarded) (r : Forwarded) → find p es ≡ Some r → test r ≡ true → listed test es ≡ put (by_asker r) (listed test (without_first p es))
   taken_out [] r is passes = absurd cc
   taken_out (e ∷ es) r is passes = by (p e) is (λ here. taken_out es r here passes)
     where
@@ -319,10 +319,10 @@ module _ (p test : Pending → Bool) where
           → cond (test e) (put (by_asker e) (listed test es)) (listed test es) ≡ put (by_asker r) (listed test (cond c es (e ∷ without_first p es)))
       by true here later =
           let same : e ≡ r = cc in
-          rw (ap test same ∙ passes) (ap (λ (x : Pending). put (by_asker x) (listed test es)) same)
+          rw (ap test same ∙ passes) (ap (λ (x : Forwarded). put (by_asker x) (listed test es)) same)
       by false here later = late (test e) (later here)
 
-  pub listed_without : (low high : ℕ) (es : List Pending) (r : Pending) → AscendIn low high es → find p es ≡ Some r
+  pub listed_without : (low high : ℕ) (es : List Forwarded) (r : Forwarded) → AscendIn low high es → find p es ≡ Some r
       → listed test (without_first p es) ≡ without (by_asker r) (listed test es)
   listed_without low high es r a is = by (test r) refl
     where
@@ -332,46 +332,46 @@ module _ (p test : Pending → Bool) where
 
 -- ---- the first of an asker's
 
-first_own : (a : ByAsker) (who : ℕ) (l : List ByAsker) → (a.asker == who) ≡ true → AreFrom a.number l → first_number who (put a l) ≡ Some a.number
-first_own a who [] own f = rw own refl
-first_own a who (b ∷ l) own f = by (is_before b a) (b.asker == who) refl refl (first_own a who l own f.1)
+first_own : (a : ByAsker) (session : ℕ) (l : List ByAsker) → (a.asker == session) ≡ true → AreFrom a.number l → first_number session (put a l) ≡ Some a.number
+first_own a session [] own f = rw own refl
+first_own a session (b ∷ l) own f = by (is_before b a) (b.asker == session) refl refl (first_own a session l own f.1)
   where
-    apart : (b.asker == who) ≡ true → Before b a → ⊥
-    apart so (inl less) = let x = eqb-true b.asker who so in let y = eqb-true a.asker who own in absurd (omega (arith, less, x, y))
+    apart : (b.asker == session) ≡ true → Before b a → ⊥
+    apart so (inl less) = let x = eqb-true b.asker session so in let y = eqb-true a.asker session own in absurd (omega (arith, less, x, y))
     apart so (inr (same, less)) = absurd (omega (arith, less, f.0))
 
-    by : (c o : Bool) → is_before b a ≡ c → (b.asker == who) ≡ o → first_number who (put a l) ≡ Some a.number
-        → first_number who (cond c (b ∷ put a l) (a ∷ b ∷ l)) ≡ Some a.number
+    by : (c o : Bool) → is_before b a ≡ c → (b.asker == session) ≡ o → first_number session (put a l) ≡ Some a.number
+        → first_number session (cond c (b ∷ put a l) (a ∷ b ∷ l)) ≡ Some a.number
     by true true is so later = absurd (apart so (before b a is))
     by true false is so later = rw so later
     by false o is so later = rw own refl
 
-first_other : (a : ByAsker) (who : ℕ) (l : List ByAsker) → (a.asker == who) ≡ false → first_number who (put a l) ≡ first_number who l
-first_other a who [] other = rw other refl
-first_other a who (b ∷ l) other = by (is_before b a) (first_other a who l other)
+first_other : (a : ByAsker) (session : ℕ) (l : List ByAsker) → (a.asker == session) ≡ false → first_number session (put a l) ≡ first_number session l
+first_other a session [] other = rw other refl
+first_other a session (b ∷ l) other = by (is_before b a) (first_other a session l other)
   where
-    by : (c : Bool) → first_number who (put a l) ≡ first_number who l
-        → first_number who (cond c (b ∷ put a l) (a ∷ b ∷ l)) ≡ cond (b.asker == who) (Some b.number) (first_number who l)
-    by true later = ap (λ (o : Option ℕ). cond (b.asker == who) (Some b.number) o) later
+    by : (c : Bool) → first_number session (put a l) ≡ first_number session l
+        → first_number session (cond c (b ∷ put a l) (a ∷ b ∷ l)) ≡ cond (b.asker == session) (Some b.number) (first_number session l)
+    by true later = ap (λ (o : Option ℕ). cond (b.asker == session) (Some b.number) o) later
     by false later = rw other refl
 
-abbrev pub number_of : Pending → ℕ
+abbrev pub number_of : Forwarded → ℕ
 number_of e = e.number
 
 -- it is that of the first request of this session that passes the test
-pub first_listed : (who : ℕ) (test p : Pending → Bool) → ((e : Pending) → p e ≡ ((e.asker == who) && test e)) → (low high : ℕ) (es : List Pending) → AscendIn low high es
-    → first_number who (listed test es) ≡ option_map number_of (find p es)
-first_listed who test p is low high [] a = refl
-first_listed who test p is low high (e ∷ es) a =
-    by (e.asker == who) (test e) refl (first_listed who test p is (suc e.number) high es a.1)
+pub first_listed : (session : ℕ) (test p : Forwarded → Bool) → ((e : Forwarded) → p e ≡ ((e.asker == session) && test e)) → (low high : ℕ) (es : List Forwarded) → AscendIn low high es
+    → first_number session (listed test es) ≡ option_map number_of (find p es)
+first_listed session test p is low high [] a = refl
+first_listed session test p is low high (e ∷ es) a =
+    by (e.asker == session) (test e) refl (first_listed session test p is (suc e.number) high es a.1)
     ∙ ap (λ (b : Bool). option_map number_of (cond b (Some e) (find p es))) (sym (is e))
   where
-    by : (o t : Bool) → (e.asker == who) ≡ o → first_number who (listed test es) ≡ option_map number_of (find p es)
-        → first_number who (cond t (put (by_asker e) (listed test es)) (listed test es)) ≡ option_map number_of (cond (o && t) (Some e) (find p es))
+    by : (o t : Bool) → (e.asker == session) ≡ o → first_number session (listed test es) ≡ option_map number_of (find p es)
+        → first_number session (cond t (put (by_asker e) (listed test es)) (listed test es)) ≡ option_map number_of (cond (o && t) (Some e) (find p es))
     by true true own later =
-        first_own (by_asker e) who (listed test es) own
+        first_own (by_asker e) session (listed test es) own
         (from_lower e.number (suc e.number) (listed test es) (omega arith) (listed_from test (suc e.number) high es a.1))
-    by false true own later = first_other (by_asker e) who (listed test es) own ∙ later
+    by false true own later = first_other (by_asker e) session (listed test es) own ∙ later
     by true false own later = later
     by false false own later = later
 
@@ -418,38 +418,38 @@ without_none a (b ∷ l) h = by (is_before b a) refl h (λ there. without_none a
 
 -- the asker of the one that was found, if one was
 abbrev pub own_number : ℕ → Option ByAsker → Option ℕ
-own_number who None = None
-own_number who (Some a) = cond (a.asker == who) (Some a.number) None
+own_number session None = None
+own_number session (Some a) = cond (a.asker == session) (Some a.number) None
 
 abbrev pub least : ℕ → ByAsker
-least who = record { asker = who; number = 0 }
+least session = record { asker = session; number = 0 }
 
-none_after : (who : ℕ) (a : ByAsker) (l : List ByAsker) → who < a.asker → AllByRecursion (λ (b : ByAsker). is_before b a ≡ false) l → first_number who l ≡ None
-none_after who a [] less all = refl
-none_after who a (b ∷ l) less all = rw (ne_eqb b.asker who (apart (not_before b a all.0))) (none_after who a l less all.1)
+none_after : (session : ℕ) (a : ByAsker) (l : List ByAsker) → session < a.asker → AllByRecursion (λ (b : ByAsker). is_before b a ≡ false) l → first_number session l ≡ None
+none_after session a [] less all = refl
+none_after session a (b ∷ l) less all = rw (ne_eqb b.asker session (apart (not_before b a all.0))) (none_after session a l less all.1)
   where
-    apart : ((a.asker < b.asker) ⊎ ((a.asker ≡ b.asker) × (a.number ≤ b.number))) → b.asker ≢ who
+    apart : ((a.asker < b.asker) ⊎ ((a.asker ≡ b.asker) × (a.number ≤ b.number))) → b.asker ≢ session
     apart (inl more) same = absurd (omega (arith, less, more, same))
     apart (inr (e, more)) same = absurd (omega (arith, less, e, same))
 
-pub first_at : (who : ℕ) (l : List ByAsker) → InOrder l → first_number who l ≡ own_number who (slice_get l (place (least who) l))
-first_at who [] o = refl
-first_at who (a ∷ l) o = by (is_before a (least who)) (a.asker == who) refl refl (first_at who l o.1)
+pub first_at : (session : ℕ) (l : List ByAsker) → InOrder l → first_number session l ≡ own_number session (slice_get l (place (least session) l))
+first_at session [] o = refl
+first_at session (a ∷ l) o = by (is_before a (least session)) (a.asker == session) refl refl (first_at session l o.1)
   where
-    before_least : (a.asker == who) ≡ true → Before a (least who) → ⊥
-    before_least so (inl less) = let x = eqb-true a.asker who so in absurd (omega (arith, less, x))
+    before_least : (a.asker == session) ≡ true → Before a (least session) → ⊥
+    before_least so (inl less) = let x = eqb-true a.asker session so in absurd (omega (arith, less, x))
     before_least so (inr (same, less)) = absurd (omega (arith, less))
 
-    after_least : (a.asker == who) ≡ false → ((who < a.asker) ⊎ ((who ≡ a.asker) × (0 ≤ a.number))) → who < a.asker
+    after_least : (a.asker == session) ≡ false → ((session < a.asker) ⊎ ((session ≡ a.asker) × (0 ≤ a.number))) → session < a.asker
     after_least so (inl more) = more
-    after_least so (inr (same, more)) = absurd (eqb-false a.asker who so (sym same))
+    after_least so (inr (same, more)) = absurd (eqb-false a.asker session so (sym same))
 
-    by : (c own : Bool) → is_before a (least who) ≡ c → (a.asker == who) ≡ own → first_number who l ≡ own_number who (slice_get l (place (least who) l))
-        → cond own (Some a.number) (first_number who l) ≡ own_number who (slice_get (a ∷ l) (place (least who) (a ∷ l)))
-    by true true is so later = absurd (before_least so (before a (least who) is))
+    by : (c own : Bool) → is_before a (least session) ≡ c → (a.asker == session) ≡ own → first_number session l ≡ own_number session (slice_get l (place (least session) l))
+        → cond own (Some a.number) (first_number session l) ≡ own_number session (slice_get (a ∷ l) (place (least session) (a ∷ l)))
+    by true true is so later = absurd (before_least so (before a (least session) is))
     by true false is so later = rw is (rw one-add later)
     by false true is so later = rw is (rw so refl)
-    by false false is so later = rw is (rw so (none_after who a l (after_least so (not_before a (least who) is)) o.0))
+    by false false is so later = rw is (rw so (none_after session a l (after_least so (not_before a (least session) is)) o.0))
 
 -- ---- what a binary search may ask
 

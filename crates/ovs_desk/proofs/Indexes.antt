@@ -7,10 +7,10 @@ use Rattle.std.specs.List.{AllByRecursion, find, list_any, position_or_len}
 use Rattle.std.specs.List.Sorted.{IsPartitionPoint}
 use Rattle.ovs_desk.specs.declared.standing.StandingAnswer.{StandingAnswer}
 use Rattle.ovs_desk.specs.declared.by_asker.ByAsker.{ByAsker}
-use Rattle.ovs_desk.specs.declared.pending.Pending.{Pending}
-use Rattle.ovs_desk.specs.declared.pending.State.{State}
-use Rattle.ovs_desk.specs.declared.pending.State.TheVariants.{Waiting, Taken, Answered, Lost}
-use Rattle.ovs_desk.specs.declared.pending.Sought.TheVariants.{ToGo, Open, Of}
+use Rattle.ovs_desk.specs.declared.forwarded.Forwarded.{Forwarded}
+use Rattle.ovs_desk.specs.declared.forwarded.ForwardedState.{ForwardedState}
+use Rattle.ovs_desk.specs.declared.forwarded.ForwardedState.TheVariants.{Waiting, Taken, Answered, Lost}
+use Rattle.ovs_desk.specs.declared.forwarded.RequestFilter.TheVariants.{ToGo, Open, Of}
 use Rattle.ovs_desk.specs.Book.{AscendIn, IsIndex, is_any, is_due}
 use Rattle.ovs_desk.specs.ByAsker.{InOrder, put, without, first_number, by_asker, listed}
 use Rattle.ovs_desk.specs.Ledger.{passes, is_open, is_waiting, taken, answered, lost, at_first, without_first}
@@ -21,15 +21,15 @@ use Rattle.ovs_desk.proofs.Steps.{both, length_first, length_all, length_without
 
 -- ---- where a request stands
 
-none_there : (p : Pending → Bool) (es : List Pending) → find p es ≡ None → position p es ≡ None
+none_there : (p : Forwarded → Bool) (es : List Forwarded) → find p es ≡ None → position p es ≡ None
 none_there p es none = by (position p es) refl
   where
     by : (o : Option ℕ) → position p es ≡ o → position p es ≡ None
     by None is = is
     by (Some i) is = absurd (let clash = sym none ∙ (hit p es i nobody is).found in cc)
 
-numbered_at : (p : Pending → Bool) (high : ℕ) (es : List Pending) (r : Pending) (at : ℕ) → AscendIn 0 high es → find p es ≡ Some r
-    → IsPartitionPoint (λ (e : Pending). nat_lt e.number r.number ≡ true) (λ (e : Pending). nat_lt e.number r.number ≡ false) es at → position p es ≡ Some at
+numbered_at : (p : Forwarded → Bool) (high : ℕ) (es : List Forwarded) (r : Forwarded) (at : ℕ) → AscendIn 0 high es → find p es ≡ Some r
+    → IsPartitionPoint (λ (e : Forwarded). nat_lt e.number r.number ≡ true) (λ (e : Forwarded). nat_lt e.number r.number ≡ false) es at → position p es ≡ Some at
 numbered_at p high es r at a is parts = by (position p es) refl
   where
     by : (o : Option ℕ) → position p es ≡ o → position p es ≡ Some at
@@ -43,43 +43,43 @@ numbered_at p high es r at a is parts = by (position p es) refl
         same (inl e) = e
         same (inr (inl less)) =
             let low = ltb-true (get_or es i r).number r.number (parts.0 i r (omega arith) less) in
-            let number = ap (λ (e : Pending). e.number) here in
+            let number = ap (λ (e : Forwarded). e.number) here in
             absurd (omega (arith, low, number))
         same (inr (inr more)) =
             let within = (hit p es i r some).within in
             let above = ltb-false (get_or es at r).number r.number (parts.1 at r (omega arith) (omega (arith, more, within))) in
             let up = numbers_ascend 0 high es at i r a more within in
-            let number = ap (λ (e : Pending). e.number) here in
+            let number = ap (λ (e : Forwarded). e.number) here in
             absurd (omega (arith, above, up, number))
 
 and_true : (b : Bool) → b ≡ (b && true)
 and_true true = refl
 and_true false = refl
 
-module _ (who : ℕ) (test p : Pending → Bool) (is : (e : Pending) → p e ≡ ((e.asker == who) && test e)) (high : ℕ) (es : List Pending) (ascend : AscendIn 0 high es)
+module _ (session : ℕ) (test p : Forwarded → Bool) (is : (e : Forwarded) → p e ≡ ((e.asker == session) && test e)) (high : ℕ) (es : List Forwarded) (ascend : AscendIn 0 high es)
     (every : List ByAsker) (all : every ≡ listed test es) where
-  same_number : first_number who every ≡ option_map number_of (find p es)
-  same_number = ap (first_number who) all ∙ first_listed who test p is 0 high es ascend
+  same_number : first_number session every ≡ option_map number_of (find p es)
+  same_number = ap (first_number session) all ∙ first_listed session test p is 0 high es ascend
 
-  pub no_place : first_number who every ≡ None → position p es ≡ None
+  pub no_place : first_number session every ≡ None → position p es ≡ None
   no_place none = by (find p es) refl
     where
-      by : (o : Option Pending) → find p es ≡ o → position p es ≡ None
+      by : (o : Option Forwarded) → find p es ≡ o → position p es ≡ None
       by None so = none_there p es so
       by (Some r) so = absurd (let clash = sym none ∙ same_number ∙ ap (option_map number_of) so in cc)
 
-  pub place_of_first : (n at : ℕ) → first_number who every ≡ Some n
-      → IsPartitionPoint (λ (e : Pending). nat_lt e.number n ≡ true) (λ (e : Pending). nat_lt e.number n ≡ false) es at → position p es ≡ Some at
+  pub place_of_first : (n at : ℕ) → first_number session every ≡ Some n
+      → IsPartitionPoint (λ (e : Forwarded). nat_lt e.number n ≡ true) (λ (e : Forwarded). nat_lt e.number n ≡ false) es at → position p es ≡ Some at
   place_of_first n at some parts = by (find p es) refl
     where
-      by : (o : Option Pending) → find p es ≡ o → position p es ≡ Some at
+      by : (o : Option Forwarded) → find p es ≡ o → position p es ≡ Some at
       by None so = absurd (let clash = sym some ∙ same_number ∙ ap (option_map number_of) so in cc)
       by (Some r) so =
           let number : n ≡ r.number = (let found = sym some ∙ same_number ∙ ap (option_map number_of) so in cc) in
           numbered_at p high es r at ascend so
-          (subst (λ (m : ℕ). IsPartitionPoint (λ (e : Pending). nat_lt e.number m ≡ true) (λ (e : Pending). nat_lt e.number m ≡ false) es at) number parts)
+          (subst (λ (m : ℕ). IsPartitionPoint (λ (e : Forwarded). nat_lt e.number m ≡ true) (λ (e : Forwarded). nat_lt e.number m ≡ false) es at) number parts)
 
-  some_any : (fs : List Pending) → is_some (option_map number_of (find p fs)) ≡ list_any p fs
+  some_any : (fs : List Forwarded) → is_some (option_map number_of (find p fs)) ≡ list_any p fs
   some_any [] = refl
   some_any (e ∷ fs) = by (p e) (some_any fs)
     where
@@ -87,11 +87,11 @@ module _ (who : ℕ) (test p : Pending → Bool) (is : (e : Pending) → p e ≡
       by true h = refl
       by false h = h
 
-  pub any_first : is_some (first_number who every) ≡ list_any p es
+  pub any_first : is_some (first_number session every) ≡ list_any p es
   any_first = ap (λ (o : Option ℕ). is_some o) same_number ∙ some_any es
 
-pub of_is : (who : ℕ) (e : Pending) → passes (Of who) e ≡ ((e.asker == who) && is_any e)
-of_is who e = and_true (e.asker == who)
+pub of_is : (session : ℕ) (e : Forwarded) → passes (Of session) e ≡ ((e.asker == session) && is_any e)
+of_is session e = and_true (e.asker == session)
 
 -- ---- behind those that don't pass
 
@@ -103,8 +103,8 @@ less_after n a b = by (cases_order a b)
     by (inr (inl less)) = lt-ltb (n + a) (n + b) (omega (arith, less)) ∙ sym (lt-ltb a b less)
     by (inr (inr more)) = le-ltb (n + a) (n + b) (omega (arith, more)) ∙ sym (le-ltb a b (omega (arith, more)))
 
-module _ (p : Pending → Bool) where
-  place_after : (es : List Pending) (from : ℕ) → from ≤ length es → ((k : ℕ) (d : Pending) → k < from → p (get_or es k d) ≡ false)
+module _ (p : Forwarded → Bool) where
+  place_after : (es : List Forwarded) (from : ℕ) → from ≤ length es → ((k : ℕ) (d : Forwarded) → k < from → p (get_or es k d) ≡ false)
       → (position_or_len p es ≡ from + position_or_len p (drop from es)) × (length es ≡ from + length (drop from es))
   place_after es zero h fails = (omega arith, omega arith)
   place_after [] (suc from) h fails = absurd (omega (arith, h))
@@ -115,7 +115,7 @@ module _ (p : Pending → Bool) where
       let second = later.1 in
       (rw no (omega (arith, first)), omega (arith, second))
 
-  pub position_after : (es : List Pending) (from : ℕ) → from ≤ length es → ((k : ℕ) (d : Pending) → k < from → p (get_or es k d) ≡ false)
+  pub position_after : (es : List Forwarded) (from : ℕ) → from ≤ length es → ((k : ℕ) (d : Forwarded) → k < from → p (get_or es k d) ≡ false)
       → position p es ≡ option_map (λ n. from + n) (position p (drop from es))
   position_after es from h fails = whole ∙ by (nat_lt place len)
     where
@@ -134,31 +134,31 @@ module _ (p : Pending → Bool) where
       by true = refl
       by false = refl
 
-all_at : (P : Pending → Type 0) (es : List Pending) (k : ℕ) (d : Pending) → AllByRecursion P es → k < length es → P (get_or es k d)
+all_at : (P : Forwarded → Type 0) (es : List Forwarded) (k : ℕ) (d : Forwarded) → AllByRecursion P es → k < length es → P (get_or es k d)
 all_at P [] k d all h = absurd (omega arith)
 all_at P (e ∷ es) zero d all h = all.0
 all_at P (e ∷ es) (suc k) d all h = all_at P es k d all.1 (omega (arith, h))
 
-abbrev pub WaitFrom : ℕ → List Pending → Type 0
-WaitFrom low es = AllByRecursion (λ (e : Pending). is_waiting e.state ≡ true → low ≤ e.number) es
+abbrev pub WaitFrom : ℕ → List Forwarded → Type 0
+WaitFrom low es = AllByRecursion (λ (e : Forwarded). is_waiting e.state ≡ true → low ≤ e.number) es
 
 -- none waits before the number
-pub none_waits : (low : ℕ) (es : List Pending) (from : ℕ) → WaitFrom low es → from ≤ length es
-    → IsPartitionPoint (λ (e : Pending). nat_lt e.number low ≡ true) (λ (e : Pending). nat_lt e.number low ≡ false) es from
-    → (k : ℕ) (d : Pending) → k < from → passes ToGo (get_or es k d) ≡ false
+pub none_waits : (low : ℕ) (es : List Forwarded) (from : ℕ) → WaitFrom low es → from ≤ length es
+    → IsPartitionPoint (λ (e : Forwarded). nat_lt e.number low ≡ true) (λ (e : Forwarded). nat_lt e.number low ≡ false) es from
+    → (k : ℕ) (d : Forwarded) → k < from → passes ToGo (get_or es k d) ≡ false
 none_waits low es from up within parts k d less = by (is_waiting (get_or es k d).state) refl
   where
     by : (b : Bool) → is_waiting (get_or es k d).state ≡ b → is_waiting (get_or es k d).state ≡ false
     by true waits =
         let below = ltb-true (get_or es k d).number low (parts.0 k d (omega arith) less) in
-        let above = all_at (λ (e : Pending). is_waiting e.state ≡ true → low ≤ e.number) es k d up (omega (arith, less, within)) waits in
+        let above = all_at (λ (e : Forwarded). is_waiting e.state ≡ true → low ≤ e.number) es k d up (omega (arith, less, within)) waits in
         absurd (omega (arith, below, above))
     by false waits = waits
 
 -- ---- what stays
 
-module _ (P : Pending → Type 0) (p : Pending → Bool) where
-  all_first : (f : Pending → Pending) → ((e : Pending) → P e → P (f e)) → (es : List Pending) → AllByRecursion P es → AllByRecursion P (at_first p f es)
+module _ (P : Forwarded → Type 0) (p : Forwarded → Bool) where
+  all_first : (f : Forwarded → Forwarded) → ((e : Forwarded) → P e → P (f e)) → (es : List Forwarded) → AllByRecursion P es → AllByRecursion P (at_first p f es)
   all_first f keeps [] all = tt
   all_first f keeps (e ∷ es) all = by (p e) (all_first f keeps es all.1)
     where
@@ -166,7 +166,7 @@ module _ (P : Pending → Type 0) (p : Pending → Bool) where
       by true later = (keeps e all.0, all.1)
       by false later = (all.0, later)
 
-  all_without : (es : List Pending) → AllByRecursion P es → AllByRecursion P (without_first p es)
+  all_without : (es : List Forwarded) → AllByRecursion P es → AllByRecursion P (without_first p es)
   all_without [] all = tt
   all_without (e ∷ es) all = by (p e) (all_without es all.1)
     where
@@ -174,39 +174,39 @@ module _ (P : Pending → Type 0) (p : Pending → Bool) where
       by true later = all.1
       by false later = (all.0, later)
 
-all_mapped : (P : Pending → Type 0) (f : Pending → Pending) → ((e : Pending) → P (f e)) → (es : List Pending) → AllByRecursion P (map f es)
+all_mapped : (P : Forwarded → Type 0) (f : Forwarded → Forwarded) → ((e : Forwarded) → P (f e)) → (es : List Forwarded) → AllByRecursion P (map f es)
 all_mapped P f keeps [] = tt
 all_mapped P f keeps (e ∷ es) = (keeps e, all_mapped P f keeps es)
 
-all_more : (P : Pending → Type 0) (es : List Pending) (e : Pending) → AllByRecursion P es → P e → AllByRecursion P (es ++ e ∷ [])
+all_more : (P : Forwarded → Type 0) (es : List Forwarded) (e : Forwarded) → AllByRecursion P es → P e → AllByRecursion P (es ++ e ∷ [])
 all_more P [] e all one = (one, tt)
 all_more P (f ∷ es) e all one = (all.0, all_more P es e all.1 one)
 
-numbers_from : (low high : ℕ) (es : List Pending) (n : ℕ) → AscendIn low high es → n ≤ low → WaitFrom n es
+numbers_from : (low high : ℕ) (es : List Forwarded) (n : ℕ) → AscendIn low high es → n ≤ low → WaitFrom n es
 numbers_from low high [] n a h = tt
 numbers_from low high (e ∷ es) n a h = ((λ waits. omega (arith, h, a.0)), numbers_from (suc e.number) high es n a.1 (omega (arith, h, a.0)))
 
-within : (low high : ℕ) (es : List Pending) → AscendIn low high es → low ≤ high
+within : (low high : ℕ) (es : List Forwarded) → AscendIn low high es → low ≤ high
 within low high [] a = a
 within low high (e ∷ es) a = let more = within (suc e.number) high es a.1 in omega (arith, more, a.0)
 
-found_below : (p : Pending → Bool) (low high : ℕ) (es : List Pending) (r : Pending) → AscendIn low high es → find p es ≡ Some r → r.number < high
+found_below : (p : Forwarded → Bool) (low high : ℕ) (es : List Forwarded) (r : Forwarded) → AscendIn low high es → find p es ≡ Some r → r.number < high
 found_below p low high [] r a is = absurd cc
 found_below p low high (e ∷ es) r a is = by (p e) is (found_below p (suc e.number) high es r a.1)
   where
     by : (b : Bool) → cond b (Some e) (find p es) ≡ Some r → (find p es ≡ Some r → r.number < high) → r.number < high
-    by true here later = (let same : e ≡ r = cc in let more = within (suc e.number) high es a.1 in subst (λ (x : Pending). x.number < high) same (omega (arith, more)))
+    by true here later = (let same : e ≡ r = cc in let more = within (suc e.number) high es a.1 in subst (λ (x : Forwarded). x.number < high) same (omega (arith, more)))
     by false here later = later here
 
 -- ---- what a call makes of the lists
 
-waits_not_due : (s : State) → is_waiting s ≡ true → false ≡ not (is_open s)
+waits_not_due : (s : ForwardedState) → is_waiting s ≡ true → false ≡ not (is_open s)
 waits_not_due (Waiting request) h = refl
 waits_not_due Taken h = refl
 waits_not_due (Answered answer) h = absurd cc
 waits_not_due Lost h = absurd cc
 
-wait_from : (low high : ℕ) (es : List Pending) (r : Pending) → AscendIn low high es → find (passes ToGo) es ≡ Some r → WaitFrom r.number (at_first (passes ToGo) taken es)
+wait_from : (low high : ℕ) (es : List Forwarded) (r : Forwarded) → AscendIn low high es → find (passes ToGo) es ≡ Some r → WaitFrom r.number (at_first (passes ToGo) taken es)
 wait_from low high [] r a is = tt
 wait_from low high (e ∷ es) r a is = by (is_waiting e.state) refl is (λ here. wait_from (suc e.number) high es r a.1 here)
   where
@@ -214,20 +214,20 @@ wait_from low high (e ∷ es) r a is = by (is_waiting e.state) refl is (λ here.
         → (find (passes ToGo) es ≡ Some r → WaitFrom r.number (at_first (passes ToGo) taken es)) → WaitFrom r.number (cond b (taken e ∷ es) (e ∷ at_first (passes ToGo) taken es))
     by true waits here later =
         let same : e ≡ r = cc in
-        subst (λ (x : Pending). WaitFrom x.number (taken e ∷ es)) same ((λ h. absurd cc), numbers_from (suc e.number) high es e.number a.1 (omega arith))
+        subst (λ (x : Forwarded). WaitFrom x.number (taken e ∷ es)) same ((λ h. absurd cc), numbers_from (suc e.number) high es e.number a.1 (omega arith))
     by false waits here later = ((λ h. absurd (let clash = sym waits ∙ h in cc)), later here)
 
-lost_state : (e : Pending) (b : Bool) → is_open e.state ≡ b → (by_asker (lost e) ≡ by_asker e) × ((is_due (lost e) ≡ true) × (is_waiting (lost e).state ≡ false))
+lost_state : (e : Forwarded) (b : Bool) → is_open e.state ≡ b → (by_asker (lost e) ≡ by_asker e) × ((is_due (lost e) ≡ true) × (is_waiting (lost e).state ≡ false))
 lost_state e true is = rw is (refl, (refl, refl))
 lost_state e false is = rw is (refl, (rw is refl, closed e.state is))
   where
-    closed : (s : State) → is_open s ≡ false → is_waiting s ≡ false
+    closed : (s : ForwardedState) → is_open s ≡ false → is_waiting s ≡ false
     closed (Waiting request) h = absurd cc
     closed Taken h = absurd cc
     closed (Answered answer) h = refl
     closed Lost h = refl
 
-module _ {sent : ℕ} {es : List Pending} {low : ℕ} {every owed : List ByAsker} {room : ℕ} (x : IsIndex sent es low every owed room) where
+module _ {sent : ℕ} {es : List Forwarded} {low : ℕ} {every owed : List ByAsker} {room : ℕ} (x : IsIndex sent es low every owed room) where
   pub all_in_order : InOrder every
   all_in_order = subst (λ (l : List ByAsker). InOrder l) (sym x.all) (in_order is_any es)
 
@@ -240,17 +240,17 @@ module _ {sent : ℕ} {es : List Pending} {low : ℕ} {every owed : List ByAsker
   pub index_room : (more : ℕ) → room ≤ more → IsIndex sent es low every owed more
   index_room more h = record { all = x.all; due = x.due; room = (let fits = x.room in omega (arith, h, fits)); up = x.up; past = x.past }
 
-  pub index_more : (e : Pending) (more : ℕ) → is_due e ≡ false → 4096 * sent ≤ e.number → length es < more
+  pub index_more : (e : Forwarded) (more : ℕ) → is_due e ≡ false → 4096 * sent ≤ e.number → length es < more
       → IsIndex (sent + 1) (es ++ e ∷ []) low (put (by_asker e) every) owed more
   index_more e more undue new fits = record {
     all = ap (put (by_asker e)) x.all ∙ sym (listed_more is_any es e);
     due = x.due ∙ sym (listed_more is_due es e ∙ ap (λ (b : Bool). cond b (put (by_asker e) (listed is_due es)) (listed is_due es)) undue);
     room = (let longer = length-append es (e ∷ []) in omega (arith, longer, fits));
-    up = all_more (λ (e : Pending). is_waiting e.state ≡ true → low ≤ e.number) es e x.up (λ waits. let past = x.past in omega (arith, past, new));
+    up = all_more (λ (e : Forwarded). is_waiting e.state ≡ true → low ≤ e.number) es e x.up (λ waits. let past = x.past in omega (arith, past, new));
     past = (let past = x.past in omega (arith, past));
   }
 
-  pub index_taken : (r : Pending) → AscendIn 0 (4096 * sent) es → find (passes ToGo) es ≡ Some r → IsIndex sent (at_first (passes ToGo) taken es) r.number every owed room
+  pub index_taken : (r : Forwarded) → AscendIn 0 (4096 * sent) es → find (passes ToGo) es ≡ Some r → IsIndex sent (at_first (passes ToGo) taken es) r.number every owed room
   index_taken r a is = record {
     all = x.all ∙ sym (listed_same (passes ToGo) taken (λ e. refl) is_any (λ e waits. refl) es);
     due = x.due ∙ sym (listed_same (passes ToGo) taken (λ e. refl) is_due (λ e waits. waits_not_due e.state waits) es);
@@ -259,19 +259,19 @@ module _ {sent : ℕ} {es : List Pending} {low : ℕ} {every owed : List ByAsker
     past = (let below = found_below (passes ToGo) 0 (4096 * sent) es r a is in omega (arith, below));
   }
 
-  pub index_answered : (n : ℕ) (answer : StandingAnswer) (r : Pending) → find (passes (Open n)) es ≡ Some r
+  pub index_answered : (n : ℕ) (answer : StandingAnswer) (r : Forwarded) → find (passes (Open n)) es ≡ Some r
       → IsIndex sent (at_first (passes (Open n)) (answered answer) es) low every (put (by_asker r) owed) room
   index_answered n answer r is = record {
     all = x.all ∙ sym (listed_same (passes (Open n)) (answered answer) (λ e. refl) is_any (λ e waits. refl) es);
     due = ap (put (by_asker r)) x.due
         ∙ sym (listed_anew (passes (Open n)) (answered answer) (λ e. refl) is_due (λ e waits. ap not (both (e.number == n) (is_open e.state) waits).1) (λ e. refl) es r is);
     room = (let same = length_first (passes (Open n)) (answered answer) es in let fits = x.room in omega (arith, same, fits));
-    up = all_first (λ (e : Pending). is_waiting e.state ≡ true → low ≤ e.number) (passes (Open n)) (answered answer) (λ e waits h. absurd cc) es x.up;
+    up = all_first (λ (e : Forwarded). is_waiting e.state ≡ true → low ≤ e.number) (passes (Open n)) (answered answer) (λ e waits h. absurd cc) es x.up;
     past = x.past;
   }
 
   -- one more is due, and there is room for it
-  pub room_for_answer : (n : ℕ) (answer : StandingAnswer) (r : Pending) → find (passes (Open n)) es ≡ Some r → length owed < room
+  pub room_for_answer : (n : ℕ) (answer : StandingAnswer) (r : Forwarded) → find (passes (Open n)) es ≡ Some r → length owed < room
   room_for_answer n answer r is =
       let y = index_answered n answer r is in
       let fewer : length (put (by_asker r) owed) ≤ length (at_first (passes (Open n)) (answered answer) es) =
@@ -285,16 +285,16 @@ module _ {sent : ℕ} {es : List Pending} {low : ℕ} {every owed : List ByAsker
     all = x.all ∙ sym (listed_all is_any is_any lost (λ e. (lost_state e (is_open e.state) refl).0) (λ e. refl) (λ e. refl) es);
     due = x.all ∙ sym (listed_all is_due is_any lost (λ e. (lost_state e (is_open e.state) refl).0) (λ e. (lost_state e (is_open e.state) refl).1.0) (λ e. refl) es);
     room = (let same = length_all lost es in let fits = x.room in omega (arith, same, fits));
-    up = all_mapped (λ (e : Pending). is_waiting e.state ≡ true → 4096 * sent ≤ e.number) lost (λ e waits. absurd (let clash = sym waits ∙ (lost_state e (is_open e.state) refl).1.1 in cc)) es;
+    up = all_mapped (λ (e : Forwarded). is_waiting e.state ≡ true → 4096 * sent ≤ e.number) lost (λ e waits. absurd (let clash = sym waits ∙ (lost_state e (is_open e.state) refl).1.1 in cc)) es;
     past = omega arith;
   }
 
-  pub index_without : (p : Pending → Bool) (high : ℕ) (r : Pending) → AscendIn 0 high es → find p es ≡ Some r
+  pub index_without : (p : Forwarded → Bool) (high : ℕ) (r : Forwarded) → AscendIn 0 high es → find p es ≡ Some r
       → IsIndex sent (without_first p es) low (without (by_asker r) every) (without (by_asker r) owed) room
   index_without p high r a is = record {
     all = ap (without (by_asker r)) x.all ∙ sym (listed_without p is_any 0 high es r a is);
     due = ap (without (by_asker r)) x.due ∙ sym (listed_without p is_due 0 high es r a is);
     room = (let one = length_without p es r is in let fits = x.room in omega (arith, one, fits));
-    up = all_without (λ (e : Pending). is_waiting e.state ≡ true → low ≤ e.number) p es x.up;
+    up = all_without (λ (e : Forwarded). is_waiting e.state ≡ true → low ≤ e.number) p es x.up;
     past = x.past;
   }

@@ -13,3 +13,4 @@ pub mod Places
 pub mod Search
 pub mod Shown
 pub mod Steps
+pub mod Memory

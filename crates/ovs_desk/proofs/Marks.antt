@@ -4,14 +4,14 @@ use Rattle.std.specs.Prelude.{map, filter, slice_get, is_some}
 use Rattle.std.specs.List.{list_any}
 use Rattle.ovs_authority.specs.Owing.{is_some_owed, is_owed}
 use Rattle.ovs_locks.specs.Lock.{first_due, is_due, owed_in}
-use Rattle.ovs_locks.specs.declared.asker.Asker.{Asker}
-use Rattle.ovs_lock_desk.specs.declared.late_steal.LateSteal.{LateSteal}
-use Rattle.ovs_lock_desk.specs.DeskLock.{DeskLockValue}
-use Rattle.ovs_lock_desk.specs.LateSteal.{is_due_late}
-use Rattle.ovs_lock_desk.specs.LockDesk.{DeskLocks, answers_here, notices_here, answers_to, notices_to, owes_here, owes_at}
+use Rattle.ovs_locks.specs.declared.waiter.Waiter.{Waiter}
+use Rattle.ovs_lock_desk.specs.declared.pending_steal.PendingSteal.{PendingSteal}
+use Rattle.ovs_lock_desk.specs.RelayLock.{RelayLockValue}
+use Rattle.ovs_lock_desk.specs.PendingSteal.{is_due_late}
+use Rattle.ovs_lock_desk.specs.LockDesk.{RelayLocks, answers_here, notices_here, answers_to, notices_to, owes_here, owes_at}
 use Rattle.ovs_locks.proofs.NextNotice.{some_due, none_due}
-use Rattle.ovs_desk.specs.declared.pending.Pending.{Pending}
-use Rattle.ovs_desk.specs.declared.pending.Sought.TheVariants.{Due}
+use Rattle.ovs_desk.specs.declared.forwarded.Forwarded.{Forwarded}
+use Rattle.ovs_desk.specs.declared.forwarded.RequestFilter.TheVariants.{Due}
 use Rattle.ovs_desk.specs.Ledger.{passes}
 use Rattle.ovs_desk.specs.RelayDesk.{RelayValue, owing_of, ids_of, late_id, message_of}
 
@@ -35,12 +35,12 @@ some_first : {X : Type 0} (xs : List X) → is_some (slice_get xs 0) ≡ true �
 some_first [] e = absurd cc
 some_first (x ∷ xs) e = refl
 
-some_in : (who : ℕ) (name : List ℕ) (xs : List Asker) → is_some_owed (owed_in who name xs) ≡ is_due (first_due who xs)
-some_in who name xs = by (is_due (first_due who xs)) refl
+some_in : (session : ℕ) (name : List ℕ) (xs : List Waiter) → is_some_owed (owed_in session name xs) ≡ is_due (first_due session xs)
+some_in session name xs = by (is_due (first_due session xs)) refl
   where
-    by : (b : Bool) → is_due (first_due who xs) ≡ b → is_some_owed (owed_in who name xs) ≡ is_due (first_due who xs)
-    by true e = some_first (owed_in who name xs) (some_due who name xs e) ∙ sym e
-    by false e = ap is_some_owed (none_due who name xs e) ∙ sym e
+    by : (b : Bool) → is_due (first_due session xs) ≡ b → is_some_owed (owed_in session name xs) ≡ is_due (first_due session xs)
+    by true e = some_first (owed_in session name xs) (some_due session name xs e) ∙ sym e
+    by false e = ap is_some_owed (none_due session name xs e) ∙ sym e
 
 shuffle : (a n b m : Bool) → ((a || n) || (b || m)) ≡ ((a || b) || (n || m))
 shuffle true n b m = refl
@@ -48,29 +48,29 @@ shuffle false true true m = refl
 shuffle false true false m = refl
 shuffle false false b m = refl
 
-here : (who : ℕ) (name : List ℕ) (l : DeskLockValue) → owes_here who l ≡ (is_some_owed (answers_here who name l) || is_some_owed (notices_here who name l))
-here who name l =
-    ap (λ (b : Bool). b || (is_due (first_due who l.lock.queue) || is_due (first_due who l.lock.stolen)))
-    (sym (some_map (λ (late : LateSteal). let p : List ℕ × LateSteal = (name, late) in p) (filter (is_due_late who) l.late) ∙ some_filter (is_due_late who) l.late))
-    ∙ ap (λ (b : Bool). is_some_owed (answers_here who name l) || b)
-    (sym (some_append (owed_in who name l.lock.queue) (owed_in who name l.lock.stolen)
-    ∙ (λ i. some_in who name l.lock.queue i || some_in who name l.lock.stolen i)))
+here : (session : ℕ) (name : List ℕ) (l : RelayLockValue) → owes_here session l ≡ (is_some_owed (answers_here session name l) || is_some_owed (notices_here session name l))
+here session name l =
+    ap (λ (b : Bool). b || (is_due (first_due session l.lock.queue) || is_due (first_due session l.lock.stolen)))
+    (sym (some_map (λ (late : PendingSteal). let p : List ℕ × PendingSteal = (name, late) in p) (filter (is_due_late session) l.late) ∙ some_filter (is_due_late session) l.late))
+    ∙ ap (λ (b : Bool). is_some_owed (answers_here session name l) || b)
+    (sym (some_append (owed_in session name l.lock.queue) (owed_in session name l.lock.stolen)
+    ∙ (λ i. some_in session name l.lock.queue i || some_in session name l.lock.stolen i)))
 
-owes_split : (who : ℕ) (es : DeskLocks) → owes_at who es ≡ (is_some_owed (answers_to who es) || is_some_owed (notices_to who es))
-owes_split who [] = refl
-owes_split who (e ∷ es) =
-    (λ i. here who e.0 e.1 i || owes_split who es i)
-    ∙ shuffle (is_some_owed (answers_here who e.0 e.1)) (is_some_owed (notices_here who e.0 e.1)) (is_some_owed (answers_to who es)) (is_some_owed (notices_to who es))
-    ∙ sym (λ i. some_append (answers_here who e.0 e.1) (answers_to who es) i || some_append (notices_here who e.0 e.1) (notices_to who es) i)
+owes_split : (session : ℕ) (es : RelayLocks) → owes_at session es ≡ (is_some_owed (answers_to session es) || is_some_owed (notices_to session es))
+owes_split session [] = refl
+owes_split session (e ∷ es) =
+    (λ i. here session e.0 e.1 i || owes_split session es i)
+    ∙ shuffle (is_some_owed (answers_here session e.0 e.1)) (is_some_owed (notices_here session e.0 e.1)) (is_some_owed (answers_to session es)) (is_some_owed (notices_to session es))
+    ∙ sym (λ i. some_append (answers_here session e.0 e.1) (answers_to session es) i || some_append (notices_here session e.0 e.1) (notices_to session es) i)
 
 or_assoc : (a b c : Bool) → ((a || b) || c) ≡ (a || (b || c))
 or_assoc true b c = refl
 or_assoc false b c = refl
 
-pub owes_is : (d : RelayValue) (who : ℕ) → is_owed (owing_of d who) ≡ (list_any (passes (Due who)) d.forwards.ledger.pending || owes_at who d.locks.locks)
-owes_is d who =
-    let due = filter (passes (Due who)) d.forwards.ledger.pending in
-    (λ i. (some_append (ids_of due) (map late_id (answers_to who d.locks.locks)) ∙ (λ j. (some_map (λ (e : Pending). e.id) due ∙ some_filter (passes (Due who)) d.forwards.ledger.pending) j || some_map late_id (answers_to who d.locks.locks) j)) i
-    || some_map message_of (notices_to who d.locks.locks) i)
-    ∙ or_assoc (list_any (passes (Due who)) d.forwards.ledger.pending) (is_some_owed (answers_to who d.locks.locks)) (is_some_owed (notices_to who d.locks.locks))
-    ∙ ap (λ (b : Bool). list_any (passes (Due who)) d.forwards.ledger.pending || b) (sym (owes_split who d.locks.locks))
+pub owes_is : (d : RelayValue) (session : ℕ) → is_owed (owing_of d session) ≡ (list_any (passes (Due session)) d.forwards.ledger.pending || owes_at session d.locks.locks)
+owes_is d session =
+    let due = filter (passes (Due session)) d.forwards.ledger.pending in
+    (λ i. (some_append (ids_of due) (map late_id (answers_to session d.locks.locks)) ∙ (λ j. (some_map (λ (e : Forwarded). e.id) due ∙ some_filter (passes (Due session)) d.forwards.ledger.pending) j || some_map late_id (answers_to session d.locks.locks) j)) i
+    || some_map message_of (notices_to session d.locks.locks) i)
+    ∙ or_assoc (list_any (passes (Due session)) d.forwards.ledger.pending) (is_some_owed (answers_to session d.locks.locks)) (is_some_owed (notices_to session d.locks.locks))
+    ∙ ap (λ (b : Bool). list_any (passes (Due session)) d.forwards.ledger.pending || b) (sym (owes_split session d.locks.locks))

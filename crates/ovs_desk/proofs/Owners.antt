@@ -10,17 +10,17 @@ use Rattle.std.proofs.lemmas.Map.{lookup-none}
 use Rattle.std.proofs.lemmas.Map.Entries.{none_past_head}
 use Rattle.std.proofs.lemmas.Map.Keys.{sorted_tail, IsDistinct-from_sorted}
 use Rattle.ovs_locks.specs.ByName.{Ascends, kept}
-use Rattle.ovs_locks.specs.declared.asker.Asker.{Asker}
+use Rattle.ovs_locks.specs.declared.waiter.Waiter.{Waiter}
 use Rattle.ovs_locks.specs.Lock.{LockValue, is_in, is_idle, first_who, owner, stands}
 use Rattle.ovs_locks.proofs.Idle.{one_idle}
 use Rattle.ovs_locks.proofs.NextNotice.{one_heard}
-use Rattle.ovs_lock_desk.specs.Course.{is_held, is_still}
-use Rattle.ovs_lock_desk.specs.LateSteal.{is_due_late, without_one, is_empty_late}
-use Rattle.ovs_lock_desk.specs.DeskLock.{DeskLockValue, no_desk_lock, is_desk_idle, step, desk_owner}
-use Rattle.ovs_lock_desk.specs.LockDesk.{DeskLocks, IsDeskTable, ChangesAt, desk_lock_at, stands_at}
-use Rattle.ovs_lock_desk.specs.declared.course.Course.{Course}
-use Rattle.ovs_lock_desk.specs.declared.course.Course.TheVariants.{Idle, Sent, Waiting, Held}
-use Rattle.ovs_lock_desk.specs.declared.course.Event.TheVariants as events
+use Rattle.ovs_lock_desk.specs.LockState.{is_held, is_still}
+use Rattle.ovs_lock_desk.specs.PendingSteal.{is_due_late, without_one, is_empty_late}
+use Rattle.ovs_lock_desk.specs.RelayLock.{RelayLockValue, no_relay_lock, is_desk_idle, step, desk_owner}
+use Rattle.ovs_lock_desk.specs.LockDesk.{RelayLocks, IsDeskTable, ChangesAt, relay_lock_at, stands_at}
+use Rattle.ovs_lock_desk.specs.declared.lock_state.LockState.{LockState}
+use Rattle.ovs_lock_desk.specs.declared.lock_state.LockState.TheVariants.{Idle, Sent, Waiting, Held}
+use Rattle.ovs_lock_desk.specs.declared.lock_state.LockEvent.TheVariants as events
 use Rattle.ovs_lock_desk.proofs.DeskOwed.{both, idles}
 
 abbrev test : List ℕ → List ℕ → Bool
@@ -28,26 +28,26 @@ test name = is_at (slice_cmp nat_cmp name)
 
 -- ---- one lock
 
-not_held : (c : Course) → is_still c ≡ true → is_held c ≡ false
+not_held : (c : LockState) → is_still c ≡ true → is_held c ≡ false
 not_held (Idle d) e = refl
 not_held (Sent n) e = refl
 not_held Waiting e = refl
 not_held Held e = absurd cc
 
-idle_unowned : (l : DeskLockValue) → is_desk_idle l ≡ true → desk_owner l ≡ None
+idle_unowned : (l : RelayLockValue) → is_desk_idle l ≡ true → desk_owner l ≡ None
 idle_unowned l e =
-    let still = (both (is_empty_late l.late) (is_still l.course) (both (is_idle l.lock) (is_empty_late l.late && is_still l.course) e).1).1 in
-    rw (not_held l.course still) refl
+    let still = (both (is_empty_late l.late) (is_still l.state) (both (is_idle l.lock) (is_empty_late l.late && is_still l.state) e).1).1 in
+    rw (not_held l.state still) refl
 
 -- ---- a change that leaves the owner of a lock
 
-module _ (f : DeskLockValue → DeskLockValue) (keeps : (l : DeskLockValue) → desk_owner (f l) ≡ desk_owner l) (stays : (l : DeskLockValue) → is_desk_idle l ≡ true → is_desk_idle (f l) ≡ true)
+module _ (f : RelayLockValue → RelayLockValue) (keeps : (l : RelayLockValue) → desk_owner (f l) ≡ desk_owner l) (stays : (l : RelayLockValue) → is_desk_idle l ≡ true → is_desk_idle (f l) ≡ true)
     (name other : List ℕ) where
-  abbrev owner_in : Option DeskLockValue → Option ℕ
-  owner_in o = desk_owner (unwrap_or o no_desk_lock)
+  abbrev owner_in : Option RelayLockValue → Option ℕ
+  owner_in o = desk_owner (unwrap_or o no_relay_lock)
 
   -- the lock was written
-  written : (before after : DeskLocks) (l : DeskLockValue) → desk_owner (desk_lock_at other (before ++ (name, f l) ∷ after)) ≡ desk_owner (desk_lock_at other (before ++ (name, l) ∷ after))
+  written : (before after : RelayLocks) (l : RelayLockValue) → desk_owner (relay_lock_at other (before ++ (name, f l) ∷ after)) ≡ desk_owner (relay_lock_at other (before ++ (name, l) ∷ after))
   written [] after l = by (test other name)
     where
       by : (b : Bool) → owner_in (cond b (Some (f l)) (lookup (test other) after)) ≡ owner_in (cond b (Some l) (lookup (test other) after))
@@ -61,14 +61,14 @@ module _ (f : DeskLockValue → DeskLockValue) (keeps : (l : DeskLockValue) → 
       by false rest = rest
 
   -- the lock left, since it was idle then: its name stood once, so that nobody owns it
-  gone : (before after : DeskLocks) (l : DeskLockValue) → is_desk_idle (f l) ≡ true → Ascends (before ++ (name, l) ∷ after)
-      → desk_owner (desk_lock_at other (before ++ after)) ≡ desk_owner (desk_lock_at other (before ++ (name, l) ∷ after))
+  gone : (before after : RelayLocks) (l : RelayLockValue) → is_desk_idle (f l) ≡ true → Ascends (before ++ (name, l) ∷ after)
+      → desk_owner (relay_lock_at other (before ++ after)) ≡ desk_owner (relay_lock_at other (before ++ (name, l) ∷ after))
   gone [] after l idle ascend = by (test other name) refl
     where
       by : (b : Bool) → test other name ≡ b → owner_in (lookup (test other) after) ≡ owner_in (cond b (Some l) (lookup (test other) after))
       by true at =
           let none = lookup-none (test other) after
-          (none_past_head (eq_by_cmp_equiv nat_list_cmp_total) other (let e : List ℕ × DeskLockValue = (name, l) in e) after (IsDistinct-from_sorted (slice_cmp nat_cmp) (keys_of ((name, l) ∷ after)) ascend) at) in
+          (none_past_head (eq_by_cmp_equiv nat_list_cmp_total) other (let e : List ℕ × RelayLockValue = (name, l) in e) after (IsDistinct-from_sorted (slice_cmp nat_cmp) (keys_of ((name, l) ∷ after)) ascend) at) in
           ap owner_in none ∙ sym (idle_unowned (f l) idle) ∙ keeps l
       by false at = refl
   gone (e ∷ before) after l idle ascend = by (test other e.0) (gone before after l idle (sorted_tail (slice_cmp nat_cmp) e.0 (keys_of (before ++ (name, l) ∷ after)) ascend))
@@ -78,69 +78,69 @@ module _ (f : DeskLockValue → DeskLockValue) (keeps : (l : DeskLockValue) → 
       by true rest = refl
       by false rest = rest
 
-  parts : (before after : DeskLocks) (l : DeskLockValue) → Ascends (before ++ (kept is_desk_idle name l ++ after))
-      → desk_owner (desk_lock_at other (before ++ (kept is_desk_idle name (f l) ++ after))) ≡ desk_owner (desk_lock_at other (before ++ (kept is_desk_idle name l ++ after)))
+  parts : (before after : RelayLocks) (l : RelayLockValue) → Ascends (before ++ (kept is_desk_idle name l ++ after))
+      → desk_owner (relay_lock_at other (before ++ (kept is_desk_idle name (f l) ++ after))) ≡ desk_owner (relay_lock_at other (before ++ (kept is_desk_idle name l ++ after)))
   parts before after l ascend = by (is_desk_idle l) (is_desk_idle (f l)) refl refl ascend
     where
       by : (a b : Bool) → is_desk_idle l ≡ a → is_desk_idle (f l) ≡ b → Ascends (before ++ (cond a [] ((name, l) ∷ []) ++ after))
-          → desk_owner (desk_lock_at other (before ++ (cond b [] ((name, f l) ∷ []) ++ after))) ≡ desk_owner (desk_lock_at other (before ++ (cond a [] ((name, l) ∷ []) ++ after)))
+          → desk_owner (relay_lock_at other (before ++ (cond b [] ((name, f l) ∷ []) ++ after))) ≡ desk_owner (relay_lock_at other (before ++ (cond a [] ((name, l) ∷ []) ++ after)))
       by true true was is ascend = refl
       by true false was is ascend = absurd (let clash = sym is ∙ stays l was in cc)
       by false true was is ascend = gone before after l is ascend
       by false false was is ascend = written before after l
 
-  pub owner_kept : (old new : DeskLocks) → IsDeskTable old → ChangesAt name f old new → desk_owner (desk_lock_at other new) ≡ desk_owner (desk_lock_at other old)
+  pub owner_kept : (old new : RelayLocks) → IsDeskTable old → ChangesAt name f old new → desk_owner (relay_lock_at other new) ≡ desk_owner (relay_lock_at other old)
   owner_kept old new table c =
-      ap (λ (es : DeskLocks). desk_owner (desk_lock_at other es)) c.now
+      ap (λ (es : RelayLocks). desk_owner (relay_lock_at other es)) c.now
       ∙ parts c.before c.after c.lock (subst Ascends c.was table.ascend)
-      ∙ sym (ap (λ (es : DeskLocks). desk_owner (desk_lock_at other es)) c.was)
+      ∙ sym (ap (λ (es : RelayLocks). desk_owner (relay_lock_at other es)) c.was)
 
 -- ---- what is told
 
-answer_idle : (who : ℕ) (l : DeskLockValue) → is_desk_idle l ≡ true → is_desk_idle (step (events.AnswerTold who) l) ≡ true
-answer_idle who l e = ap (λ (b : Bool). is_idle l.lock && (b && is_still l.course)) same ∙ e
+answer_idle : (session : ℕ) (l : RelayLockValue) → is_desk_idle l ≡ true → is_desk_idle (step (events.AnswerTold session) l) ≡ true
+answer_idle session l e = ap (λ (b : Bool). is_idle l.lock && (b && is_still l.state)) same ∙ e
   where
-    same : is_empty_late (without_one (is_due_late who) l.late) ≡ is_empty_late l.late
+    same : is_empty_late (without_one (is_due_late session) l.late) ≡ is_empty_late l.late
     same = let none = (idles l e).late in rw none refl
 
-notice_idle : (who : ℕ) (l : DeskLockValue) → is_desk_idle l ≡ true → is_desk_idle (step (events.NoticeTold who) l) ≡ true
-notice_idle who l e = ap (λ (b : Bool). b && (is_empty_late l.late && is_still l.course)) (one_idle who l.lock) ∙ e
+notice_idle : (session : ℕ) (l : RelayLockValue) → is_desk_idle l ≡ true → is_desk_idle (step (events.NoticeTold session) l) ≡ true
+notice_idle session l e = ap (λ (b : Bool). b && (is_empty_late l.late && is_still l.state)) (one_idle session l.lock) ∙ e
 
-notice_owner : (who : ℕ) (l : DeskLockValue) → desk_owner (step (events.NoticeTold who) l) ≡ desk_owner l
-notice_owner who l = ap (λ (o : Option ℕ). cond (is_held l.course) o None) (one_heard who l.lock).same_owner
+notice_owner : (session : ℕ) (l : RelayLockValue) → desk_owner (step (events.NoticeTold session) l) ≡ desk_owner l
+notice_owner session l = ap (λ (o : Option ℕ). cond (is_held l.state) o None) (one_heard session l.lock).same_owner
 
-module _ (who : ℕ) (name : List ℕ) (old new : DeskLocks) (table : IsDeskTable old) where
-  pub answer_told_owner : ChangesAt name (step (events.AnswerTold who)) old new → (other : List ℕ) → desk_owner (desk_lock_at other new) ≡ desk_owner (desk_lock_at other old)
-  answer_told_owner c other = owner_kept (step (events.AnswerTold who)) (λ l. refl) (answer_idle who) name other old new table c
+module _ (session : ℕ) (name : List ℕ) (old new : RelayLocks) (table : IsDeskTable old) where
+  pub answer_told_owner : ChangesAt name (step (events.AnswerTold session)) old new → (other : List ℕ) → desk_owner (relay_lock_at other new) ≡ desk_owner (relay_lock_at other old)
+  answer_told_owner c other = owner_kept (step (events.AnswerTold session)) (λ l. refl) (answer_idle session) name other old new table c
 
-  pub notice_told_owner : ChangesAt name (step (events.NoticeTold who)) old new → (other : List ℕ) → desk_owner (desk_lock_at other new) ≡ desk_owner (desk_lock_at other old)
-  notice_told_owner c other = owner_kept (step (events.NoticeTold who)) (notice_owner who) (notice_idle who) name other old new table c
+  pub notice_told_owner : ChangesAt name (step (events.NoticeTold session)) old new → (other : List ℕ) → desk_owner (relay_lock_at other new) ≡ desk_owner (relay_lock_at other old)
+  notice_told_owner c other = owner_kept (step (events.NoticeTold session)) (notice_owner session) (notice_idle session) name other old new table c
 
 -- ---- a session that stands nowhere
 
-owner_stands : (who : ℕ) (l : LockValue) → stands who l ≡ false → owner l ≢ Some who
-owner_stands who l none is = by l.queue none is
+owner_stands : (session : ℕ) (l : LockValue) → stands session l ≡ false → owner l ≢ Some session
+owner_stands session l none is = by l.queue none is
   where
-    by : (queue : List Asker) → (is_in who queue || is_in who l.stolen) ≡ false → first_who queue ≡ Some who → ⊥
+    by : (queue : List Waiter) → (is_in session queue || is_in session l.stolen) ≡ false → first_who queue ≡ Some session → ⊥
     by [] e is = absurd cc
-    by (a ∷ later) e is = (let same : a.who ≡ who = cc in let found = rw (eq-eqb a.who who same) at e in absurd cc)
+    by (a ∷ later) e is = (let same : a.session ≡ session = cc in let found = rw (eq-eqb a.session session same) at e in absurd cc)
 
-desk_owner_stands : (who : ℕ) (l : DeskLockValue) → stands who l.lock ≡ false → desk_owner l ≢ Some who
-desk_owner_stands who l none = by (is_held l.course)
+desk_owner_stands : (session : ℕ) (l : RelayLockValue) → stands session l.lock ≡ false → desk_owner l ≢ Some session
+desk_owner_stands session l none = by (is_held l.state)
   where
-    by : (b : Bool) → cond b (owner l.lock) None ≢ Some who
-    by true = owner_stands who l.lock none
+    by : (b : Bool) → cond b (owner l.lock) None ≢ Some session
+    by true = owner_stands session l.lock none
     by false = λ is. absurd cc
 
 either : (a b : Bool) → (a || b) ≡ false → (a ≡ false) × (b ≡ false)
 either true b e = absurd cc
 either false b e = (refl, e)
 
-pub owns_none : (who : ℕ) (locks : DeskLocks) → stands_at who locks ≡ false → (name : List ℕ) → desk_owner (desk_lock_at name locks) ≢ Some who
-owns_none who [] none name = λ is. absurd cc
-owns_none who (e ∷ es) none name =
-    let n = either (stands who e.1.lock) (stands_at who es) none in
-    elim (test name e.0) as (λ b. desk_owner (unwrap_or (cond b (Some e.1) (lookup (test name) es)) no_desk_lock) ≢ Some who) [
-      | true ↦ desk_owner_stands who e.1 n.0
-      | false ↦ owns_none who es n.1 name
+pub owns_none : (session : ℕ) (locks : RelayLocks) → stands_at session locks ≡ false → (name : List ℕ) → desk_owner (relay_lock_at name locks) ≢ Some session
+owns_none session [] none name = λ is. absurd cc
+owns_none session (e ∷ es) none name =
+    let n = either (stands session e.1.lock) (stands_at session es) none in
+    elim (test name e.0) as (λ b. desk_owner (unwrap_or (cond b (Some e.1) (lookup (test name) es)) no_relay_lock) ≢ Some session) [
+      | true ↦ desk_owner_stands session e.1 n.0
+      | false ↦ owns_none session es n.1 name
     ]

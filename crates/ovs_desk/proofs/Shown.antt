@@ -1,7 +1,7 @@
 -- Runs in which answers are given only to who is shown where they stand.
 use Rattle.std.proofs.Common.{◌≡◌, ◌∙◌, ℕ, List, [], ◌∷◌, ◌++◌, Bool, true, Some, None, refl, sym, subst}
 use Rattle.std.specs.List.{AllByRecursion}
-use Rattle.ovs_desk.specs.declared.pending.Pending.{Pending}
+use Rattle.ovs_desk.specs.declared.forwarded.Forwarded.{Forwarded}
 use Rattle.ovs_desk.specs.Calls.{Call, After}
 use Rattle.ovs_desk.specs.Ledger.{Ledger, standing_of}
 use Rattle.ovs_desk.specs.Runs.{Runs}
@@ -11,13 +11,13 @@ use Rattle.ovs_desk.specs.ShownRuns.{ShownCall, Other, Asks, AfterShown, RunsSho
 pub without_waits : (l : Ledger) (cs : List ShownCall) (m : Ledger) → RunsShown l cs m → Runs l (calls_of cs) m
 without_waits l [] m r = r
 without_waits l (Other c ∷ cs) m (k, after, rest) = (k, after, without_waits k cs m rest)
-without_waits l (Asks who shown None ∷ cs) m (k, same, rest) = subst (λ (x : Ledger). Runs x (calls_of cs) m) same (without_waits k cs m rest)
-without_waits l (Asks who shown (Some e) ∷ cs) m (k, after, rest) = (k, after.1, without_waits k cs m rest)
+without_waits l (Asks session shown None ∷ cs) m (k, same, rest) = subst (λ (x : Ledger). Runs x (calls_of cs) m) same (without_waits k cs m rest)
+without_waits l (Asks session shown (Some e) ∷ cs) m (k, after, rest) = (k, after.1, without_waits k cs m rest)
 
 given_shown : (c : ShownCall) (l k : Ledger) → AfterShown c l k → GivesShown c
 given_shown (Other c) l k after = tt
-given_shown (Asks who shown None) l k after = tt
-given_shown (Asks who shown (Some e)) l k (first, (is, then)) = first e (sym is)
+given_shown (Asks session shown None) l k after = tt
+given_shown (Asks session shown (Some e)) l k (first, (is, then)) = first e (sym is)
 
 pub all_shown : (l : Ledger) (cs : List ShownCall) (m : Ledger) → RunsShown l cs m → AllByRecursion GivesShown cs
 all_shown l [] m r = tt

@@ -3,16 +3,16 @@ use Rattle.std.specs.Prelude.{ℕ, List, ◌==◌, Bool, false, Option, Some, No
 use Rattle.serde_json.specs.Data.{Data, null, boolean, number, string, array, object, put}
 use Rattle.serde_json.specs.Find.{get, as_str}
 use Rattle.ovs_json.specs.Parts.{is_word}
-use Rattle.ovs_lock_desk.specs.DeskLock.{desk_owner}
-use Rattle.ovs_lock_desk.specs.LockDesk.{DeskLocks, desk_lock_at}
+use Rattle.ovs_lock_desk.specs.RelayLock.{desk_owner}
+use Rattle.ovs_lock_desk.specs.LockDesk.{RelayLocks, relay_lock_at}
 
 abbrev pub is_owner : Option ℕ → ℕ → Bool
-is_owner None who = false
-is_owner (Some o) who = o == who
+is_owner None session = false
+is_owner (Some o) session = o == session
 
 -- whether a session owns the lock of this name at the desk
-abbrev pub owns : DeskLocks → ℕ → List ℕ → Bool
-owns locks who name = is_owner (desk_owner (desk_lock_at name locks)) who
+abbrev pub owns : RelayLocks → ℕ → List ℕ → Bool
+owns locks session name = is_owner (desk_owner (relay_lock_at name locks)) session
 
 abbrev pub is_text : Option Data → List ℕ → Bool
 is_text None word = false
@@ -31,10 +31,10 @@ put_lock (number n) = number n
 put_lock (string s) = string s
 put_lock (array ds) = array ds
 
-abbrev pub rewritten_by : Option (List ℕ) → DeskLocks → ℕ → Data → Data
-rewritten_by None locks who op = op
-rewritten_by (Some name) locks who op = if owns locks who name then op else put_lock op
+abbrev pub rewritten_by : Option (List ℕ) → RelayLocks → ℕ → Data → Data
+rewritten_by None locks session op = op
+rewritten_by (Some name) locks session op = if owns locks session name then op else put_lock op
 
 -- an operation as it goes up: an assert of a lock that the asker doesn't own at the desk asserts `_none`
-abbrev pub rewritten : DeskLocks → ℕ → Data → Data
-rewritten locks who op = rewritten_by (asserted op) locks who op
+abbrev pub rewritten : RelayLocks → ℕ → Data → Data
+rewritten locks session op = rewritten_by (asserted op) locks session op

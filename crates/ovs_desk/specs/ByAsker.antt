@@ -2,7 +2,7 @@
 use Rattle.std.specs.Prelude.{◌≡◌, ◌==◌, ◌||◌, ◌&&◌, ℕ, List, [], ◌∷◌, Bool, false, Option, Some, None, if◌then◌else◌, nat_lt}
 use Rattle.std.specs.List.{AllByRecursion, prefix_len}
 use Rattle.ovs_desk.specs.declared.by_asker.ByAsker.{ByAsker}
-use Rattle.ovs_desk.specs.declared.pending.Pending.{Pending}
+use Rattle.ovs_desk.specs.declared.forwarded.Forwarded.{Forwarded}
 
 abbrev pub is_before : ByAsker → ByAsker → Bool
 is_before a b = nat_lt a.asker b.asker || ((a.asker == b.asker) && nat_lt a.number b.number)
@@ -36,13 +36,13 @@ without a (b ∷ later) = if is_before b a then b ∷ without a later else (if i
 
 -- the number of the first of an asker's
 abbrev pub first_number : ℕ → List ByAsker → Option ℕ
-first_number who [] = None
-first_number who (a ∷ later) = if a.asker == who then Some a.number else first_number who later
+first_number session [] = None
+first_number session (a ∷ later) = if a.asker == session then Some a.number else first_number session later
 
-abbrev pub by_asker : Pending → ByAsker
+abbrev pub by_asker : Forwarded → ByAsker
 by_asker e = record { asker = e.asker; number = e.number }
 
 -- the requests that pass a test, by their askers
-abbrev pub listed : (Pending → Bool) → List Pending → List ByAsker
+abbrev pub listed : (Forwarded → Bool) → List Forwarded → List ByAsker
 listed test [] = []
 listed test (e ∷ es) = if test e then put (by_asker e) (listed test es) else listed test es

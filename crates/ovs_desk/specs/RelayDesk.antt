@@ -6,11 +6,11 @@ use Rattle.ovs_wire.specs.declared.message.Message.TheVariants as messages
 use Rattle.ovs_authority.specs.Owing.{Owing}
 use Rattle.ovs_locks.specs.declared.notice.LockNotice.{LockNotice}
 use Rattle.ovs_locks.specs.declared.notice.LockNotice.TheVariants.{Locked, Stolen}
-use Rattle.ovs_lock_desk.specs.DeskLock.{desk_owner}
-use Rattle.ovs_lock_desk.specs.LockDesk.{DeskValue, desk_lock_at, answers_to, notices_to, open_steals, stands_at}
-use Rattle.ovs_lock_desk.specs.declared.late_steal.LateSteal.{LateSteal}
-use Rattle.ovs_desk.specs.declared.pending.Pending.{Pending}
-use Rattle.ovs_desk.specs.declared.pending.Sought.TheVariants.{Due}
+use Rattle.ovs_lock_desk.specs.RelayLock.{desk_owner}
+use Rattle.ovs_lock_desk.specs.LockDesk.{DeskValue, relay_lock_at, answers_to, notices_to, open_steals, stands_at}
+use Rattle.ovs_lock_desk.specs.declared.pending_steal.PendingSteal.{PendingSteal}
+use Rattle.ovs_desk.specs.declared.forwarded.Forwarded.{Forwarded}
+use Rattle.ovs_desk.specs.declared.forwarded.RequestFilter.TheVariants.{Due}
 use Rattle.ovs_desk.specs.Ledger.{Forwarding, is_open, passes}
 
 -- the database's name, the requests that are passed on, the locks, and how many lock requests went up
@@ -38,13 +38,13 @@ with_locks d l = record { database = d.database; forwards = d.forwards; locks = 
 -- ---- what is owed
 
 -- a session's request that waits for its answer
-abbrev pub is_open_of : ℕ → Pending → Bool
-is_open_of who e = (e.asker == who) && is_open e.state
+abbrev pub is_open_of : ℕ → Forwarded → Bool
+is_open_of session e = (e.asker == session) && is_open e.state
 
-abbrev pub ids_of : List Pending → List Data
-ids_of es = map (λ (e : Pending). e.id) es
+abbrev pub ids_of : List Forwarded → List Data
+ids_of es = map (λ (e : Forwarded). e.id) es
 
-abbrev pub late_id : List ℕ × LateSteal → Data
+abbrev pub late_id : List ℕ × PendingSteal → Data
 late_id a = a.1.id
 
 -- a notice as a message: `locked` or `stolen`, with the name of the lock
@@ -54,13 +54,13 @@ message_of (Stolen name) = messages.Notice (codes "stolen") (string name ∷ [])
 
 -- transactions, and then steals; the notices go after the answers to both
 abbrev pub owing_of : RelayValue → ℕ → Owing
-owing_of d who = record {
-  waiting = ids_of (filter (is_open_of who) d.forwards.ledger.pending) ++ open_steals who d.locks.locks;
-  known = ids_of (filter (passes (Due who)) d.forwards.ledger.pending) ++ map late_id (answers_to who d.locks.locks);
-  notices = map message_of (notices_to who d.locks.locks);
-  stands = stands_at who d.locks.locks;
+owing_of d session = record {
+  waiting = ids_of (filter (is_open_of session) d.forwards.ledger.pending) ++ open_steals session d.locks.locks;
+  known = ids_of (filter (passes (Due session)) d.forwards.ledger.pending) ++ map late_id (answers_to session d.locks.locks);
+  notices = map message_of (notices_to session d.locks.locks);
+  stands = stands_at session d.locks.locks;
 }
 
 -- the session that owns the lock of a name
 abbrev pub owner_of : RelayValue → List ℕ → Option ℕ
-owner_of d name = desk_owner (desk_lock_at name d.locks.locks)
+owner_of d name = desk_owner (relay_lock_at name d.locks.locks)

@@ -4,7 +4,7 @@ ghost use Rattle.std.specs.Prelude.{◌≡◌, IfOk, OnOk, map, option_map};
 ghost use Rattle.serde_json.specs.View.{view};
 ghost use Rattle.ovs_desk.specs.Asserts.{asserted, owns, put_lock, rewritten};
 
-use ovs_json::{NoMemory, Text, is_word, put, text_json};
+use ovs_json::{NoMemory, SessionId, Text, is_word, put, text_json};
 use ovs_lock_desk::LockDesk;
 use serde_json::Value;
 use std::alloc::Global;
@@ -27,11 +27,11 @@ fn asserted(operation: &Value) -> Option<&str>
 }
 
 // Whether a session owns a lock here.
-fn owns(locks: &LockDesk, who: u64, name: &Text) -> bool
-    ensures value { result ≡ owns locks.now.locks who name.now }
+fn owns(locks: &LockDesk, session: SessionId, name: &Text) -> bool
+    ensures value { result ≡ owns locks.now.locks session name.now }
 {
     match locks.owner(name) {
-        Some(owner) => owner == who,
+        Some(owner) => owner == session,
         None => false,
     }
 }
@@ -53,16 +53,16 @@ fn put_lock(alloc: Global, operation: Value) -> Result<Value, NoMemory>
 fn rewrite_one(
     alloc: Global,
     operation: Value,
-    who: u64,
+    session: SessionId,
     locks: &LockDesk,
 ) -> Result<Value, NoMemory>
-    ensures value { IfOk result (λ op. view op ≡ rewritten locks.now.locks who (view operation)) }
+    ensures value { IfOk result (λ op. view op ≡ rewritten locks.now.locks session (view operation)) }
 {
     let name = match asserted(&operation) {
         Some(name) => Text::new(alloc, name)?,
         None => return Ok(operation),
     };
-    if owns(locks, who, &name) {
+    if owns(locks, session, &name) {
         return Ok(operation);
     }
     put_lock(alloc, operation)
@@ -71,14 +71,14 @@ fn rewrite_one(
 fn rewrite_all(
     alloc: Global,
     operations: &mut [Value],
-    who: u64,
+    session: SessionId,
     locks: &LockDesk,
 ) -> Result<(), NoMemory>
-    ensures value { OnOk result (map view operations.new ≡ map (rewritten locks.now.locks who) (map view operations.old)) }
+    ensures value { OnOk result (map view operations.new ≡ map (rewritten locks.now.locks session) (map view operations.old)) }
 {
     for operation in operations.iter_mut() {
         let taken = mem::replace(operation, Value::Null);
-        *operation = rewrite_one(alloc, taken, who, locks)?;
+        *operation = rewrite_one(alloc, taken, session, locks)?;
     }
     Ok(())
 }
@@ -90,12 +90,12 @@ fn rewrite_all(
 pub(crate) fn rewrite(
     alloc: Global,
     operations: Vec<Value>,
-    who: u64,
+    session: SessionId,
     locks: &LockDesk,
 ) -> Result<Vec<Value>, NoMemory>
-    ensures value { IfOk result (λ ops. map view ops.items ≡ map (rewritten locks.now.locks who) (map view operations.items)) }
+    ensures value { IfOk result (λ ops. map view ops.items ≡ map (rewritten locks.now.locks session) (map view operations.items)) }
 {
     let mut operations = operations;
-    rewrite_all(alloc, &mut operations, who, locks)?;
+    rewrite_all(alloc, &mut operations, session, locks)?;
     Ok(operations)
 }

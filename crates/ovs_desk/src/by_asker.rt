@@ -3,11 +3,13 @@
 ghost use Rattle.std.specs.Prelude.{◌≡◌, ◌<◌, ◌≤◌, slice_get, vec_len, vec_capacity};
 ghost use Rattle.ovs_desk.specs.ByAsker.{is_before, is_same, is_this, place, put, without, first_number, InOrder};
 
+use ovs_json::SessionId;
+
 /// Whose request it is, and its number. Lists of them stand by the askers, and then by the numbers.
 #[derive(Clone, Copy, Drop)]
 pub(crate) struct ByAsker {
     /// The session that asked.
-    pub asker: u64,
+    pub asker: SessionId,
     /// The request's number.
     pub number: u64,
 }
@@ -35,7 +37,7 @@ fn place(list: &[ByAsker], one: &ByAsker) -> usize
 }
 
 /// The least number of an asker's.
-pub(crate) fn first_number(list: &[ByAsker], asker: u64) -> Option<u64>
+pub(crate) fn first_number(list: &[ByAsker], asker: SessionId) -> Option<u64>
     requires in_order { InOrder list.now }
     ensures value { result ≡ first_number asker list.now }
 {

@@ -20,7 +20,7 @@ pub enum ForwardError {
 
 /// A request that isn't passed on, handed back with its id.
 #[derive(Drop)]
-pub struct Unsent {
+pub struct ForwardRefused {
     /// Why it isn't.
     pub error: ForwardError,
     /// The session's own id for the request.

@@ -1,23 +1,23 @@
 //! All requests on their way.
 
-ghost use Rattle.std.specs.Prelude.{◌≡◌, ◌==◌, ◌<◌, ◌≤◌, [], false, true, nat_lt, not, None, filter, map, position, vec_len, vec_capacity, is_some, IfOk, IfNone, OnOk, OnErr, length, ◌+◌, ◌^◌};
+ghost use Rattle.std.specs.Prelude.{◌≡◌, ◌==◌, ◌<◌, ◌≤◌, [], false, true, nat_lt, not, Some, None, filter, map, position, vec_len, vec_capacity, is_some, IfOk, IfNone, OnOk, OnErr, length, ◌+◌, ◌^◌};
 ghost use Rattle.std.specs.List.{find, list_any};
 ghost use Rattle.std.specs.List.Sorted.{IsNonDecreasingBy, IsPartitionPoint};
 ghost use Rattle.slab.specs.Slab.{ContainsKey, HasRoomFor, SameValues, Updates, slab_len};
-ghost use Rattle.ovs_desk.specs.declared.pending.Pending.{Pending};
-ghost use Rattle.ovs_desk.specs.declared.pending.Sought.{Sought};
+ghost use Rattle.ovs_desk.specs.declared.forwarded.Forwarded.{Forwarded};
+ghost use Rattle.ovs_desk.specs.declared.forwarded.RequestFilter.{RequestFilter};
 ghost use Rattle.ovs_desk.specs.ByAsker.{InOrder, without};
-ghost use Rattle.ovs_desk.specs.Ledger.{place_of, passes, lost, with_pending, without_first, to_go, due_to, next_up, next_back, next_standing, asker_of, refusal, IsKept, SamePlaces};
+ghost use Rattle.ovs_desk.specs.Ledger.{place_of, passes, lost, with_pending, without_first, to_go, due_to, next_up, next_back, lost_to, next_standing, asker_of, refusal, IsKept, SamePlaces};
 ghost use Rattle.ovs_desk.specs.Calls.{After, SendsTo};
 ghost use Rattle.ovs_desk.specs.Calls as calls;
 
 use crate::by_asker::{ByAsker, first_number, put, take_out};
-use crate::error::{ForwardError, Unknown, Unsent};
-use crate::pending::{Pending, Sought, State};
+use crate::error::{ForwardError, ForwardRefused, Unknown};
+use crate::forwarded::{Forwarded, ForwardedState, RequestFilter};
 use crate::standing::StandingAnswer;
 use ovs_authority::Request;
 use ovs_data::TxnId;
-use ovs_json::NoMemory;
+use ovs_json::{NoMemory, SessionId};
 use ovs_wire::{Id, Message};
 use slab::Slab;
 use std::alloc::Global;
@@ -36,7 +36,7 @@ const MOST_SENT: u64 = 1 << 50;
 #[derive(Drop)]
 pub struct Forwards {
     // In order of sending.
-    pending: Vec<Pending>,
+    pending: Vec<Forwarded>,
     // The places that their numbers have.
     places: Slab<()>,
     sent: u64,
@@ -51,14 +51,14 @@ impl Model for Forwards {
     ghost use Rattle.std.specs.Prelude.{ℕ, List, refl, vec_capacity};
     ghost use Rattle.std.specs.Coded.{code_by, coded×, coded_ℕ, coded_list};
     ghost use Rattle.slab.specs.Slab.{slab_len};
-    ghost use Rattle.ovs_desk.specs.contracts.pending.Pending as pending_row;
-    ghost use Rattle.ovs_desk.specs.declared.pending.Pending.{Pending};
+    ghost use Rattle.ovs_desk.specs.contracts.forwarded.Forwarded as pending_row;
+    ghost use Rattle.ovs_desk.specs.declared.forwarded.Forwarded.{Forwarded};
     ghost use Rattle.ovs_desk.specs.Book.{IsBook, IsIndex};
     ghost use Rattle.ovs_desk.specs.Ledger.{Forwarding};
 
     ghost Value = { Forwarding };
 
-    ghost coded = { code_by (ℕ × (List Pending × (ℕ × ℕ))) (coded× coded_ℕ (coded× (coded_list pending_row.the_row.coded) (coded× coded_ℕ coded_ℕ)))
+    ghost coded = { code_by (ℕ × (List Forwarded × (ℕ × ℕ))) (coded× coded_ℕ (coded× (coded_list pending_row.the_row.coded) (coded× coded_ℕ coded_ℕ)))
         (λ f. (f.ledger.sent, (f.ledger.pending, (f.used, f.offered))))
         (λ p. record { ledger = record { sent = p.0; pending = p.1.0 }; used = p.1.1.0; offered = p.1.1.1 }) (λ _. refl) };
 
@@ -68,23 +68,25 @@ impl Model for Forwards {
 }
 
 // Where the numbers reach this one.
-fn at_number(pending: &[Pending], number: u64) -> usize
-    requires ascend { IsNonDecreasingBy (λ (e : Pending). e.number) pending.now }
+fn at_number(pending: &[Forwarded], number: u64) -> usize
+    requires ascend { IsNonDecreasingBy (λ (e : Forwarded). e.number) pending.now }
     ensures bound { result ≤ length pending.now }
-    ensures value { IsPartitionPoint (λ (e : Pending). nat_lt e.number number ≡ true) (λ (e : Pending). nat_lt e.number number ≡ false) pending.now result }
+    ensures value { IsPartitionPoint (λ (e : Forwarded). nat_lt e.number number ≡ true) (λ (e : Forwarded). nat_lt e.number number ≡ false) pending.now result }
 {
     pending.partition_point(|one| one.number < number)
 }
 
 // The first that waits to go up.
-fn first_to_go(pending: &[Pending]) -> Option<usize>
-    ensures value { result ≡ position (passes Sought.ToGo) pending.now }
+fn first_to_go(pending: &[Forwarded]) -> Option<usize>
+    ensures value { result ≡ position (passes RequestFilter.ToGo) pending.now }
 {
-    pending.iter().position(|one| one.passes(Sought::ToGo))
+    pending
+        .iter()
+        .position(|one| one.passes(RequestFilter::ToGo))
 }
 
 // Room for one more.
-fn make_room(pending: &mut Vec<Pending>, places: &mut Slab<()>) -> Result<(), NoMemory>
+fn make_room(pending: &mut Vec<Forwarded>, places: &mut Slab<()>) -> Result<(), NoMemory>
     ensures pending { pending.new.items ≡ pending.old.items }
     ensures vacant { places.new.vacant_key ≡ places.old.vacant_key }
     ensures places { SameValues places.old places.new }
@@ -119,7 +121,7 @@ fn free(places: &mut Slab<()>, number: u64)
     let _ = places.remove((number % PLACES) as usize);
 }
 
-fn lose(pending: &mut [Pending])
+fn lose(pending: &mut [Forwarded])
     ensures value { pending.new ≡ map lost pending.old }
 {
     for one in pending.iter_mut() {
@@ -140,7 +142,7 @@ fn copy(all: &[ByAsker], due: &mut Vec<ByAsker>)
 }
 
 // Takes one out of both lists.
-fn strike(all: &mut Vec<ByAsker>, due: &mut Vec<ByAsker>, asker: u64, number: u64)
+fn strike(all: &mut Vec<ByAsker>, due: &mut Vec<ByAsker>, asker: SessionId, number: u64)
     requires all { InOrder all.old.items }
     requires due { InOrder due.old.items }
     ensures all { all.new.items ≡ without (record { asker = asker; number = number }) all.old.items }
@@ -190,17 +192,22 @@ impl Forwards {
     /// # Errors
     /// `Full` where 4,096 requests weren't collected or no place below 4,096 is free, else `Spent` where 2^50 were sent,
     /// else `NoMemory`. Id and request are handed back then.
-    pub fn send(&mut self, asker: u64, id: Id, request: Request) -> Result<u64, Unsent>
+    pub fn send(
+        &mut self,
+        asker: SessionId,
+        id: Id,
+        request: Request,
+    ) -> Result<u64, ForwardRefused>
         ensures value { SendsTo self.old asker id request result self.new }
         ensures kept { IsKept self.new }
     {
         if let Some(error) = self.refusal() {
-            return Err(Unsent { error, id, request });
+            return Err(ForwardRefused { error, id, request });
         }
         if make_room(&mut self.pending, &mut self.places).is_err()
             || make_list_room(&mut self.by_asker, &mut self.due).is_err()
         {
-            return Err(Unsent {
+            return Err(ForwardRefused {
                 error: ForwardError::NoMemory,
                 id,
                 request,
@@ -210,11 +217,11 @@ impl Forwards {
         let number = PLACES * self.sent + place as u64;
         self.places.insert_reserved(());
         put(&mut self.by_asker, ByAsker { asker, number });
-        self.pending.push_reserved(Pending {
+        self.pending.push_reserved(Forwarded {
             asker,
             id,
             number,
-            state: State::Waiting(request),
+            state: ForwardedState::Waiting(request),
         });
         self.sent += 1;
         Ok(number)
@@ -235,7 +242,7 @@ impl Forwards {
 
     // The first request that waits to go up: none does before the one that went up last.
     fn to_go_at(&self) -> Option<usize>
-        ensures value { result ≡ position (passes Sought.ToGo) self.now.ledger.pending }
+        ensures value { result ≡ position (passes RequestFilter.ToGo) self.now.ledger.pending }
     {
         let from = at_number(&self.pending, self.waits_from);
         let more = first_to_go(&self.pending[from..])?;
@@ -243,27 +250,27 @@ impl Forwards {
     }
 
     // The first answer that is due to a session.
-    fn due_at(&self, who: u64) -> Option<usize>
-        ensures value { result ≡ position (passes (Sought.Due who)) self.now.ledger.pending }
+    fn due_at(&self, session: SessionId) -> Option<usize>
+        ensures value { result ≡ position (passes (RequestFilter.Due session)) self.now.ledger.pending }
     {
-        let number = first_number(&self.due, who)?;
+        let number = first_number(&self.due, session)?;
         Some(at_number(&self.pending, number))
     }
 
     // The first request of a session.
-    fn first_of(&self, who: u64) -> Option<usize>
-        ensures value { result ≡ position (passes (Sought.Of who)) self.now.ledger.pending }
+    fn first_of(&self, session: SessionId) -> Option<usize>
+        ensures value { result ≡ position (passes (RequestFilter.Of session)) self.now.ledger.pending }
     {
-        let number = first_number(&self.by_asker, who)?;
+        let number = first_number(&self.by_asker, session)?;
         Some(at_number(&self.pending, number))
     }
 
     // The open request of this number: the numbers ascend, so that it is looked up and not looked for.
     fn open_at(&self, number: u64) -> Option<usize>
-        ensures value { result ≡ position (passes (Sought.Open number)) self.now.ledger.pending }
+        ensures value { result ≡ position (passes (RequestFilter.Open number)) self.now.ledger.pending }
     {
         let at = at_number(&self.pending, number);
-        if self.pending.get(at)?.passes(Sought::Open(number)) {
+        if self.pending.get(at)?.passes(RequestFilter::Open(number)) {
             Some(at)
         } else {
             None
@@ -275,8 +282,8 @@ impl Forwards {
     /// # Errors
     /// `Unknown` exactly where no request of this number waits for its answer; nothing is changed then.
     pub fn reply(&mut self, number: u64, answer: StandingAnswer) -> Result<(), Unknown>
-        ensures known { OnOk result (list_any (passes (Sought.Open number)) self.old.ledger.pending ≡ true) }
-        ensures unknown { OnErr result (list_any (passes (Sought.Open number)) self.old.ledger.pending ≡ false) }
+        ensures known { OnOk result (list_any (passes (RequestFilter.Open number)) self.old.ledger.pending ≡ true) }
+        ensures unknown { OnErr result (list_any (passes (RequestFilter.Open number)) self.old.ledger.pending ≡ false) }
         ensures after { After (calls.Replies number answer) self.old.ledger self.new.ledger }
         ensures places { SamePlaces self.old self.new }
     {
@@ -293,14 +300,20 @@ impl Forwards {
     ///
     /// # Errors
     /// `NoMemory` alone; the answer is still due then.
-    pub fn collect(&mut self, alloc: Global, who: u64) -> Result<Option<Message>, NoMemory>
-        ensures message { IfOk result (λ m. m ≡ next_back who self.old.ledger) }
-        ensures after { OnOk result (After (calls.Collects who (due_to who self.old.ledger)) self.old.ledger self.new.ledger) }
+    pub fn collect(
+        &mut self,
+        alloc: Global,
+        session: SessionId,
+    ) -> Result<Option<Message>, NoMemory>
+        ensures message { IfOk result (λ m. m ≡ next_back session self.old.ledger) }
+        ensures after { OnOk result (After (calls.Collects session (due_to session self.old.ledger)) self.old.ledger self.new.ledger) }
+        // An answer that came is given without memory, and so is none.
+        ensures memory { OnErr result (lost_to session self.old.ledger ≡ Some true) }
         ensures unchanged { OnErr result (self.new ≡ self.old) }
         ensures kept { IsKept self.new }
         ensures none { IfOk result (λ m. IfNone m (self.new ≡ self.old)) }
     {
-        let Some(at) = self.due_at(who) else {
+        let Some(at) = self.due_at(session) else {
             return Ok(None);
         };
         self.pending[at].settle(alloc)?;
@@ -316,15 +329,15 @@ impl Forwards {
     }
 
     /// Where the answer stands that `collect` would give to a session; `None` where it would give none. No memory is taken.
-    pub fn standing(&self, who: u64) -> Option<TxnId>
-        ensures value { result ≡ next_standing who self.now.ledger }
+    pub fn standing(&self, session: SessionId) -> Option<TxnId>
+        ensures value { result ≡ next_standing session self.now.ledger }
     {
-        let at = self.due_at(who)?;
+        let at = self.due_at(session)?;
         Some(self.pending[at].standing())
     }
 
     /// The session that asked under this number, where that request waits for its answer. No memory is taken.
-    pub fn asker_of(&self, number: u64) -> Option<u64>
+    pub fn asker_of(&self, number: u64) -> Option<SessionId>
         ensures value { result ≡ asker_of number self.now.ledger }
     {
         let at = self.open_at(number)?;
@@ -332,10 +345,10 @@ impl Forwards {
     }
 
     /// Whether an answer is due to a session. No memory is taken.
-    pub fn owes(&self, who: u64) -> bool
-        ensures value { result ≡ list_any (passes (Sought.Due who)) self.now.ledger.pending }
+    pub fn owes(&self, session: SessionId) -> bool
+        ensures value { result ≡ list_any (passes (RequestFilter.Due session)) self.now.ledger.pending }
     {
-        first_number(&self.due, who).is_some()
+        first_number(&self.due, session).is_some()
     }
 
     /// Answers each request that waits for its answer that the source was lost. No memory is taken.
@@ -349,20 +362,20 @@ impl Forwards {
     }
 
     /// Drops all requests of a session. No memory is taken.
-    pub fn end_session(&mut self, who: u64)
-        ensures after { After (calls.Ends who) self.old.ledger self.new.ledger }
+    pub fn end_session(&mut self, session: SessionId)
+        ensures after { After (calls.Ends session) self.old.ledger self.new.ledger }
         ensures kept { IsKept self.new }
     {
-        while self.drop_first(who) {}
+        while self.drop_first(session) {}
     }
 
     // Takes out the first request of a session, and its place is free.
-    fn take_out(&mut self, who: u64) -> Option<Pending>
-        ensures found { result ≡ find (passes (Sought.Of who)) self.old.ledger.pending }
-        ensures after { self.new.ledger ≡ with_pending self.old.ledger (without_first (passes (Sought.Of who)) self.old.ledger.pending) }
+    fn take_out(&mut self, session: SessionId) -> Option<Forwarded>
+        ensures found { result ≡ find (passes (RequestFilter.Of session)) self.old.ledger.pending }
+        ensures after { self.new.ledger ≡ with_pending self.old.ledger (without_first (passes (RequestFilter.Of session)) self.old.ledger.pending) }
         ensures kept { IsKept self.new }
     {
-        let at = self.first_of(who)?;
+        let at = self.first_of(session)?;
         let pending = self.pending.remove(at);
         free(&mut self.places, pending.number);
         strike(
@@ -375,11 +388,11 @@ impl Forwards {
     }
 
     // Drops the first request of a session, and says whether there was one.
-    fn drop_first(&mut self, who: u64) -> bool
-        ensures any { result ≡ is_some (find (passes (Sought.Of who)) self.old.ledger.pending) }
-        ensures after { self.new.ledger ≡ with_pending self.old.ledger (without_first (passes (Sought.Of who)) self.old.ledger.pending) }
+    fn drop_first(&mut self, session: SessionId) -> bool
+        ensures any { result ≡ is_some (find (passes (RequestFilter.Of session)) self.old.ledger.pending) }
+        ensures after { self.new.ledger ≡ with_pending self.old.ledger (without_first (passes (RequestFilter.Of session)) self.old.ledger.pending) }
         ensures kept { IsKept self.new }
     {
-        self.take_out(who).is_some()
+        self.take_out(session).is_some()
     }
 }

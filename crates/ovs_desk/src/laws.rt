@@ -17,7 +17,7 @@ pub fn every_run_of_a_ledger()
     ensures up { (list : List Call) (end : Ledger) → Runs no_request list end → IsPartOf (taken_up list) (sent list) }
     ensures once { (list : List Call) (end : Ledger) → Runs no_request list end → EachOnce (numbers (collected list)) }
     ensures own { (list : List Call) (end : Ledger) → Runs no_request list end → AllGiveOwn [] list }
-    ensures ended { (who : ℕ) (before after : List Call) (end : Ledger) → Runs no_request (before ++ calls.Ends who ∷ after) end → AllByRecursion (StaysAway who) after → AllByRecursion (GivesNothing who) after }
+    ensures ended { (session : ℕ) (before after : List Call) (end : Ledger) → Runs no_request (before ++ calls.Ends session ∷ after) end → AllByRecursion (StaysAway session) after → AllByRecursion (GivesNothing session) after }
 {}
 
 /// Where answers are given to a session only once it is shown where they stand: each that is given was, and the calls are a list

@@ -1,24 +1,25 @@
 //! A relay's desk.
 
-ghost use Rattle.std.specs.Prelude.{◌≡◌, ◌≢◌, ◌<◌, ◌^◌, ℕ, List, [], map, filter, Option, Some, None, Ok, Err, IfOk, IfNone, OnOk, OnErr, option_map, slice_get};
+ghost use Rattle.std.specs.Prelude.{◌≡◌, ◌≢◌, ◌<◌, ◌^◌, ◌&&◌, ℕ, List, [], true, false, nat_lt, is_some, map, filter, Option, Some, None, Ok, Err, IfOk, IfNone, OnOk, OnErr, option_map, slice_get};
 ghost use Rattle.serde_json.specs.View.{view};
 ghost use Rattle.ovs_authority.specs.Owing.{AsksTo, CollectsTo, LeavesOthers, silent, marked};
 ghost use Rattle.ovs_locks.specs.Lock.{name_told};
+ghost use Rattle.ovs_lock_desk.specs.RelayLock.{enters};
 ghost use Rattle.ovs_lock_desk.specs.LockDesk.{IsDeskTable, first_due_up, is_sent_at, answers_to};
 ghost use Rattle.ovs_desk.specs.Calls as calls;
-ghost use Rattle.ovs_desk.specs.Ledger.{passes, next_standing, asker_of};
+ghost use Rattle.ovs_desk.specs.Ledger.{passes, lost_to, next_standing, asker_of};
 ghost use Rattle.ovs_desk.specs.RelayDesk.{new_desk, owing_of, owner_of, message_of};
-ghost use Rattle.ovs_desk.specs.Relaying.{ChangesRequests, locked_so, at_once, text_of, late_answer, IsRefusalOf, IsToldOfSending, AsksForLock, AsksByName, Asks, Transacts, TakesUp, TakesUpLock, TakesUpDue, method_of, given_so, lock_reply, Hears, HearsReply, HearsOfLock, LosesSource, FindsSource, CollectsSent, CollectsLate, CollectsNotice, CollectsOfLock, Collects, EndsSession};
-ghost use Rattle.ovs_desk.specs.declared.pending.Sought.{Sought};
+ghost use Rattle.ovs_desk.specs.Relaying.{ChangesRequests, locked_reply, immediate_reply, text_of, late_answer, IsRefusalOf, IsSendReply, AsksForLock, AsksByName, Asks, lock_takes_memory, takes_memory, Transacts, is_lock_next, TakesUp, TakesUpLock, TakesUpDue, method_of, given_so, lock_reply, Hears, HearsReply, HearsOfLock, LosesSource, FindsSource, CollectsSent, CollectsLate, CollectsNotice, CollectsOfLock, Collects, EndsSession};
+ghost use Rattle.ovs_desk.specs.declared.forwarded.RequestFilter.{RequestFilter};
 
 use crate::asserts::rewrite;
-use crate::error::{BadReply, ForwardError, Unsent};
+use crate::error::{BadReply, ForwardError, ForwardRefused};
 use crate::forwards::Forwards;
 use crate::source_message::SourceMessage;
 use crate::standing::StandingAnswer;
-use ovs_authority::{Answer, Ask, Authority, Member, Verb, lock_request, refused, replied};
+use ovs_authority::{Ask, Authority, Member, Response, Verb, lock_request, refused, replied};
 use ovs_data::TxnId;
-use ovs_json::{NoMemory, Text, under_name};
+use ovs_json::{NoMemory, SessionId, Text, under_name};
 use ovs_lock_desk::{DeskError, LockDesk, LockReply, LockVerb, StealOutcome};
 use ovs_locks::LockNotice;
 use ovs_wire::{Id, Message};
@@ -60,19 +61,20 @@ impl Model for RelayDesk {
 }
 
 // {"locked": BOOL}
-fn locked_so(alloc: Global, won: bool) -> Result<Answer, NoMemory>
-    ensures value { IfOk result (λ a. a ≡ locked_so won) }
+fn locked_reply(alloc: Global, won: bool) -> Result<Response, NoMemory>
+    ensures value { IfOk result (λ a. a ≡ locked_reply won) }
 {
     Ok(replied(under_name(alloc, "locked", Value::Bool(won))?))
 }
 
 // The answer that is known at once.
-fn at_once(alloc: Global, verb: LockVerb) -> Result<Answer, NoMemory>
-    ensures value { IfOk result (λ a. a ≡ at_once verb) }
+fn immediate_reply(alloc: Global, verb: LockVerb) -> Result<Response, NoMemory>
+    ensures value { IfOk result (λ a. a ≡ immediate_reply verb) }
+    ensures memory { OnErr result (enters verb ≡ true) }
 {
     match verb {
-        LockVerb::Lock => locked_so(alloc, false),
-        LockVerb::Steal => locked_so(alloc, true),
+        LockVerb::Lock => locked_reply(alloc, false),
+        LockVerb::Steal => locked_reply(alloc, true),
         LockVerb::Unlock => Ok(replied(Value::Object(Map::new(alloc)))),
     }
 }
@@ -92,7 +94,7 @@ fn refusal_text(error: DeskError) -> Option<&'static str>
     }
 }
 
-fn refusal(alloc: Global, error: DeskError) -> Result<Answer, NoMemory>
+fn refusal(alloc: Global, error: DeskError) -> Result<Response, NoMemory>
     ensures value { IfOk result (λ a. IsRefusalOf error a) }
 {
     match refusal_text(error) {
@@ -102,19 +104,19 @@ fn refusal(alloc: Global, error: DeskError) -> Result<Answer, NoMemory>
 }
 
 // What is answered to a steal whose answer came late.
-fn late_answer(alloc: Global, outcome: Option<StealOutcome>) -> Result<Answer, NoMemory>
+fn late_answer(alloc: Global, outcome: Option<StealOutcome>) -> Result<Response, NoMemory>
     ensures value { IfOk result (λ a. a ≡ late_answer outcome) }
 {
     match outcome {
-        Some(StealOutcome::Won) => locked_so(alloc, true),
+        Some(StealOutcome::Won) => locked_reply(alloc, true),
         Some(StealOutcome::Refused) => refused(alloc, "too many requests"),
         Some(StealOutcome::SourceLost) | None => refused(alloc, "source lost"),
     }
 }
 
 // What is answered where this came of sending a transaction: nothing yet, or that it wasn't sent.
-fn told_of_sending(alloc: Global, came: Result<u64, Unsent>) -> Result<Option<Message>, NoMemory>
-    ensures told { IfOk result (λ r. IsToldOfSending came r) }
+fn send_reply(alloc: Global, came: Result<u64, ForwardRefused>) -> Result<Option<Message>, NoMemory>
+    ensures told { IfOk result (λ r. IsSendReply came r) }
     ensures unsent { OnErr result (OnOk came ⊥) }
 {
     match came {
@@ -124,8 +126,8 @@ fn told_of_sending(alloc: Global, came: Result<u64, Unsent>) -> Result<Option<Me
 }
 
 // That a transaction wasn't sent; want of memory is no answer.
-fn told_of_unsent(alloc: Global, unsent: Unsent) -> Result<Option<Message>, NoMemory>
-    ensures told { IfOk result (λ r. IsToldOfSending (Err unsent) r) }
+fn told_of_unsent(alloc: Global, unsent: ForwardRefused) -> Result<Option<Message>, NoMemory>
+    ensures told { IfOk result (λ r. IsSendReply (Err unsent) r) }
 {
     match unsent.error {
         ForwardError::Full | ForwardError::Spent => {
@@ -184,7 +186,7 @@ fn given_so(won: bool) -> LockReply
 
 // What the source answered to a Lock or Steal: `{"locked": BOOL}`, or an error, with which it refused, since it may allow a
 // session only so many names.
-fn lock_reply(answer: &Answer) -> Option<LockReply>
+fn lock_reply(answer: &Response) -> Option<LockReply>
     ensures value { result ≡ lock_reply answer.now }
 {
     if !answer.error.as_value().is_null() {
@@ -214,6 +216,8 @@ impl RelayDesk {
     /// `NoMemory` alone; then nothing went up.
     pub fn take_up(&mut self, alloc: Global) -> Result<Option<Message>, NoMemory>
         ensures taken { IfOk result (λ m. TakesUp self.old m self.new) }
+        // A transaction goes up without memory, and so does nothing.
+        ensures memory { OnErr result (is_lock_next self.old ≡ true) }
         ensures unchanged { OnErr result (self.new ≡ self.old) }
     {
         if !self.locks.has_source() {
@@ -228,6 +232,7 @@ impl RelayDesk {
     // The next lock request to go up.
     fn take_up_lock(&mut self, alloc: Global) -> Result<Option<Message>, NoMemory>
         ensures taken { IfOk result (λ m. TakesUpLock self.old m self.new) }
+        ensures memory { OnErr result ((nat_lt self.old.asked (2 ^ 62) && is_some (first_due_up self.old.locks.locks)) ≡ true) }
         ensures unchanged { OnErr result (self.new ≡ self.old) }
     {
         if self.asked < FIRST_LOCK {
@@ -241,6 +246,7 @@ impl RelayDesk {
     fn take_up_due(&mut self, alloc: Global) -> Result<Option<Message>, NoMemory>
         requires below { self.old.asked < 2 ^ 62 }
         ensures taken { IfOk result (λ m. TakesUpDue (first_due_up self.old.locks.locks) self.old m self.new) }
+        ensures memory { OnErr result (is_some (first_due_up self.old.locks.locks) ≡ true) }
         ensures unchanged { OnErr result (self.new ≡ self.old) }
     {
         let Some((name, verb)) = self.locks.due() else {
@@ -294,7 +300,7 @@ impl RelayDesk {
     }
 
     // A lock request was answered.
-    fn heard_of_lock(&mut self, number: u64, answer: &Answer) -> Result<(), BadReply>
+    fn heard_of_lock(&mut self, number: u64, answer: &Response) -> Result<(), BadReply>
         ensures heard { HearsOfLock (is_sent_at number self.old.locks.locks) number answer.now self.old result self.new }
     {
         if !self.locks.is_sent(number) {
@@ -311,14 +317,14 @@ impl RelayDesk {
 
     /// Where the answer stands that `collect` would give first to a session, of those that were passed on; `None` where it would
     /// give none of them. No memory is taken.
-    pub fn standing(&self, who: u64) -> Option<TxnId>
-        ensures value { result ≡ next_standing who self.now.forwards.ledger }
+    pub fn standing(&self, session: SessionId) -> Option<TxnId>
+        ensures value { result ≡ next_standing session self.now.forwards.ledger }
     {
-        self.forwards.standing(who)
+        self.forwards.standing(session)
     }
 
     /// The session whose transaction went up under this number, where it waits for its answer. No memory is taken.
-    pub fn asker_of(&self, number: u64) -> Option<u64>
+    pub fn asker_of(&self, number: u64) -> Option<SessionId>
         ensures value { result ≡ asker_of number self.now.forwards.ledger }
     {
         self.forwards.asker_of(number)
@@ -344,33 +350,35 @@ impl RelayDesk {
     fn transact(
         &mut self,
         alloc: Global,
-        who: u64,
+        session: SessionId,
         operations: Vec<Value>,
         id: Id,
     ) -> Result<Option<Message>, NoMemory>
-        ensures asked { IfOk result (λ r. Transacts who (map view operations.items) id self.old r self.new) }
+        ensures asked { IfOk result (λ r. Transacts session (map view operations.items) id self.old r self.new) }
         ensures unchanged { OnErr result (self.new ≡ self.old) }
     {
-        let operations = rewrite(alloc, operations, who, &self.locks)?;
+        let operations = rewrite(alloc, operations, session, &self.locks)?;
         let request = Verb::Transact(operations).into_request(alloc, &self.database)?;
-        let came = self.forwards.send(who, id, request);
-        told_of_sending(alloc, came)
+        let came = self.forwards.send(session, id, request);
+        send_reply(alloc, came)
     }
 
     // A session asks for a lock, or leaves it. The answer is made before the desk changes.
+    #[tactic(auto, using(crate::proofs::Memory::entered, crate::proofs::Memory::not_done))]
     fn ask_for_lock(
         &mut self,
         alloc: Global,
-        who: u64,
+        session: SessionId,
         verb: LockVerb,
         name: &Text,
         id: &Id,
-    ) -> Result<Option<Answer>, NoMemory>
-        ensures asked { IfOk result (λ a. AsksForLock who verb name.now id.now self.old a self.new) }
+    ) -> Result<Option<Response>, NoMemory>
+        ensures asked { IfOk result (λ a. AsksForLock session verb name.now id.now self.old a self.new) }
+        ensures memory { OnErr result (lock_takes_memory session verb name.now self.old.locks ≡ true) }
         ensures unchanged { OnErr result (self.new ≡ self.old) }
     {
-        let answer = at_once(alloc, verb)?;
-        match self.locks.ask(alloc, who, verb, name, id) {
+        let answer = immediate_reply(alloc, verb)?;
+        match self.locks.ask(alloc, session, verb, name, id) {
             Ok(Some(_)) => Ok(Some(answer)),
             Ok(None) => Ok(None),
             Err(error) => Ok(Some(refusal(alloc, error)?)),
@@ -381,83 +389,101 @@ impl RelayDesk {
     fn ask_named(
         &mut self,
         alloc: Global,
-        who: u64,
+        session: SessionId,
         verb: LockVerb,
         name: &Text,
         id: Id,
     ) -> Result<Option<Message>, NoMemory>
-        ensures asked { IfOk result (λ r. AsksByName who verb name.now id self.old r self.new) }
+        ensures asked { IfOk result (λ r. AsksByName session verb name.now id self.old r self.new) }
+        ensures memory { OnErr result (lock_takes_memory session verb name.now self.old.locks ≡ true) }
         ensures unchanged { OnErr result (self.new ≡ self.old) }
     {
-        match self.ask_for_lock(alloc, who, verb, name, &id)? {
+        match self.ask_for_lock(alloc, session, verb, name, &id)? {
             Some(answer) => Ok(Some(answer.into_reply(id))),
             None => Ok(None),
         }
     }
 
     // The first answer to a session's request that was passed on.
-    fn collect_sent(&mut self, alloc: Global, who: u64) -> Result<Option<Message>, NoMemory>
-        ensures given { IfOk result (λ m. CollectsSent who self.old m self.new) }
+    fn collect_sent(
+        &mut self,
+        alloc: Global,
+        session: SessionId,
+    ) -> Result<Option<Message>, NoMemory>
+        ensures given { IfOk result (λ m. CollectsSent session self.old m self.new) }
+        ensures memory { OnErr result (lost_to session self.old.forwards.ledger ≡ Some true) }
         ensures none { IfOk result (λ m. IfNone m (self.new ≡ self.old)) }
-        ensures none_sent { IfOk result (λ m. IfNone m (filter (passes (Sought.Due who)) self.new.forwards.ledger.pending ≡ [])) }
+        ensures none_sent { IfOk result (λ m. IfNone m (filter (passes (RequestFilter.Due session)) self.new.forwards.ledger.pending ≡ [])) }
         ensures unchanged { OnErr result (self.new ≡ self.old) }
     {
-        self.forwards.collect(alloc, who)
+        self.forwards.collect(alloc, session)
     }
 
     // The first late answer that a session is owed.
-    fn collect_late(&mut self, alloc: Global, who: u64) -> Result<Option<Message>, NoMemory>
-        ensures given { IfOk result (λ m. CollectsLate who self.old m self.new) }
+    fn collect_late(
+        &mut self,
+        alloc: Global,
+        session: SessionId,
+    ) -> Result<Option<Message>, NoMemory>
+        ensures given { IfOk result (λ m. CollectsLate session self.old m self.new) }
         ensures none { IfOk result (λ m. IfNone m (self.new ≡ self.old)) }
         ensures table { IsDeskTable self.old.locks.locks }
         ensures unchanged { OnErr result (self.new ≡ self.old) }
     {
-        let Some((name, late)) = self.locks.first_answer(who) else {
+        let Some((name, late)) = self.locks.first_answer(session) else {
             return Ok(None);
         };
         let name = name.copy()?;
         let id = late.id.copy()?;
         let answer = late_answer(alloc, late.outcome)?;
-        self.locks.answer_told(who, &name);
+        self.locks.answer_told(session, &name);
         Ok(Some(answer.into_reply(id)))
     }
 
     // The first notice that a session is owed.
-    fn collect_notice(&mut self, alloc: Global, who: u64) -> Result<Option<Message>, NoMemory>
-        ensures given { IfOk result (λ m. CollectsNotice who self.old m self.new) }
+    fn collect_notice(
+        &mut self,
+        alloc: Global,
+        session: SessionId,
+    ) -> Result<Option<Message>, NoMemory>
+        ensures given { IfOk result (λ m. CollectsNotice session self.old m self.new) }
         ensures none { IfOk result (λ m. IfNone m (self.new ≡ self.old)) }
         ensures table { IsDeskTable self.old.locks.locks }
         ensures unchanged { OnErr result (self.new ≡ self.old) }
     {
-        let Some(notice) = self.locks.first_notice(who)? else {
+        let Some(notice) = self.locks.first_notice(session)? else {
             return Ok(None);
         };
         let message = message_of(alloc, &notice)?;
-        self.locks.notice_told(who, lock_of(&notice));
+        self.locks.notice_told(session, lock_of(&notice));
         Ok(Some(message))
     }
 
     // The first answer or notice for a lock, where no other answer is owed.
-    fn collect_of_lock(&mut self, alloc: Global, who: u64) -> Result<Option<Message>, NoMemory>
-        requires none_sent { filter (passes (Sought.Due who)) self.old.forwards.ledger.pending ≡ [] }
-        ensures given { IfOk result (λ r. CollectsTo (owing_of self.old who) r (owing_of self.new who)) }
-        ensures others { (other : ℕ) → other ≢ who → owing_of self.new other ≡ owing_of self.old other }
+    fn collect_of_lock(
+        &mut self,
+        alloc: Global,
+        session: SessionId,
+    ) -> Result<Option<Message>, NoMemory>
+        requires none_sent { filter (passes (RequestFilter.Due session)) self.old.forwards.ledger.pending ≡ [] }
+        ensures given { IfOk result (λ r. CollectsTo (owing_of self.old session) r (owing_of self.new session)) }
+        ensures others { (other : ℕ) → other ≢ session → owing_of self.new other ≡ owing_of self.old other }
         ensures owners { (name : List ℕ) → owner_of self.new name ≡ owner_of self.old name }
-        ensures does { IfOk result (λ m. CollectsOfLock (slice_get (answers_to who self.old.locks.locks) 0) who self.old m self.new) }
+        ensures does { IfOk result (λ m. CollectsOfLock (slice_get (answers_to session self.old.locks.locks) 0) session self.old m self.new) }
         ensures unchanged { OnErr result (self.new ≡ self.old) }
     {
-        match self.collect_late(alloc, who)? {
+        match self.collect_late(alloc, session)? {
             Some(message) => Ok(Some(message)),
-            None => self.collect_notice(alloc, who),
+            None => self.collect_notice(alloc, session),
         }
     }
 
     // A session ends.
-    fn drop_session(&mut self, who: u64)
-        ensures after { EndsSession who self.old self.new }
+    fn drop_session(&mut self, session: SessionId)
+        ensures after { EndsSession session self.old self.new }
     {
-        self.forwards.end_session(who);
-        self.locks.end_session(who);
+        self.forwards.end_session(session);
+        self.locks.end_session(session);
     }
 
     // The session, and whether anything is owed to it.
@@ -465,53 +491,63 @@ impl RelayDesk {
         ensures value { result ≡ marked (owing_of self.now) member }
     {
         Member {
-            who: member.who,
-            owed: self.forwards.owes(member.who) || self.locks.owes(member.who),
+            session: member.session,
+            owed: self.forwards.owes(member.session) || self.locks.owes(member.session),
         }
     }
 }
 
 impl Authority for RelayDesk {
-    ghost owing = { λ d who. owing_of d who };
+    ghost owing = { λ d session. owing_of d session };
 
     ghost owner = { λ d name. owner_of d name };
 
     /// A transaction is passed on, and a lock asked for at the desk. `NoMemory` leaves the whole desk as it was.
-    fn ask(&mut self, alloc: Global, who: u64, ask: Ask) -> Result<Option<Message>, NoMemory>
-        ensures asked { IfOk result (λ r. AsksTo (owing_of self.old who) ask.id r (owing_of self.new who)) }
-        ensures others { LeavesOthers who (owing_of self.old) (owing_of self.new) }
-        ensures does { IfOk result (λ r. Asks who ask.id ask.verb self.old r self.new) }
+    fn ask(
+        &mut self,
+        alloc: Global,
+        session: SessionId,
+        ask: Ask,
+    ) -> Result<Option<Message>, NoMemory>
+        ensures asked { IfOk result (λ r. AsksTo (owing_of self.old session) ask.id r (owing_of self.new session)) }
+        ensures others { LeavesOthers session (owing_of self.old) (owing_of self.new) }
+        ensures does { IfOk result (λ r. Asks session ask.id ask.verb self.old r self.new) }
+        // An Unlock that isn't refused takes no memory.
+        ensures memory { OnErr result (takes_memory session ask.verb self.old.locks ≡ true) }
         ensures whole { OnErr result (self.new ≡ self.old) }
     {
         let Ask { id, verb } = ask;
         match verb {
-            Verb::Transact(operations) => self.transact(alloc, who, operations, id),
-            Verb::Lock(name) => self.ask_named(alloc, who, LockVerb::Lock, &name, id),
-            Verb::Steal(name) => self.ask_named(alloc, who, LockVerb::Steal, &name, id),
-            Verb::Unlock(name) => self.ask_named(alloc, who, LockVerb::Unlock, &name, id),
+            Verb::Transact(operations) => self.transact(alloc, session, operations, id),
+            Verb::Lock(name) => self.ask_named(alloc, session, LockVerb::Lock, &name, id),
+            Verb::Steal(name) => self.ask_named(alloc, session, LockVerb::Steal, &name, id),
+            Verb::Unlock(name) => self.ask_named(alloc, session, LockVerb::Unlock, &name, id),
         }
     }
 
-    fn collect(&mut self, alloc: Global, who: u64) -> Result<Option<Message>, NoMemory>
-        ensures given { IfOk result (λ r. CollectsTo (owing_of self.old who) r (owing_of self.new who)) }
-        ensures others { (other : ℕ) → other ≢ who → owing_of self.new other ≡ owing_of self.old other }
+    #[tactic(auto, using(crate::proofs::Memory::lost_came))]
+    fn collect(&mut self, alloc: Global, session: SessionId) -> Result<Option<Message>, NoMemory>
+        ensures given { IfOk result (λ r. CollectsTo (owing_of self.old session) r (owing_of self.new session)) }
+        ensures others { (other : ℕ) → other ≢ session → owing_of self.new other ≡ owing_of self.old other }
         ensures owners { (name : List ℕ) → owner_of self.new name ≡ owner_of self.old name }
-        ensures does { IfOk result (λ m. Collects who self.old m self.new) }
+        ensures does { IfOk result (λ m. Collects session self.old m self.new) }
+        // An answer of the source is given without memory.
+        ensures memory { OnErr result (lost_to session self.old.forwards.ledger ≢ Some false) }
         ensures unchanged { OnErr result (self.new ≡ self.old) }
     {
-        match self.collect_sent(alloc, who)? {
+        match self.collect_sent(alloc, session)? {
             Some(message) => Ok(Some(message)),
-            None => self.collect_of_lock(alloc, who),
+            None => self.collect_of_lock(alloc, session),
         }
     }
 
-    fn end_session(&mut self, who: u64)
-        ensures silent { owing_of self.new who ≡ silent }
-        ensures owns_none { (name : List ℕ) → owner_of self.new name ≢ Some who }
-        ensures others { LeavesOthers who (owing_of self.old) (owing_of self.new) }
-        ensures after { EndsSession who self.old self.new }
+    fn end_session(&mut self, session: SessionId)
+        ensures silent { owing_of self.new session ≡ silent }
+        ensures owns_none { (name : List ℕ) → owner_of self.new name ≢ Some session }
+        ensures others { LeavesOthers session (owing_of self.old) (owing_of self.new) }
+        ensures after { EndsSession session self.old self.new }
     {
-        self.drop_session(who);
+        self.drop_session(session);
     }
 
     fn mark(&self, members: &mut [Member])

@@ -1,6 +1,6 @@
 //! Answers of the source, with where they stand.
 
-use ovs_authority::Answer;
+use ovs_authority::Response;
 use ovs_data::TxnId;
 
 /// An answer of the source, and where it stands: the id up to which the session with the source had told the chain when the
@@ -8,7 +8,7 @@ use ovs_data::TxnId;
 #[derive(Drop)]
 pub struct StandingAnswer {
     /// The answer.
-    pub answer: Answer,
+    pub answer: Response,
     /// Where it stands: 0, or the id of a commit.
     pub standing: TxnId,
 }

@@ -6,7 +6,7 @@ ghost use Rattle.ovs_fold_script.specs.Closing.{stuck_line, head_line, counts_li
 
 use ovs_links::{LinkStore, Settled};
 use ovs_rows::Database;
-use ovs_script::Closing;
+use ovs_script::ScriptEnd;
 use ovs_types::{NoMemory, TxnId};
 use std::alloc::{AllocError, Global};
 
@@ -92,7 +92,7 @@ pub(crate) fn close_store(
     alloc: Global,
     store: &mut LinkStore,
     refused: bool,
-) -> Result<Closing, NoMemory>
+) -> Result<ScriptEnd, NoMemory>
     ensures text { IfOk result (λ closing. string_bytes closing.text ≡ end_text store.old) }
     ensures content { IfOk result (λ closing. closing.is_content ≡ (not refused && is_whole_chain store.old)) }
     ensures links { KeepsLinks store.old store.new }
@@ -102,7 +102,7 @@ pub(crate) fn close_store(
 {
     let settled = store.settle(alloc)?;
     let text = last_lines(alloc, store, settled)?;
-    Ok(Closing {
+    Ok(ScriptEnd {
         text,
         is_content: !refused && matches!(settled, Settled::Done),
     })

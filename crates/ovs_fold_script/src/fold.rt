@@ -15,7 +15,7 @@ ghost use Rattle.ovs_fold_script.specs.Folding.{fold_rules, beginning, fold_outp
 
 use crate::intake::answer_line;
 use crate::stores::{OneStore, TwoStores};
-use ovs_script::{Closing, LineFault, RunEnd, SchemaRefusal, Script, run_script, schema_of_line};
+use ovs_script::{LineFault, RunEnd, SchemaRefusal, Script, ScriptEnd, run_script, schema_of_line};
 use ovs_types::NoMemory;
 use ovs_wire::Counted;
 use std::alloc::Global;
@@ -106,15 +106,15 @@ impl Script for Fold {
         matches!(&self.stage, FoldStage::Missing | FoldStage::Over)
     }
 
-    fn close(&mut self, alloc: Global) -> Result<Closing, NoMemory> {
+    fn close(&mut self, alloc: Global) -> Result<ScriptEnd, NoMemory> {
         match &mut self.stage {
-            FoldStage::Schema | FoldStage::Missing => Ok(Closing {
+            FoldStage::Schema | FoldStage::Missing => Ok(ScriptEnd {
                 text: SchemaRefusal::BadLine(LineFault::BadJson).line(alloc)?,
                 is_content: false,
             }),
             FoldStage::Links(store) => store.close(alloc, self.refused),
             FoldStage::Both(stores) => stores.close(alloc, self.refused),
-            FoldStage::Over => Ok(Closing {
+            FoldStage::Over => Ok(ScriptEnd {
                 text: String::new(alloc),
                 is_content: false,
             }),

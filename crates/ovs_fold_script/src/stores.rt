@@ -11,7 +11,7 @@ use crate::closing::close_store;
 use crate::intake::{LineAnswer, answer_line};
 use crate::words::{LineRefusal, merge_line};
 use ovs_links::{LinkStore, MergeError};
-use ovs_script::Closing;
+use ovs_script::ScriptEnd;
 use ovs_types::{NoMemory, Schema};
 use std::alloc::{AllocError, Global};
 use std::marker::Model;
@@ -44,7 +44,7 @@ impl OneStore {
     }
 
     /// Folds the longest chain and tells of it; content where no line was refused and the chain isn't stuck.
-    pub(crate) fn close(&mut self, alloc: Global, refused: bool) -> Result<Closing, NoMemory>
+    pub(crate) fn close(&mut self, alloc: Global, refused: bool) -> Result<ScriptEnd, NoMemory>
         ensures text { IfOk result (λ closing. string_bytes closing.text ≡ end_text self.old) }
         ensures content { IfOk result (λ closing. closing.is_content ≡ (not refused && is_whole_chain self.old)) }
     {
@@ -154,7 +154,7 @@ impl TwoStores {
     /// content where no line was refused, the stores were merged and the chain isn't stuck.
     ///
     /// After `NoMemory` the second store may be merged already, and a longer beginning of the first's chain folded.
-    pub(crate) fn close(&mut self, alloc: Global, refused: bool) -> Result<Closing, NoMemory>
+    pub(crate) fn close(&mut self, alloc: Global, refused: bool) -> Result<ScriptEnd, NoMemory>
         ensures text { IfOk result (λ closing. string_bytes closing.text ≡ stores_closing self.old) }
         ensures content { IfOk result (λ closing. closing.is_content ≡ (not refused && is_merged_whole self.old)) }
     {
@@ -163,7 +163,7 @@ impl TwoStores {
         let mut text = merge_line(alloc, merged)?;
         let end = close_store(alloc, &mut self.first.store, false)?;
         text.push_str(end.text.as_str())?;
-        Ok(Closing {
+        Ok(ScriptEnd {
             text,
             is_content: !refused && (is_merged && end.is_content),
         })

@@ -12,7 +12,7 @@ use Rattle.ovs_wire.specs.Reading.{list_of}
 use Rattle.ovs_wire.specs.declared.message.Message.{Message}
 use Rattle.ovs_wire.specs.declared.message.Message.TheVariants.{Request, Reply, Notice}
 use Rattle.ovs_wire.proofs.Lists.{items_again}
-use Rattle.ovs_follow.specs.Following.{SaysNone}
+use Rattle.ovs_follow.specs.UpstreamState.{SaysNone}
 
 null_or_not : (d : Data) → (d ≡ null) ⊎ (d ≢ null)
 null_or_not null = inl refl

@@ -11,12 +11,12 @@ use Rattle.ovs_upstream.specs.declared.error.UpError.TheVariants as errors
 use Rattle.ovs_upstream.specs.declared.up_session.Heard.{Heard}
 use Rattle.ovs_upstream.specs.declared.up_session.UpSession.{UpSession}
 use Rattle.ovs_follow.specs.Faults.{IsFaultIn, IsFaultOf, fault_of_heard}
-use Rattle.ovs_follow.specs.Following.{FollowingValue}
+use Rattle.ovs_follow.specs.UpstreamState.{UpstreamStateValue}
 use Rattle.ovs_follow.specs.declared.input_fault.InputFault.{InputFault}
 use Rattle.ovs_follow.specs.declared.input_fault.InputFault.TheVariants.{Stream, NoMessage, Message, Reply}
 
 -- a fault of the message that isn't answered is the session's
-pub fault_of_held : (s : SessionValue FollowingValue) (text : List ℕ) (fault : InputFault) → s.held ≡ Some text → IsFaultOf s.core.up text fault → IsFaultIn s fault
+pub fault_of_held : (s : SessionValue UpstreamStateValue) (text : List ℕ) (fault : InputFault) → s.held ≡ Some text → IsFaultOf s.state.up text fault → IsFaultIn s fault
 fault_of_held s text NoMessage held is = (text, held, is)
 fault_of_held s text (Message e) held is = (text, held, is)
 fault_of_held s text Reply held is = (text, held, is)

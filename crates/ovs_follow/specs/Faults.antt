@@ -9,7 +9,7 @@ use Rattle.ovs_upstream.specs.declared.error.UpError.{UpError}
 use Rattle.ovs_upstream.specs.declared.error.UpError.TheVariants as errors
 use Rattle.ovs_upstream.specs.declared.up_session.Heard.{Heard}
 use Rattle.ovs_upstream.specs.declared.up_session.UpSession.{UpSession}
-use Rattle.ovs_follow.specs.Following.{FollowingValue, IsHeard, SaysNone}
+use Rattle.ovs_follow.specs.UpstreamState.{UpstreamStateValue, IsHeard, SaysNone}
 use Rattle.ovs_follow.specs.declared.input_fault.InputFault.{InputFault}
 use Rattle.ovs_follow.specs.declared.input_fault.InputFault.TheVariants.{Stream, NoMessage, Message, Reply}
 
@@ -31,8 +31,8 @@ IsFaultOf up text Reply = (h : Heard) × IsHeard up text h
 IsFaultOf up text (Stream fault) = ⊥
 
 -- the stream has this fault, or the message that isn't answered
-abbrev pub IsFaultIn : SessionValue FollowingValue → InputFault → Type 0
+abbrev pub IsFaultIn : SessionValue UpstreamStateValue → InputFault → Type 0
 IsFaultIn s (Stream fault) = fault_in s.framing.ending ≡ Some fault
-IsFaultIn s NoMessage = (text : List ℕ) × (s.held ≡ Some text) × IsFaultOf s.core.up text NoMessage
-IsFaultIn s (Message e) = (text : List ℕ) × (s.held ≡ Some text) × IsFaultOf s.core.up text (Message e)
-IsFaultIn s Reply = (text : List ℕ) × (s.held ≡ Some text) × IsFaultOf s.core.up text Reply
+IsFaultIn s NoMessage = (text : List ℕ) × (s.held ≡ Some text) × IsFaultOf s.state.up text NoMessage
+IsFaultIn s (Message e) = (text : List ℕ) × (s.held ≡ Some text) × IsFaultOf s.state.up text (Message e)
+IsFaultIn s Reply = (text : List ℕ) × (s.held ≡ Some text) × IsFaultOf s.state.up text Reply

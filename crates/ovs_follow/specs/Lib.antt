@@ -1,5 +1,5 @@
-pub mod Following
+pub mod UpstreamState
 pub mod Deriving
 pub mod Telling
 pub mod Faults
-pub mod Followed
+pub mod UpstreamEnd

@@ -5,19 +5,19 @@ ghost use Rattle.std.specs.Io.KnownBytes.{IsAtEnd};
 ghost use Rattle.ovs_links.specs.Sets.{IsOfTables};
 ghost use Rattle.ovs_links.specs.declared.link.Link.{Link};
 ghost use Rattle.ovs_upstream.specs.Hearing.{opening};
-ghost use Rattle.ovs_follow.specs.Following.{begun};
+ghost use Rattle.ovs_follow.specs.UpstreamState.{begun};
 ghost use Rattle.ovs_follow.specs.Deriving.{SendsFirst, SendsAll};
 ghost use Rattle.ovs_follow.specs.Faults.{IsFaultIn};
-ghost use Rattle.ovs_follow.specs.Followed.{HasFollowed, FaultsOnly};
+ghost use Rattle.ovs_follow.specs.UpstreamEnd.{HasFollowed, FaultsOnly};
 ghost use Rattle.ovs_follow.specs.Telling.{TellsFirst};
 
-use crate::follower::Follower;
-use crate::following::Following;
+use crate::handler_call::HandlerCall;
 use crate::hearing::fault_of_text;
 use crate::input_fault::InputFault;
 use crate::link_sink::LinkSink;
-use crate::side_call::SideCall;
-use crate::source_side::SourceSide;
+use crate::upstream_handler::UpstreamHandler;
+use crate::upstream_service::UpstreamService;
+use crate::upstream_state::UpstreamState;
 use ovs_history::GhostList;
 use ovs_session::{Counts, Ended, Limits, Session, serve};
 use ovs_types::{Schema, TxnId};
@@ -27,13 +27,13 @@ use std::io::{Read, Write};
 
 /// What is left of a session with an upstream after its end.
 #[derive(Drop)]
-pub struct Followed<S: LinkSink, D: SourceSide + Drop> {
+pub struct UpstreamEnd<S: LinkSink, D: UpstreamHandler + Drop> {
     /// Where its links went.
     pub sink: S,
-    /// The side of the source.
+    /// The handler.
     pub source: D,
-    /// What it did with that side before its end. Only proofs see it.
-    pub made: GhostList<SideCall>,
+    /// Its calls of that handler before its end. Only proofs see it.
+    pub made: GhostList<HandlerCall>,
     /// What it has counted.
     pub counts: Counts,
     /// Why it ended.
@@ -43,11 +43,11 @@ pub struct Followed<S: LinkSink, D: SourceSide + Drop> {
     pub fault: Option<InputFault>,
 }
 
-// The same without the side of the source.
+// The same without the handler.
 #[derive(Drop)]
-struct Served<S: LinkSink> {
+struct UpstreamResult<S: LinkSink> {
     sink: S,
-    made: GhostList<SideCall>,
+    made: GhostList<HandlerCall>,
     counts: Counts,
     ended: Ended,
     fault: Option<InputFault>,
@@ -57,7 +57,7 @@ struct Served<S: LinkSink> {
 #[tactic(auto, using(crate::proofs::Faults::fault_of_held))]
 fn fault_of<S: LinkSink>(
     alloc: Global,
-    session: &Session<Following<S>>,
+    session: &Session<UpstreamState<S>>,
     ended: Ended,
 ) -> Option<InputFault>
     ensures fault { IfSome result (λ fault. (ended ≡ Ended.BadInput) × IsFaultIn session.now fault) }
@@ -66,32 +66,33 @@ fn fault_of<S: LinkSink>(
         return None;
     }
     match session.held() {
-        Some(text) => fault_of_text(alloc, session.core().up(), text),
+        Some(text) => fault_of_text(alloc, session.state().up(), text),
         None => Some(InputFault::Stream(session.fault()?)),
     }
 }
 
 // Serves a session that hasn't begun.
-fn serve_new<S: LinkSink, D: SourceSide + Drop, R: Read, W: Write>(
+fn serve_new<S: LinkSink, D: UpstreamHandler + Drop, R: Read, W: Write>(
     alloc: Global,
-    following: Following<S>,
-    follower: &mut Follower<S, D>,
+    state: UpstreamState<S>,
+    service: &mut UpstreamService<S, D>,
     reader: &mut Counted<R>,
     writer: &mut Counted<W>,
+    most_bytes: usize,
     limits: Limits,
     most_turns: u32,
-) -> Served<S>
-    ensures followed { HasFollowed D.refuses following limits.most_unsent (R.remaining reader.old.device) (R.remaining reader.new.device)
+) -> UpstreamResult<S>
+    ensures followed { HasFollowed D.refuses state most_bytes limits.most_unsent (R.remaining reader.old.device) (R.remaining reader.new.device)
         (W.contents writer.old.device) (W.contents writer.new.device) result.ended result.counts (S.sent result.sink) result.made result.fault }
     ensures faults { FaultsOnly result.ended reader.old.failures reader.new.failures writer.old.failures writer.new.failures }
     ensures spent { result.counts.turns ≤ most_turns }
 {
-    let mut session = Session::new(alloc, following);
-    let ended = serve(&mut session, follower, reader, writer, limits, most_turns);
+    let mut session = Session::with_limit(alloc, most_bytes, state);
+    let ended = serve(&mut session, service, reader, writer, limits, most_turns);
     let counts = session.counts();
     let fault = fault_of(alloc, &session, ended);
-    let (sink, made) = session.into_core().into_parts();
-    Served {
+    let (sink, made) = session.into_state().into_parts();
+    UpstreamResult {
         sink,
         made,
         counts,
@@ -101,14 +102,14 @@ fn serve_new<S: LinkSink, D: SourceSide + Drop, R: Read, W: Write>(
 }
 
 // The session didn't begin.
-fn unserved<S: LinkSink>(sink: S) -> Served<S>
+fn unserved<S: LinkSink>(sink: S) -> UpstreamResult<S>
     ensures sink { result.sink ≡ sink }
     ensures made { result.made ≡ [] }
     ensures counts { result.counts ≡ record { turns = 0; messages = 0; bytes_out = 0 } }
     ensures ended { result.ended ≡ Ended.NoMemory }
     ensures fault { result.fault ≡ None }
 {
-    Served {
+    UpstreamResult {
         sink,
         made: GhostList::new(),
         counts: Counts {
@@ -122,26 +123,27 @@ fn unserved<S: LinkSink>(sink: S) -> Served<S>
 }
 
 // Opens a session and serves it.
-fn serve_one<S: LinkSink, D: SourceSide + Drop, R: Read, W: Write>(
+fn serve_one<S: LinkSink, D: UpstreamHandler + Drop, R: Read, W: Write>(
     alloc: Global,
     schema: &Schema,
     asked: TxnId,
     sink: S,
-    follower: &mut Follower<S, D>,
+    service: &mut UpstreamService<S, D>,
     reader: &mut Counted<R>,
     writer: &mut Counted<W>,
+    most_bytes: usize,
     limits: Limits,
     most_turns: u32,
-) -> Served<S>
+) -> UpstreamResult<S>
     requires takes { (l : Link) → IsOfTables schema.now.description.tables l → S.takes l }
-    ensures followed { HasFollowed D.refuses (begun schema.now asked (S.sent sink)) limits.most_unsent (R.remaining reader.old.device) (R.remaining reader.new.device)
+    ensures followed { HasFollowed D.refuses (begun schema.now asked (S.sent sink)) most_bytes limits.most_unsent (R.remaining reader.old.device) (R.remaining reader.new.device)
         (W.contents writer.old.device) (W.contents writer.new.device) result.ended result.counts (S.sent result.sink) result.made result.fault }
     ensures faults { FaultsOnly result.ended reader.old.failures reader.new.failures writer.old.failures writer.new.failures }
     ensures spent { result.counts.turns ≤ most_turns }
 {
-    match Following::new(alloc, schema, asked, sink) {
-        Ok(following) => serve_new(
-            alloc, following, follower, reader, writer, limits, most_turns,
+    match UpstreamState::new(alloc, schema, asked, sink) {
+        Ok(state) => serve_new(
+            alloc, state, service, reader, writer, most_bytes, limits, most_turns,
         ),
         Err(sink) => unserved(sink),
     }
@@ -149,20 +151,20 @@ fn serve_one<S: LinkSink, D: SourceSide + Drop, R: Read, W: Write>(
 
 /// Follows an upstream for one session, by at most so many turns of one call of a device each: asks it for the schema (RFC 7047 section 4.1.2), then for
 /// all that comes after an id, sends the links that it makes of what the upstream says to a sink, and passes on what is asked
-/// of the source. At its end the source is lost.
+/// of the source. A message of the upstream may have `most_bytes`. At its end the source is lost.
 ///
 /// Over a reader that tells its bytes, the links that it sends are the first of those that are derived from these bytes, and
-/// all of them where it ended `Closed`, which it does only at its reader's end; and of what these bytes tell the side of the source the first
-/// was told it, in order, each once. The requests that it took up of that side were said, each once and in order, but for one that may have
+/// all of them where it ended `Closed`, which it does only at its reader's end; and of what these bytes tell the handler the first
+/// was told it, in order, each once. The requests that the handler gave it were said, each once and in order, but for one that may have
 /// waited for memory (`following_laws`). Where memory ran out before the session could
 /// be opened, it ends with `NoMemory`, and nothing was read, written or sent.
 ///
 /// - `Closed`: the reader is at its end, all that was read is heard, and all that was said is written.
 /// - `BadInput`: the upstream's bytes have a fault, or a message is none, or is refused by the session (`UpError` of
-///   `ovs_upstream`), or the side of the source refuses a reply; `fault` says which.
+///   `ovs_upstream`), or the handler refuses a reply; `fault` says which.
 /// - `ReadFault`, `WriteFault`: the last call of the device failed, and was counted as a failure.
 /// - `TurnsSpent`, `NoMemory`.
-pub fn follow_upstream<S: LinkSink, D: SourceSide + Drop, R: Read, W: Write>(
+pub fn follow_upstream<S: LinkSink, D: UpstreamHandler + Drop, R: Read, W: Write>(
     alloc: Global,
     schema: &Schema,
     asked: TxnId,
@@ -170,35 +172,37 @@ pub fn follow_upstream<S: LinkSink, D: SourceSide + Drop, R: Read, W: Write>(
     source: D,
     reader: &mut Counted<R>,
     writer: &mut Counted<W>,
+    most_bytes: usize,
     limits: Limits,
     most_turns: u32,
-) -> Followed<S, D>
+) -> UpstreamEnd<S, D>
     requires takes { (l : Link) → IsOfTables schema.now.description.tables l → S.takes l }
-    ensures followed { HasFollowed D.refuses (begun schema.now asked (S.sent sink)) limits.most_unsent (R.remaining reader.old.device) (R.remaining reader.new.device)
+    ensures followed { HasFollowed D.refuses (begun schema.now asked (S.sent sink)) most_bytes limits.most_unsent (R.remaining reader.old.device) (R.remaining reader.new.device)
         (W.contents writer.old.device) (W.contents writer.new.device) result.ended result.counts (S.sent result.sink) result.made result.fault }
-    ensures sent { IfSome (R.remaining reader.old.device) (λ bytes. SendsFirst (opening schema.now asked) bytes (S.sent sink) (S.sent result.sink)) }
+    ensures sent { IfSome (R.remaining reader.old.device) (λ bytes. SendsFirst most_bytes (opening schema.now asked) bytes (S.sent sink) (S.sent result.sink)) }
     ensures closed { result.ended ≡ Ended.Closed → IsAtEnd (R.remaining reader.new.device)
-        × IfSome (R.remaining reader.old.device) (λ bytes. SendsAll (opening schema.now asked) bytes (S.sent sink) (S.sent result.sink)) }
-    ensures told { IfSome (R.remaining reader.old.device) (λ bytes. TellsFirst (opening schema.now asked) bytes result.made) }
+        × IfSome (R.remaining reader.old.device) (λ bytes. SendsAll most_bytes (opening schema.now asked) bytes (S.sent sink) (S.sent result.sink)) }
+    ensures told { IfSome (R.remaining reader.old.device) (λ bytes. TellsFirst most_bytes (opening schema.now asked) bytes result.made) }
     ensures lost { (before : D) × D.loses before result.source }
     ensures faults { FaultsOnly result.ended reader.old.failures reader.new.failures writer.old.failures writer.new.failures }
     ensures spent { result.counts.turns ≤ most_turns }
 {
-    let mut follower = Follower::new(alloc, source);
+    let mut service = UpstreamService::new(alloc, source);
     let served = serve_one(
         alloc,
         schema,
         asked,
         sink,
-        &mut follower,
+        &mut service,
         reader,
         writer,
+        most_bytes,
         limits,
         most_turns,
     );
-    let mut source = follower.into_source();
-    source.lost_source();
-    Followed {
+    let mut source = service.into_source();
+    source.on_disconnected();
+    UpstreamEnd {
         sink: served.sink,
         source,
         made: served.made,

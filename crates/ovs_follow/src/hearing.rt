@@ -5,41 +5,41 @@ ghost use Rattle.ovs_wire.specs.Message.{Says};
 ghost use Rattle.ovs_links.specs.Sets.{AllOf, IsOfTables};
 ghost use Rattle.ovs_upstream.specs.Hearing.{hears, links_in};
 ghost use Rattle.ovs_upstream.specs.declared.error.UpError.{UpError};
-ghost use Rattle.ovs_follow.specs.Following.{IsHeard, IsUnheard, SaysNone};
+ghost use Rattle.ovs_follow.specs.UpstreamState.{IsHeard, IsUnheard, SaysNone};
 ghost use Rattle.ovs_follow.specs.Faults.{IsFaultOf, fault_of_heard};
 
 use crate::input_fault::InputFault;
-use ovs_session::Refusal;
+use ovs_session::ServiceError;
 use ovs_upstream::{Heard, UpError, UpSession};
 use ovs_wire::{Message, MessageError};
 use std::alloc::Global;
 
 // The message that a text says.
-fn read(alloc: Global, text: &[u8]) -> Result<Message, Refusal>
+fn read(alloc: Global, text: &[u8]) -> Result<Message, ServiceError>
     ensures says { IfOk result (λ m. Says text.now m) }
-    ensures none { result ≡ Err Refusal.BadInput → SaysNone text.now }
-    ensures never_gone { result ≡ Err Refusal.Gone → ⊥ }
-    ensures never_epoch { result ≡ Err Refusal.Epoch → ⊥ }
+    ensures none { result ≡ Err ServiceError.BadInput → SaysNone text.now }
+    ensures never_gone { result ≡ Err ServiceError.Gone → ⊥ }
+    ensures never_epoch { result ≡ Err ServiceError.Epoch → ⊥ }
 {
     match Message::read(alloc, text) {
         Ok(message) => Ok(message),
-        Err(MessageError::NoMemory) => Err(Refusal::NoMemory),
-        Err(_) => Err(Refusal::BadInput),
+        Err(MessageError::NoMemory) => Err(ServiceError::NoMemory),
+        Err(_) => Err(ServiceError::BadInput),
     }
 }
 
 // What a message comes to.
-fn hear_message(alloc: Global, up: &UpSession, message: Message) -> Result<Heard, Refusal>
+fn hear_message(alloc: Global, up: &UpSession, message: Message) -> Result<Heard, ServiceError>
     ensures heard { IfOk result (λ h. hears up.now message ≡ Ok h) }
     ensures tables { IfOk result (λ h. AllOf (IsOfTables up.now.schema.description.tables) (links_in h.event) × (length (links_in h.event) ≤ 1)) }
-    ensures bad { result ≡ Err Refusal.BadInput → (e : UpError) × (hears up.now message ≡ Err e) }
-    ensures never_gone { result ≡ Err Refusal.Gone → ⊥ }
-    ensures never_epoch { result ≡ Err Refusal.Epoch → ⊥ }
+    ensures bad { result ≡ Err ServiceError.BadInput → (e : UpError) × (hears up.now message ≡ Err e) }
+    ensures never_gone { result ≡ Err ServiceError.Gone → ⊥ }
+    ensures never_epoch { result ≡ Err ServiceError.Epoch → ⊥ }
 {
     match up.hear(alloc, message) {
         Ok(heard) => Ok(heard),
-        Err(UpError::NoMemory) => Err(Refusal::NoMemory),
-        Err(_) => Err(Refusal::BadInput),
+        Err(UpError::NoMemory) => Err(ServiceError::NoMemory),
+        Err(_) => Err(ServiceError::BadInput),
     }
 }
 
@@ -47,12 +47,12 @@ fn hear_message(alloc: Global, up: &UpSession, message: Message) -> Result<Heard
 ///
 /// - `BadInput`: the text says no message, or the session refuses it.
 /// - `NoMemory`.
-pub(crate) fn hear(alloc: Global, up: &UpSession, text: &[u8]) -> Result<Heard, Refusal>
+pub(crate) fn hear(alloc: Global, up: &UpSession, text: &[u8]) -> Result<Heard, ServiceError>
     ensures heard { IfOk result (λ h. IsHeard up.now text.now h) }
     ensures tables { IfOk result (λ h. AllOf (IsOfTables up.now.schema.description.tables) (links_in h.event) × (length (links_in h.event) ≤ 1)) }
-    ensures bad { result ≡ Err Refusal.BadInput → IsUnheard up.now text.now }
-    ensures never_gone { result ≡ Err Refusal.Gone → ⊥ }
-    ensures never_epoch { result ≡ Err Refusal.Epoch → ⊥ }
+    ensures bad { result ≡ Err ServiceError.BadInput → IsUnheard up.now text.now }
+    ensures never_gone { result ≡ Err ServiceError.Gone → ⊥ }
+    ensures never_epoch { result ≡ Err ServiceError.Epoch → ⊥ }
 {
     match read(alloc, text) {
         Ok(message) => hear_message(alloc, up, message),
@@ -71,7 +71,7 @@ fn fault_of_heard(heard: &Result<Heard, UpError>) -> Option<InputFault>
     }
 }
 
-// What is wrong with a message that the session, or else the side of the source, refused. `None` where memory ran out.
+// What is wrong with a message that the session, or else the handler, refused. `None` where memory ran out.
 fn fault_of_message(alloc: Global, up: &UpSession, message: Message) -> Option<InputFault>
     ensures fault { (text : List ℕ) → Says text message → IfSome result (IsFaultOf up.now text) }
 {
@@ -85,7 +85,7 @@ pub(crate) fn fault_of_text(alloc: Global, up: &UpSession, text: &[u8]) -> Optio
 {
     match read(alloc, text) {
         Ok(message) => fault_of_message(alloc, up, message),
-        Err(Refusal::BadInput) => Some(InputFault::NoMessage),
+        Err(ServiceError::BadInput) => Some(InputFault::NoMessage),
         Err(_) => None,
     }
 }

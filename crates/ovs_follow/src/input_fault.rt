@@ -16,7 +16,7 @@ pub enum InputFault {
     /// A message may not come, or says what the session refuses.
     #[error("{0}")]
     Message(UpError),
-    /// The side of the source refuses what a message says, as a reply to a request that wasn't made.
+    /// The handler refuses what a message says, as a reply to a request that wasn't made.
     #[error("a reply that may not come")]
     Reply,
 }

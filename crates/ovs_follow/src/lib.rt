@@ -3,21 +3,21 @@
 #![tactic(auto)]
 
 mod follow;
-mod follower;
-mod following;
+mod handler_call;
 mod hearing;
 mod input_fault;
 mod laws;
 mod link_sink;
 mod saying;
-mod side_call;
-mod source_side;
+mod upstream_handler;
+mod upstream_service;
+mod upstream_state;
 
-pub use follow::{Followed, follow_upstream};
-pub use follower::Follower;
-pub use following::Following;
+pub use follow::{UpstreamEnd, follow_upstream};
+pub use handler_call::{HandlerCall, note_found, note_heard, note_taken};
 pub use input_fault::InputFault;
 pub use laws::{derived_laws, following_laws};
 pub use link_sink::LinkSink;
-pub use side_call::{SideCall, note_found, note_heard, note_taken};
-pub use source_side::{NoSource, SourceSide};
+pub use upstream_handler::{NoSource, UpstreamHandler};
+pub use upstream_service::UpstreamService;
+pub use upstream_state::UpstreamState;

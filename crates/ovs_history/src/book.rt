@@ -3,12 +3,12 @@
 ghost use Rattle.std.specs.Prelude.{◌≡◌, []};
 ghost use Rattle.ovs_history.specs.LengthRule.{head_of};
 
-use crate::front::Front;
+use crate::prefix::Prefix;
 use crate::rule::LengthRule;
 use logbook::{Seen, Start, Word};
 use std::marker::{Model, PhantomData};
 
-/// Which history it is, and what holds of each beginning of it that a front knows.
+/// Which history it is, and what holds of each beginning of it that a prefix knows.
 pub trait HistoryName<T> {
     ghost use Rattle.std.specs.Prelude.{List};
     ghost use Rattle.logbook.specs.Pages.{Book};
@@ -37,8 +37,8 @@ impl<T> Opened<T> {
         }
     }
 
-    /// The book of the history, and the front that knows no entry.
-    pub fn named<K: HistoryName<T>>(self) -> (Book<T, K>, Front<T, K>)
+    /// The book of the history, and the prefix that knows no entry.
+    pub fn named<K: HistoryName<T>>(self) -> (Book<T, K>, Prefix<T, K>)
         requires book { self.seen.book ≡ K.book }
         requires first { K.holds [] }
         ensures empty { result.1 ≡ [] }
@@ -49,7 +49,7 @@ impl<T> Opened<T> {
                 head,
                 of: PhantomData,
             },
-            Front {
+            Prefix {
                 entries: 0,
                 seen,
                 of: PhantomData,

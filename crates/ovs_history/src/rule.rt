@@ -1,4 +1,4 @@
-//! The rule of a history: its word is its length. All else that holds of it is kept by the fronts.
+//! The rule of a history: its word is its length. All else that holds of it is kept by the prefixes.
 
 use logbook::{Gain, Play, Rule};
 

@@ -6,7 +6,7 @@ ghost use Rattle.ovs_json.specs.FirstFault.{first_of, both, with_one, items_of};
 use crate::no_memory::NoMemory;
 
 /// A fault, with its place in the order of the faults: the lower the rank, the worse.
-pub trait Fault: Drop {
+pub trait Ranked: Drop {
     /// The place in the order.
     ghost rank: { Self → ℕ };
 
@@ -16,7 +16,7 @@ pub trait Fault: Drop {
 }
 
 // The worse of two faults.
-fn first_of<E: Fault>(fault: E, other: E) -> E
+fn first_of<E: Ranked>(fault: E, other: E) -> E
     ensures first { result ≡ first_of E.rank fault other }
 {
     if fault.rank() <= other.rank() {
@@ -30,7 +30,7 @@ fn first_of<E: Fault>(fault: E, other: E) -> E
 ///
 /// # Errors
 /// The fault of the one that has one; where both have, the one of lower rank.
-pub fn both<A: Drop, B: Drop, E: Fault>(
+pub fn both<A: Drop, B: Drop, E: Ranked>(
     first: Result<A, E>,
     second: Result<B, E>,
 ) -> Result<(A, B), E>
@@ -48,7 +48,7 @@ pub fn both<A: Drop, B: Drop, E: Fault>(
 ///
 /// # Errors
 /// `NoMemory` alone; the faults are a value.
-pub fn with_one<X: Drop, E: Fault>(
+pub fn with_one<X: Drop, E: Ranked>(
     so_far: Result<Vec<X>, E>,
     one: Result<X, E>,
 ) -> Result<Result<Vec<X>, E>, NoMemory>

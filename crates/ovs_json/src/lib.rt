@@ -6,10 +6,11 @@ mod json_value;
 mod no_memory;
 mod parts;
 mod same;
+mod session_id;
 mod text;
 mod writing;
 
-pub use first_fault::{Fault, both, with_one};
+pub use first_fault::{Ranked, both, with_one};
 pub use json_value::Json;
 pub use no_memory::NoMemory;
 pub use parts::{
@@ -17,5 +18,6 @@ pub use parts::{
     two_items, under,
 };
 pub use same::same_json;
+pub use session_id::SessionId;
 pub use text::Text;
 pub use writing::{error_json, listed, put, text_json, two, under_name};

@@ -5,26 +5,26 @@ use Rattle.std.proofs.lemmas.Bool.{eqb-true, eqb-false, eq-eqb}
 use Rattle.std.specs.List.{list_any}
 use Rattle.std.proofs.lemmas.List.Folds.{list_any-append}
 use Rattle.serde_json.specs.Data.{Data}
-use Rattle.ovs_locks.specs.declared.asker.Asker.{Asker}
-use Rattle.ovs_locks.specs.Lock.{LockValue, is_in, is_free, is_first, is_who, asker, stands, put_first, without, forgotten, dropped, granted, granted_first, robbed_first, heard, told_one, after_one, sessions}
+use Rattle.ovs_locks.specs.declared.waiter.Waiter.{Waiter}
+use Rattle.ovs_locks.specs.Lock.{LockValue, is_in, is_free, is_first, is_who, waiter, stands, put_first, without, forgotten, dropped, granted, granted_first, robbed_first, heard, told_one, after_one, sessions}
 use Rattle.ovs_locks.specs.ByName.{Ascends}
 use Rattle.ovs_locks.proofs.Idle.{not_free, not_free_stolen}
 use Rattle.ovs_locks.proofs.NextNotice.{one_heard}
-use Rattle.ovs_lock_desk.specs.declared.course.Course.{Course}
-use Rattle.ovs_lock_desk.specs.declared.course.Course.TheVariants.{Idle, Sent, Waiting, Held}
-use Rattle.ovs_lock_desk.specs.declared.course.Due.TheVariants as due
-use Rattle.ovs_lock_desk.specs.declared.course.Event.{Event}
-use Rattle.ovs_lock_desk.specs.declared.course.Event.TheVariants as events
-use Rattle.ovs_lock_desk.specs.declared.course.LockReply.{LockReply}
-use Rattle.ovs_lock_desk.specs.declared.course.LockReply.TheVariants as replies
-use Rattle.ovs_lock_desk.specs.declared.course.LockVerb.{LockVerb}
-use Rattle.ovs_lock_desk.specs.declared.course.LockVerb.TheVariants as verbs
-use Rattle.ovs_lock_desk.specs.declared.late_steal.LateSteal.{LateSteal}
-use Rattle.ovs_lock_desk.specs.Course.{is_held, is_sent, asks_nothing, is_steal_due, course_locked, course_given_up, course_as_lock, course_sent}
-use Rattle.ovs_lock_desk.specs.LateSteal.{is_of, is_open, is_own_open, is_due_late, late_of, settled, without_one, without_late}
-use Rattle.ovs_lock_desk.specs.LockDesk.{DeskLocks, ChangesAt, desk_lock_at, stepped}
+use Rattle.ovs_lock_desk.specs.declared.lock_state.LockState.{LockState}
+use Rattle.ovs_lock_desk.specs.declared.lock_state.LockState.TheVariants.{Idle, Sent, Waiting, Held}
+use Rattle.ovs_lock_desk.specs.declared.lock_state.NextAsk.TheVariants as due
+use Rattle.ovs_lock_desk.specs.declared.lock_state.LockEvent.{LockEvent}
+use Rattle.ovs_lock_desk.specs.declared.lock_state.LockEvent.TheVariants as events
+use Rattle.ovs_lock_desk.specs.declared.lock_state.LockReply.{LockReply}
+use Rattle.ovs_lock_desk.specs.declared.lock_state.LockReply.TheVariants as replies
+use Rattle.ovs_lock_desk.specs.declared.lock_state.LockVerb.{LockVerb}
+use Rattle.ovs_lock_desk.specs.declared.lock_state.LockVerb.TheVariants as verbs
+use Rattle.ovs_lock_desk.specs.declared.pending_steal.PendingSteal.{PendingSteal}
+use Rattle.ovs_lock_desk.specs.LockState.{is_held, is_sent, asks_nothing, is_steal_due, state_locked, state_given_up, state_as_lock, state_sent}
+use Rattle.ovs_lock_desk.specs.PendingSteal.{is_of, is_open, is_own_open, is_due_late, late_of, settled, without_one, without_late}
+use Rattle.ovs_lock_desk.specs.LockDesk.{RelayLocks, ChangesAt, relay_lock_at, stepped}
 use Rattle.ovs_lock_desk.specs.UpwardTable.{AreSettled}
-use Rattle.ovs_lock_desk.specs.DeskLock.{DeskLockValue, no_desk_lock, is_desk_idle, IsSettled, MayHappen, stealer_in, concerns, steal_open, own_steal_open, asked_here, enters, locked, stolen_here, given_up, left, held, answered_so, granted_in, step, asked_again}
+use Rattle.ovs_lock_desk.specs.RelayLock.{RelayLockValue, no_relay_lock, is_desk_idle, IsSettled, MayHappen, stealer_in, concerns, steal_open, own_steal_open, asked_here, enters, locked, stolen_here, given_up, left, held, answered_so, granted_in, step, asked_again}
 use Rattle.ovs_lock_desk.proofs.Concerned.{neither}
 use Rattle.ovs_lock_desk.proofs.DeskOwed.{both}
 use Rattle.ovs_lock_desk.proofs.Named.{after_change, after_changes}
@@ -77,21 +77,21 @@ not_true true e = refl
 not_true false e = absurd cc
 
 -- a steal that isn't answered is owed nothing yet
-open_not_due : (who : ℕ) (e : LateSteal) → is_open e ≡ true → is_due_late who e ≡ false
-open_not_due who e is = rw (not_true (is_open e) is) refl
+open_not_due : (session : ℕ) (e : PendingSteal) → is_open e ≡ true → is_due_late session e ≡ false
+open_not_due session e is = rw (not_true (is_open e) is) refl
 
 -- ---- who stands in a queue
 
-abbrev waits_in : List Asker → LateSteal → Bool
-waits_in queue e = is_open e && is_in e.who queue
+abbrev waits_in : List Waiter → PendingSteal → Bool
+waits_in queue e = is_open e && is_in e.session queue
 
-open_of : (queue : List Asker) (e : LateSteal) → waits_in queue e ≡ true → is_open e ≡ true
-open_of queue e is = (both (is_open e) (is_in e.who queue) is).0
+open_of : (queue : List Waiter) (e : PendingSteal) → waits_in queue e ≡ true → is_open e ≡ true
+open_of queue e is = (both (is_open e) (is_in e.session queue) is).0
 
-more_in : (queue later : List Asker) → ((x : ℕ) → is_in x queue ≡ true → is_in x later ≡ true) → (e : LateSteal) → waits_in queue e ≡ true → waits_in later e ≡ true
-more_in queue later more e is = let b = both (is_open e) (is_in e.who queue) is in rw (b.0, more e.who b.1) refl
+more_in : (queue later : List Waiter) → ((x : ℕ) → is_in x queue ≡ true → is_in x later ≡ true) → (e : PendingSteal) → waits_in queue e ≡ true → waits_in later e ≡ true
+more_in queue later more e is = let b = both (is_open e) (is_in e.session queue) is in rw (b.0, more e.session b.1) refl
 
-nobody_in : (queue : List Asker) → is_free queue ≡ true → (late : List LateSteal) → stealer_in queue late ≡ false
+nobody_in : (queue : List Waiter) → is_free queue ≡ true → (late : List PendingSteal) → stealer_in queue late ≡ false
 nobody_in (a ∷ queue) free late = absurd cc
 nobody_in [] free [] = refl
 nobody_in [] free (e ∷ late) = rw (and_false (is_open e)) (nobody_in [] free late)
@@ -100,66 +100,66 @@ nobody_in [] free (e ∷ late) = rw (and_false (is_open e)) (nobody_in [] free l
     and_false true = refl
     and_false false = refl
 
-still_in : (who x : ℕ) → x ≢ who → (queue : List Asker) → is_in x queue ≡ true → is_in x (dropped who queue) ≡ true
-still_in who x apart [] there = absurd cc
-still_in who x apart (a ∷ queue) there = by (a.who == who) (a.who == x) refl refl there (still_in who x apart queue)
+still_in : (session x : ℕ) → x ≢ session → (queue : List Waiter) → is_in x queue ≡ true → is_in x (dropped session queue) ≡ true
+still_in session x apart [] there = absurd cc
+still_in session x apart (a ∷ queue) there = by (a.session == session) (a.session == x) refl refl there (still_in session x apart queue)
   where
-    by : (b c : Bool) → (a.who == who) ≡ b → (a.who == x) ≡ c → (c || is_in x queue) ≡ true → (is_in x queue ≡ true → is_in x (dropped who queue) ≡ true)
-        → is_in x (cond (not b) (a ∷ dropped who queue) (dropped who queue)) ≡ true
-    by true true is at some rest = absurd (apart (sym (eqb-true a.who x at) ∙ eqb-true a.who who is))
+    by : (b c : Bool) → (a.session == session) ≡ b → (a.session == x) ≡ c → (c || is_in x queue) ≡ true → (is_in x queue ≡ true → is_in x (dropped session queue) ≡ true)
+        → is_in x (cond (not b) (a ∷ dropped session queue) (dropped session queue)) ≡ true
+    by true true is at some rest = absurd (apart (sym (eqb-true a.session x at) ∙ eqb-true a.session session is))
     by true false is at some rest = rest some
     by false true is at some rest = rw at refl
     by false false is at some rest = rw at (rest some)
 
-in_granted : (x : ℕ) (now : Bool) (queue : List Asker) → is_in x (granted now queue) ≡ is_in x queue
+in_granted : (x : ℕ) (now : Bool) (queue : List Waiter) → is_in x (granted now queue) ≡ is_in x queue
 in_granted x now [] = refl
 in_granted x true (a ∷ queue) = refl
 in_granted x false (a ∷ queue) = refl
 
-free_granted : (now : Bool) (queue : List Asker) → is_free (granted now queue) ≡ is_free queue
+free_granted : (now : Bool) (queue : List Waiter) → is_free (granted now queue) ≡ is_free queue
 free_granted now [] = refl
 free_granted now (a ∷ queue) = refl
 
-in_left : (who x : ℕ) → x ≢ who → (c : Course) (lock : LockValue) → is_in x lock.queue ≡ true → is_in x (left who c lock).queue ≡ true
-in_left who x apart c lock there = by (is_held c)
+in_left : (session x : ℕ) → x ≢ session → (c : LockState) (lock : LockValue) → is_in x lock.queue ≡ true → is_in x (left session c lock).queue ≡ true
+in_left session x apart c lock there = by (is_held c)
   where
-    still : is_in x (dropped who lock.queue) ≡ true
-    still = still_in who x apart lock.queue there
+    still : is_in x (dropped session lock.queue) ≡ true
+    still = still_in session x apart lock.queue there
 
-    by : (b : Bool) → is_in x (cond b (without who lock) (forgotten who lock)).queue ≡ true
-    by true = in_granted x _ (dropped who lock.queue) ∙ still
+    by : (b : Bool) → is_in x (cond b (without session lock) (forgotten session lock)).queue ≡ true
+    by true = in_granted x _ (dropped session lock.queue) ∙ still
     by false = still
 
 -- the same sessions stand in it
-same_in : (x : ℕ) (xs ys : List Asker) → sessions ys ≡ sessions xs → is_in x ys ≡ is_in x xs
+same_in : (x : ℕ) (xs ys : List Waiter) → sessions ys ≡ sessions xs → is_in x ys ≡ is_in x xs
 same_in x xs ys same = sym (told x ys) ∙ ap (list_any (λ (y : ℕ). y == x)) same ∙ told x xs
   where
-    told : (x : ℕ) (zs : List Asker) → list_any (λ (y : ℕ). y == x) (sessions zs) ≡ is_in x zs
+    told : (x : ℕ) (zs : List Waiter) → list_any (λ (y : ℕ). y == x) (sessions zs) ≡ is_in x zs
     told x [] = refl
-    told x (a ∷ zs) = ap (λ (b : Bool). (a.who == x) || b) (told x zs)
+    told x (a ∷ zs) = ap (λ (b : Bool). (a.session == x) || b) (told x zs)
 
 abbrev is_empty : List ℕ → Bool
 is_empty [] = true
 is_empty (n ∷ ns) = false
 
-same_free : (xs ys : List Asker) → sessions ys ≡ sessions xs → is_free ys ≡ is_free xs
+same_free : (xs ys : List Waiter) → sessions ys ≡ sessions xs → is_free ys ≡ is_free xs
 same_free xs ys same = sym (told ys) ∙ ap is_empty same ∙ told xs
   where
-    told : (zs : List Asker) → is_empty (sessions zs) ≡ is_free zs
+    told : (zs : List Waiter) → is_empty (sessions zs) ≡ is_free zs
     told [] = refl
     told (a ∷ zs) = refl
 
-same_heard : (who : ℕ) (xs : List Asker) → sessions (heard who xs) ≡ sessions xs
-same_heard who [] = refl
-same_heard who (a ∷ xs) = λ i. one (a.who == who) refl i ∷ same_heard who xs i
+same_heard : (session : ℕ) (xs : List Waiter) → sessions (heard session xs) ≡ sessions xs
+same_heard session [] = refl
+same_heard session (a ∷ xs) = λ i. one (a.session == session) refl i ∷ same_heard session xs i
   where
-    one : (b : Bool) → (a.who == who) ≡ b → (told_one who a).who ≡ a.who
-    one true is = rw is (sym (eqb-true a.who who is))
+    one : (b : Bool) → (a.session == session) ≡ b → (told_one session a).session ≡ a.session
+    one true is = rw is (sym (eqb-true a.session session is))
     one false is = rw is refl
 
--- ---- courses
+-- ---- states
 
-asked_steal : (has_source : Bool) (c : Course) → is_steal_due (cond has_source (course_locked c) c) ≡ true → is_steal_due c ≡ true
+asked_steal : (has_source : Bool) (c : LockState) → is_steal_due (cond has_source (state_locked c) c) ≡ true → is_steal_due c ≡ true
 asked_steal false c is = is
 asked_steal true (Idle due.Nothing) is = is
 asked_steal true (Idle due.Lock) is = is
@@ -171,7 +171,7 @@ asked_steal true (Sent n) is = is
 asked_steal true Waiting is = is
 asked_steal true Held is = is
 
-given_up_steal : (c : Course) → is_steal_due (course_given_up c) ≡ true → is_steal_due c ≡ true
+given_up_steal : (c : LockState) → is_steal_due (state_given_up c) ≡ true → is_steal_due c ≡ true
 given_up_steal (Idle due.Nothing) is = is
 given_up_steal (Idle due.Lock) is = is
 given_up_steal (Idle due.Steal) is = refl
@@ -182,7 +182,7 @@ given_up_steal (Sent n) is = is
 given_up_steal Waiting is = is
 given_up_steal Held is = is
 
-given_up_nothing : (c : Course) → is_steal_due c ≡ false → asks_nothing (course_given_up c) ≡ true
+given_up_nothing : (c : LockState) → is_steal_due c ≡ false → asks_nothing (state_given_up c) ≡ true
 given_up_nothing (Idle due.Nothing) is = refl
 given_up_nothing (Idle due.Lock) is = refl
 given_up_nothing (Idle due.Steal) is = absurd cc
@@ -193,7 +193,7 @@ given_up_nothing (Sent n) is = refl
 given_up_nothing Waiting is = refl
 given_up_nothing Held is = refl
 
-nothing_given_up : (c : Course) → asks_nothing c ≡ true → course_given_up c ≡ c
+nothing_given_up : (c : LockState) → asks_nothing c ≡ true → state_given_up c ≡ c
 nothing_given_up (Idle due.Nothing) is = refl
 nothing_given_up (Idle due.Lock) is = absurd cc
 nothing_given_up (Idle due.Steal) is = absurd cc
@@ -204,7 +204,7 @@ nothing_given_up (Sent n) is = absurd cc
 nothing_given_up Waiting is = absurd cc
 nothing_given_up Held is = absurd cc
 
-no_steal_as_lock : (c : Course) → is_steal_due (course_as_lock c) ≡ false
+no_steal_as_lock : (c : LockState) → is_steal_due (state_as_lock c) ≡ false
 no_steal_as_lock (Idle due.Nothing) = refl
 no_steal_as_lock (Idle due.Lock) = refl
 no_steal_as_lock (Idle due.Steal) = refl
@@ -215,7 +215,7 @@ no_steal_as_lock (Sent n) = refl
 no_steal_as_lock Waiting = refl
 no_steal_as_lock Held = refl
 
-sent_nothing : (n : ℕ) (c : Course) → asks_nothing c ≡ true → asks_nothing (course_sent n c) ≡ true
+sent_nothing : (n : ℕ) (c : LockState) → asks_nothing c ≡ true → asks_nothing (state_sent n c) ≡ true
 sent_nothing n (Idle due.Nothing) is = refl
 sent_nothing n (Idle due.Lock) is = absurd cc
 sent_nothing n (Idle due.Steal) is = absurd cc
@@ -226,7 +226,7 @@ sent_nothing n (Sent m) is = absurd cc
 sent_nothing n Waiting is = absurd cc
 sent_nothing n Held is = absurd cc
 
-sent_steal : (n : ℕ) (c : Course) → is_steal_due (course_sent n c) ≡ true → is_steal_due c ≡ true
+sent_steal : (n : ℕ) (c : LockState) → is_steal_due (state_sent n c) ≡ true → is_steal_due c ≡ true
 sent_steal n (Idle due.Nothing) is = is
 sent_steal n (Idle due.Lock) is = absurd cc
 sent_steal n (Idle due.Steal) is = refl
@@ -237,7 +237,7 @@ sent_steal n (Sent m) is = is
 sent_steal n Waiting is = is
 sent_steal n Held is = is
 
-sent_asks : (n : ℕ) (c : Course) → is_sent n c ≡ true → asks_nothing c ≡ false
+sent_asks : (n : ℕ) (c : LockState) → is_sent n c ≡ true → asks_nothing c ≡ false
 sent_asks n (Idle d) is = absurd cc
 sent_asks n (Sent m) is = refl
 sent_asks n Waiting is = refl
@@ -249,148 +249,148 @@ not_both : (b : Bool) → b ≡ true → b ≡ false → ⊥
 not_both b e f = let clash = sym e ∙ f in absurd cc
 
 -- somebody asks for a lock for which something is asked
-taken : (l : DeskLockValue) → IsSettled l → asks_nothing l.course ≡ false → is_free l.lock.queue ≡ false
+taken : (l : RelayLockValue) → IsSettled l → asks_nothing l.state ≡ false → is_free l.lock.queue ≡ false
 taken l s asks = by (is_free l.lock.queue) refl
   where
     by : (b : Bool) → is_free l.lock.queue ≡ b → b ≡ false
-    by true is = absurd (not_both (asks_nothing l.course) (s.free is) asks)
+    by true is = absurd (not_both (asks_nothing l.state) (s.free is) asks)
     by false is = refl
 
-settled_taken : (l : DeskLockValue) → is_free l.lock.queue ≡ false → is_steal_due l.course ≡ false → IsSettled l
+settled_taken : (l : RelayLockValue) → is_free l.lock.queue ≡ false → is_steal_due l.state ≡ false → IsSettled l
 settled_taken l busy none = record {
   free = λ is. absurd (not_both (is_free l.lock.queue) is busy);
-  steal = λ is. absurd (not_both (is_steal_due l.course) is none);
+  steal = λ is. absurd (not_both (is_steal_due l.state) is none);
 }
 
-settled_held : (l : DeskLockValue) → is_free l.lock.queue ≡ false → IsSettled (held l)
+settled_held : (l : RelayLockValue) → is_free l.lock.queue ≡ false → IsSettled (held l)
 settled_held l busy = settled_taken (held l) (by (steal_open l)) refl
   where
     by : (b : Bool) → is_free (cond b l.lock (granted_first l.lock)).queue ≡ false
     by true = busy
     by false = free_granted true l.lock.queue ∙ busy
 
-settled_given_up : (lock : LockValue) (late : List LateSteal) (c : Course) → (is_steal_due c ≡ true → stealer_in lock.queue late ≡ true) → IsSettled (given_up lock late c)
+settled_given_up : (lock : LockValue) (late : List PendingSteal) (c : LockState) → (is_steal_due c ≡ true → stealer_in lock.queue late ≡ true) → IsSettled (given_up lock late c)
 settled_given_up lock late c steals = by (is_free lock.queue) refl
   where
     none : is_free lock.queue ≡ true → (b : Bool) → is_steal_due c ≡ b → b ≡ false
     none free true is = absurd (not_both (stealer_in lock.queue late) (steals is) (nobody_in lock.queue free late))
     none free false is = refl
 
-    by : (b : Bool) → is_free lock.queue ≡ b → IsSettled (record { lock = lock; late = late; course = cond b (course_given_up c) c })
+    by : (b : Bool) → is_free lock.queue ≡ b → IsSettled (record { lock = lock; late = late; state = cond b (state_given_up c) c })
     by true is = record { free = λ free. given_up_nothing c (none is (is_steal_due c) refl); steal = λ due. steals (given_up_steal c due) }
     by false is = record { free = λ free. absurd (not_both (is_free lock.queue) free is); steal = steals }
 
 -- the others wait still
-others_wait : (who : ℕ) (queue later : List Asker) → ((x : ℕ) → x ≢ who → is_in x queue ≡ true → is_in x later ≡ true) → (late : List LateSteal)
-    → list_any (is_own_open who) late ≡ false → stealer_in queue late ≡ true → (stealer_in later late ≡ true) × (stealer_in later (without_late who late) ≡ true)
-others_wait who queue later more [] none some = absurd cc
-others_wait who queue later more (e ∷ late) none some =
-    let n = neither (is_own_open who e) (list_any (is_own_open who) late) none in
-    by (waits_in queue e) refl some n.0 (others_wait who queue later more late n.1)
+others_wait : (session : ℕ) (queue later : List Waiter) → ((x : ℕ) → x ≢ session → is_in x queue ≡ true → is_in x later ≡ true) → (late : List PendingSteal)
+    → list_any (is_own_open session) late ≡ false → stealer_in queue late ≡ true → (stealer_in later late ≡ true) × (stealer_in later (without_late session late) ≡ true)
+others_wait session queue later more [] none some = absurd cc
+others_wait session queue later more (e ∷ late) none some =
+    let n = neither (is_own_open session e) (list_any (is_own_open session) late) none in
+    by (waits_in queue e) refl some n.0 (others_wait session queue later more late n.1)
   where
-    apart : is_own_open who e ≡ false → waits_in queue e ≡ true → (b : Bool) → (e.who == who) ≡ b → b ≡ false
-    apart own is true at = absurd (not_both (is_own_open who e) (rw (open_of queue e is, at) refl) own)
+    apart : is_own_open session e ≡ false → waits_in queue e ≡ true → (b : Bool) → (e.session == session) ≡ b → b ≡ false
+    apart own is true at = absurd (not_both (is_own_open session e) (rw (open_of queue e is, at) refl) own)
     apart own is false at = refl
 
-    rest_of : (b c : Bool) → stealer_in later late ≡ true → stealer_in later (without_late who late) ≡ true
-        → ((b || stealer_in later late) ≡ true) × (stealer_in later (cond c (e ∷ without_late who late) (without_late who late)) ≡ true)
-    rest_of b true all kept = (or_right b (stealer_in later late) all, or_right (waits_in later e) (stealer_in later (without_late who late)) kept)
+    rest_of : (b c : Bool) → stealer_in later late ≡ true → stealer_in later (without_late session late) ≡ true
+        → ((b || stealer_in later late) ≡ true) × (stealer_in later (cond c (e ∷ without_late session late) (without_late session late)) ≡ true)
+    rest_of b true all kept = (or_right b (stealer_in later late) all, or_right (waits_in later e) (stealer_in later (without_late session late)) kept)
     rest_of b false all kept = (or_right b (stealer_in later late) all, kept)
 
-    by : (b : Bool) → waits_in queue e ≡ b → (b || stealer_in queue late) ≡ true → is_own_open who e ≡ false
-        → (stealer_in queue late ≡ true → (stealer_in later late ≡ true) × (stealer_in later (without_late who late) ≡ true))
-        → (stealer_in later (e ∷ late) ≡ true) × (stealer_in later (without_late who (e ∷ late)) ≡ true)
+    by : (b : Bool) → waits_in queue e ≡ b → (b || stealer_in queue late) ≡ true → is_own_open session e ≡ false
+        → (stealer_in queue late ≡ true → (stealer_in later late ≡ true) × (stealer_in later (without_late session late) ≡ true))
+        → (stealer_in later (e ∷ late) ≡ true) × (stealer_in later (without_late session (e ∷ late)) ≡ true)
     by true is some own rest =
-        let other : (e.who == who) ≡ false = apart own is (e.who == who) refl in
-        let there : waits_in later e ≡ true = rw (open_of queue e is, more e.who (eqb-false e.who who other) (both (is_open e) (is_in e.who queue) is).1) refl in
-        (or_left (waits_in later e) (stealer_in later late) there, rw other (or_left (waits_in later e) (stealer_in later (without_late who late)) there))
-    by false is some own rest = let r = rest some in rest_of (waits_in later e) (not (is_of who e)) r.0 r.1
+        let other : (e.session == session) ≡ false = apart own is (e.session == session) refl in
+        let there : waits_in later e ≡ true = rw (open_of queue e is, more e.session (eqb-false e.session session other) (both (is_open e) (is_in e.session queue) is).1) refl in
+        (or_left (waits_in later e) (stealer_in later late) there, rw other (or_left (waits_in later e) (stealer_in later (without_late session late)) there))
+    by false is some own rest = let r = rest some in rest_of (waits_in later e) (not (is_of session e)) r.0 r.1
 
-settled_same : (l m : DeskLockValue) → m.course ≡ l.course → is_free m.lock.queue ≡ is_free l.lock.queue → (stealer_in l.lock.queue l.late ≡ true → stealer_in m.lock.queue m.late ≡ true)
+settled_same : (l m : RelayLockValue) → m.state ≡ l.state → is_free m.lock.queue ≡ is_free l.lock.queue → (stealer_in l.lock.queue l.late ≡ true → stealer_in m.lock.queue m.late ≡ true)
     → IsSettled l → IsSettled m
-settled_same l m course free steals s = record {
-  free = λ is. ap asks_nothing course ∙ s.free (sym free ∙ is);
-  steal = λ is. steals (s.steal (sym (ap is_steal_due course) ∙ is));
+settled_same l m state free steals s = record {
+  free = λ is. ap asks_nothing state ∙ s.free (sym free ∙ is);
+  steal = λ is. steals (s.steal (sym (ap is_steal_due state) ∙ is));
 }
 
-pub settled_sent : (n : ℕ) (l : DeskLockValue) → IsSettled l → IsSettled (step (events.Sent n) l)
-settled_sent n l s = record { free = λ is. sent_nothing n l.course (s.free is); steal = λ is. s.steal (sent_steal n l.course is) }
+pub settled_sent : (n : ℕ) (l : RelayLockValue) → IsSettled l → IsSettled (step (events.Sent n) l)
+settled_sent n l s = record { free = λ is. sent_nothing n l.state (s.free is); steal = λ is. s.steal (sent_steal n l.state is) }
 
-pub settled_stepped : (event : Event) (l : DeskLockValue) → MayHappen event l → IsSettled l → IsSettled (step event l)
-settled_stepped (events.Unlocked who) l own s =
-    settled_given_up (left who l.course l.lock) l.late l.course
-    (λ due. (others_wait who l.lock.queue (left who l.course l.lock).queue (λ x apart. in_left who x apart l.course l.lock) l.late own (s.steal due)).0)
+pub settled_stepped : (event : LockEvent) (l : RelayLockValue) → MayHappen event l → IsSettled l → IsSettled (step event l)
+settled_stepped (events.Unlocked session) l own s =
+    settled_given_up (left session l.state l.lock) l.late l.state
+    (λ due. (others_wait session l.lock.queue (left session l.state l.lock).queue (λ x apart. in_left session x apart l.state l.lock) l.late own (s.steal due)).0)
 settled_stepped (events.Sent n) l may s = absurd may
-settled_stepped (events.Answered n reply) l may s = by (is_sent n l.course) reply refl
+settled_stepped (events.Answered n reply) l may s = by (is_sent n l.state) reply refl
   where
-    by : (b : Bool) (reply : LockReply) → is_sent n l.course ≡ b → IsSettled (cond b (answered_so reply l) l)
-    by true replies.Given is = settled_held l (taken l s (sent_asks n l.course is))
-    by true replies.Waits is = settled_taken (record { lock = l.lock; late = l.late; course = Waiting }) (taken l s (sent_asks n l.course is)) refl
+    by : (b : Bool) (reply : LockReply) → is_sent n l.state ≡ b → IsSettled (cond b (answered_so reply l) l)
+    by true replies.Given is = settled_held l (taken l s (sent_asks n l.state is))
+    by true replies.Waits is = settled_taken (record { lock = l.lock; late = l.late; state = Waiting }) (taken l s (sent_asks n l.state is)) refl
     by true replies.Refused is = record { free = λ _. refl; steal = λ due. absurd cc }
     by false reply is = s
-settled_stepped events.Granted l may s = by l.course refl
+settled_stepped events.Granted l may s = by l.state refl
   where
-    by : (c : Course) → l.course ≡ c → IsSettled (granted_in c l)
+    by : (c : LockState) → l.state ≡ c → IsSettled (granted_in c l)
     by (Idle d) is = s
     by (Sent m) is = s
     by Waiting is = settled_held l (taken l s (ap asks_nothing is))
     by Held is = s
-settled_stepped events.Stolen l may s = by (is_held l.course)
+settled_stepped events.Stolen l may s = by (is_held l.state)
   where
-    of : (lock : LockValue) (b : Bool) → is_free lock.queue ≡ b → IsSettled (record { lock = lock; late = l.late; course = Idle (cond b due.Unlock due.UnlockLock) })
+    of : (lock : LockValue) (b : Bool) → is_free lock.queue ≡ b → IsSettled (record { lock = lock; late = l.late; state = Idle (cond b due.Unlock due.UnlockLock) })
     of lock true is = record { free = λ _. refl; steal = λ due. absurd cc }
     of lock false is = record { free = λ free. absurd (not_both (is_free lock.queue) free is); steal = λ due. absurd cc }
 
-    by : (b : Bool) → IsSettled (cond b (record { lock = robbed_first l.lock; late = l.late; course = asked_again (robbed_first l.lock) }) l)
+    by : (b : Bool) → IsSettled (cond b (record { lock = robbed_first l.lock; late = l.late; state = asked_again (robbed_first l.lock) }) l)
     by true = of (robbed_first l.lock) (is_free (robbed_first l.lock).queue) refl
     by false = s
 settled_stepped events.Lost l may s = record { free = λ _. refl; steal = λ due. absurd cc }
 settled_stepped events.Found l may s = by (is_free l.lock.queue) refl
   where
-    by : (b : Bool) → is_free l.lock.queue ≡ b → IsSettled (record { lock = l.lock; late = l.late; course = cond b l.course (Idle due.Lock) })
+    by : (b : Bool) → is_free l.lock.queue ≡ b → IsSettled (record { lock = l.lock; late = l.late; state = cond b l.state (Idle due.Lock) })
     by true is = s
     by false is = record { free = λ free. absurd (not_both (is_free l.lock.queue) free is); steal = λ due. absurd cc }
-settled_stepped (events.Ended who) l may s = by (own_steal_open who l) refl
+settled_stepped (events.Ended session) l may s = by (own_steal_open session l) refl
   where
-    by : (b : Bool) → own_steal_open who l ≡ b
-        → IsSettled (given_up (left who (cond b (course_as_lock l.course) l.course) l.lock) (without_late who l.late) (cond b (course_as_lock l.course) l.course))
+    by : (b : Bool) → own_steal_open session l ≡ b
+        → IsSettled (given_up (left session (cond b (state_as_lock l.state) l.state) l.lock) (without_late session l.late) (cond b (state_as_lock l.state) l.state))
     by true is =
-        settled_given_up (left who (course_as_lock l.course) l.lock) (without_late who l.late) (course_as_lock l.course)
-        (λ due. absurd (not_both (is_steal_due (course_as_lock l.course)) due (no_steal_as_lock l.course)))
+        settled_given_up (left session (state_as_lock l.state) l.lock) (without_late session l.late) (state_as_lock l.state)
+        (λ due. absurd (not_both (is_steal_due (state_as_lock l.state)) due (no_steal_as_lock l.state)))
     by false is =
-        settled_given_up (left who l.course l.lock) (without_late who l.late) l.course
-        (λ due. (others_wait who l.lock.queue (left who l.course l.lock).queue (λ x apart. in_left who x apart l.course l.lock) l.late is (s.steal due)).1)
-settled_stepped (events.AnswerTold who) l may s =
-    settled_same l (step (events.AnswerTold who) l) refl refl
-    (any_without (waits_in l.lock.queue) (is_due_late who) (λ e is. open_not_due who e (open_of l.lock.queue e is)) l.late) s
-settled_stepped (events.NoticeTold who) l may s =
-    let same = one_heard who l.lock in
-    settled_same l (step (events.NoticeTold who) l) refl (same_free l.lock.queue (after_one who l.lock).queue same.queue)
-    (any_more (waits_in l.lock.queue) (waits_in (after_one who l.lock).queue)
-    (more_in l.lock.queue (after_one who l.lock).queue (λ x there. same_in x l.lock.queue (after_one who l.lock).queue same.queue ∙ there)) l.late) s
-settled_stepped (events.AllTold who) l may s =
-    settled_same l (step (events.AllTold who) l) refl (same_free l.lock.queue (heard who l.lock.queue) (same_heard who l.lock.queue))
-    (λ some. any_kept (waits_in (heard who l.lock.queue)) (λ e. not (is_due_late who e)) (λ e is. rw (open_not_due who e (open_of (heard who l.lock.queue) e is)) refl) l.late
-    (any_more (waits_in l.lock.queue) (waits_in (heard who l.lock.queue))
-    (more_in l.lock.queue (heard who l.lock.queue) (λ x there. same_in x l.lock.queue (heard who l.lock.queue) (same_heard who l.lock.queue) ∙ there)) l.late some)) s
+        settled_given_up (left session l.state l.lock) (without_late session l.late) l.state
+        (λ due. (others_wait session l.lock.queue (left session l.state l.lock).queue (λ x apart. in_left session x apart l.state l.lock) l.late is (s.steal due)).1)
+settled_stepped (events.AnswerTold session) l may s =
+    settled_same l (step (events.AnswerTold session) l) refl refl
+    (any_without (waits_in l.lock.queue) (is_due_late session) (λ e is. open_not_due session e (open_of l.lock.queue e is)) l.late) s
+settled_stepped (events.NoticeTold session) l may s =
+    let same = one_heard session l.lock in
+    settled_same l (step (events.NoticeTold session) l) refl (same_free l.lock.queue (after_one session l.lock).queue same.queue)
+    (any_more (waits_in l.lock.queue) (waits_in (after_one session l.lock).queue)
+    (more_in l.lock.queue (after_one session l.lock).queue (λ x there. same_in x l.lock.queue (after_one session l.lock).queue same.queue ∙ there)) l.late) s
+settled_stepped (events.AllTold session) l may s =
+    settled_same l (step (events.AllTold session) l) refl (same_free l.lock.queue (heard session l.lock.queue) (same_heard session l.lock.queue))
+    (λ some. any_kept (waits_in (heard session l.lock.queue)) (λ e. not (is_due_late session e)) (λ e is. rw (open_not_due session e (open_of (heard session l.lock.queue) e is)) refl) l.late
+    (any_more (waits_in l.lock.queue) (waits_in (heard session l.lock.queue))
+    (more_in l.lock.queue (heard session l.lock.queue) (λ x there. same_in x l.lock.queue (heard session l.lock.queue) (same_heard session l.lock.queue) ∙ there)) l.late some)) s
 
-pub settled_asked : (has_source : Bool) (who : ℕ) (verb : LockVerb) (id : Data) (l : DeskLockValue) → enters verb ≡ true → IsSettled l → IsSettled (asked_here has_source who verb id l)
-settled_asked has_source who verbs.Lock id l own s = record {
-  free = λ free. absurd (not_both (is_free (locked has_source who l).lock.queue) free (not_free l.lock.queue (asker who)));
+pub settled_asked : (has_source : Bool) (session : ℕ) (verb : LockVerb) (id : Data) (l : RelayLockValue) → enters verb ≡ true → IsSettled l → IsSettled (asked_here has_source session verb id l)
+settled_asked has_source session verbs.Lock id l own s = record {
+  free = λ free. absurd (not_both (is_free (locked has_source session l).lock.queue) free (not_free l.lock.queue (waiter session)));
   steal = λ due.
-      any_more (waits_in l.lock.queue) (waits_in (locked has_source who l).lock.queue)
-      (more_in l.lock.queue (locked has_source who l).lock.queue (λ x there. list_any-append (is_who x) l.lock.queue (asker who ∷ []) ∙ or_left (is_in x l.lock.queue) (is_in x (asker who ∷ [])) there))
-      l.late (s.steal (asked_steal has_source l.course due));
+      any_more (waits_in l.lock.queue) (waits_in (locked has_source session l).lock.queue)
+      (more_in l.lock.queue (locked has_source session l).lock.queue (λ x there. list_any-append (is_who x) l.lock.queue (waiter session ∷ []) ∙ or_left (is_in x l.lock.queue) (is_in x (waiter session ∷ [])) there))
+      l.late (s.steal (asked_steal has_source l.state due));
 }
-settled_asked has_source who verbs.Steal id l own s = by (is_held l.course) refl
+settled_asked has_source session verbs.Steal id l own s = by (is_held l.state) refl
   where
-    here : waits_in (put_first who l.lock).queue (late_of who id) ≡ true
-    here = or_left (who == who) (is_in who l.lock.queue) (eq-eqb who who refl)
+    here : waits_in (put_first session l.lock).queue (late_of session id) ≡ true
+    here = or_left (session == session) (is_in session l.lock.queue) (eq-eqb session session refl)
 
-    by : (b : Bool) → is_held l.course ≡ b → IsSettled (stolen_here who id l)
-    by true is = rw is (settled_taken _ (not_free_stolen who l.lock.queue l.lock.stolen) (held_only l.course is))
+    by : (b : Bool) → is_held l.state ≡ b → IsSettled (stolen_here session id l)
+    by true is = rw is (settled_taken _ (not_free_stolen session l.lock.queue l.lock.stolen) (held_only l.state is))
       where
-        held_only : (c : Course) → is_held c ≡ true → is_steal_due c ≡ false
+        held_only : (c : LockState) → is_held c ≡ true → is_steal_due c ≡ false
         held_only (Idle d) e = absurd cc
         held_only (Sent n) e = absurd cc
         held_only Waiting e = absurd cc
@@ -398,89 +398,89 @@ settled_asked has_source who verbs.Steal id l own s = by (is_held l.course) refl
     by false is = rw is (record {
       free = λ free. absurd cc;
       steal = λ due.
-          list_any-append (waits_in (put_first who l.lock).queue) l.late (late_of who id ∷ [])
-          ∙ or_right (stealer_in (put_first who l.lock).queue l.late) (stealer_in (put_first who l.lock).queue (late_of who id ∷ [])) (or_left (waits_in (put_first who l.lock).queue (late_of who id)) false here);
+          list_any-append (waits_in (put_first session l.lock).queue) l.late (late_of session id ∷ [])
+          ∙ or_right (stealer_in (put_first session l.lock).queue l.late) (stealer_in (put_first session l.lock).queue (late_of session id ∷ [])) (or_left (waits_in (put_first session l.lock).queue (late_of session id)) false here);
     })
-settled_asked has_source who verbs.Unlock id l own s = absurd cc
+settled_asked has_source session verbs.Unlock id l own s = absurd cc
 
 -- ---- the locks by name
 
-none_settled : IsSettled no_desk_lock
+none_settled : IsSettled no_relay_lock
 none_settled = record { free = λ _. refl; steal = λ due. absurd cc }
 
-pub settled_at : (name : List ℕ) (f : DeskLockValue → DeskLockValue) (old new : DeskLocks) → Ascends old → AreSettled old → ChangesAt name f old new
-    → (IsSettled (desk_lock_at name old) → IsSettled (f (desk_lock_at name old))) → AreSettled new
+pub settled_at : (name : List ℕ) (f : RelayLockValue → RelayLockValue) (old new : RelayLocks) → Ascends old → AreSettled old → ChangesAt name f old new
+    → (IsSettled (relay_lock_at name old) → IsSettled (f (relay_lock_at name old))) → AreSettled new
 settled_at name f old new ascend settled change keeps q =
-    after_change is_desk_idle no_desk_lock IsSettled none_settled q name f old new change ascend (λ same. keeps (settled name)) (settled q)
+    after_change is_desk_idle no_relay_lock IsSettled none_settled q name f old new change ascend (λ same. keeps (settled name)) (settled q)
 
-pub settled_each : (event : Event) (old new : DeskLocks) → Ascends old → AreSettled old → new ≡ stepped event old → ((l : DeskLockValue) → MayHappen event l) → AreSettled new
+pub settled_each : (event : LockEvent) (old new : RelayLocks) → Ascends old → AreSettled old → new ≡ stepped event old → ((l : RelayLockValue) → MayHappen event l) → AreSettled new
 settled_each event old new ascend settled change may q =
-    subst (λ (es : DeskLocks). IsSettled (desk_lock_at q es)) (sym change)
-    (after_changes is_desk_idle no_desk_lock IsSettled none_settled q (step event) old ascend (settled_stepped event (desk_lock_at q old) (may (desk_lock_at q old)) (settled q)))
+    subst (λ (es : RelayLocks). IsSettled (relay_lock_at q es)) (sym change)
+    (after_changes is_desk_idle no_relay_lock IsSettled none_settled q (step event) old ascend (settled_stepped event (relay_lock_at q old) (may (relay_lock_at q old)) (settled q)))
 
 -- ---- a session that has nothing to do with a lock
 
-none_taken : (who : ℕ) (late : List LateSteal) → list_any (is_of who) late ≡ false → without_late who late ≡ late
-none_taken who [] none = refl
-none_taken who (e ∷ late) none =
-    let n = neither (is_of who e) (list_any (is_of who) late) none in
-    rw n.0 (ap (λ (es : List LateSteal). e ∷ es) (none_taken who late n.1))
+none_taken : (session : ℕ) (late : List PendingSteal) → list_any (is_of session) late ≡ false → without_late session late ≡ late
+none_taken session [] none = refl
+none_taken session (e ∷ late) none =
+    let n = neither (is_of session e) (list_any (is_of session) late) none in
+    rw n.0 (ap (λ (es : List PendingSteal). e ∷ es) (none_taken session late n.1))
 
-none_open : (who : ℕ) (late : List LateSteal) → list_any (is_of who) late ≡ false → list_any (is_own_open who) late ≡ false
-none_open who [] none = refl
-none_open who (e ∷ late) none =
-    let n = neither (is_of who e) (list_any (is_of who) late) none in
-    rw (and_false (is_open e) (is_of who e) n.0) (none_open who late n.1)
+none_open : (session : ℕ) (late : List PendingSteal) → list_any (is_of session) late ≡ false → list_any (is_own_open session) late ≡ false
+none_open session [] none = refl
+none_open session (e ∷ late) none =
+    let n = neither (is_of session e) (list_any (is_of session) late) none in
+    rw (and_false (is_open e) (is_of session e) n.0) (none_open session late n.1)
   where
     and_false : (a b : Bool) → b ≡ false → (a && b) ≡ false
     and_false true b e = e
     and_false false b e = refl
 
-same_list : (who : ℕ) (xs : List Asker) → is_in who xs ≡ false → dropped who xs ≡ xs
-same_list who [] none = refl
-same_list who (a ∷ xs) none =
-    let n = neither (a.who == who) (is_in who xs) none in
-    rw n.0 (ap (λ (ys : List Asker). a ∷ ys) (same_list who xs n.1))
+same_list : (session : ℕ) (xs : List Waiter) → is_in session xs ≡ false → dropped session xs ≡ xs
+same_list session [] none = refl
+same_list session (a ∷ xs) none =
+    let n = neither (a.session == session) (is_in session xs) none in
+    rw n.0 (ap (λ (ys : List Waiter). a ∷ ys) (same_list session xs n.1))
 
-not_first : (who : ℕ) (xs : List Asker) → is_in who xs ≡ false → is_first who xs ≡ false
-not_first who [] none = refl
-not_first who (a ∷ xs) none = (neither (a.who == who) (is_in who xs) none).0
+not_first : (session : ℕ) (xs : List Waiter) → is_in session xs ≡ false → is_first session xs ≡ false
+not_first session [] none = refl
+not_first session (a ∷ xs) none = (neither (a.session == session) (is_in session xs) none).0
 
-granted_none : (xs : List Asker) → granted false xs ≡ xs
+granted_none : (xs : List Waiter) → granted false xs ≡ xs
 granted_none [] = refl
 granted_none (a ∷ xs) = refl
 
-without_none : (who : ℕ) (lock : LockValue) → stands who lock ≡ false → without who lock ≡ lock
-without_none who lock none =
-    let n = neither (is_in who lock.queue) (is_in who lock.stolen) none in
-    let queue : granted (is_first who lock.queue) (dropped who lock.queue) ≡ lock.queue =
-    ap (λ (b : Bool). granted b (dropped who lock.queue)) (not_first who lock.queue n.0) ∙ ap (granted false) (same_list who lock.queue n.0) ∙ granted_none lock.queue in
-    let stolen = same_list who lock.stolen n.1 in
+without_none : (session : ℕ) (lock : LockValue) → stands session lock ≡ false → without session lock ≡ lock
+without_none session lock none =
+    let n = neither (is_in session lock.queue) (is_in session lock.stolen) none in
+    let queue : granted (is_first session lock.queue) (dropped session lock.queue) ≡ lock.queue =
+    ap (λ (b : Bool). granted b (dropped session lock.queue)) (not_first session lock.queue n.0) ∙ ap (granted false) (same_list session lock.queue n.0) ∙ granted_none lock.queue in
+    let stolen = same_list session lock.stolen n.1 in
     λ i. record { queue = queue i; stolen = stolen i }
 
-forgotten_none : (who : ℕ) (lock : LockValue) → stands who lock ≡ false → forgotten who lock ≡ lock
-forgotten_none who lock none =
-    let n = neither (is_in who lock.queue) (is_in who lock.stolen) none in
-    let queue = same_list who lock.queue n.0 in
-    let stolen = same_list who lock.stolen n.1 in
+forgotten_none : (session : ℕ) (lock : LockValue) → stands session lock ≡ false → forgotten session lock ≡ lock
+forgotten_none session lock none =
+    let n = neither (is_in session lock.queue) (is_in session lock.stolen) none in
+    let queue = same_list session lock.queue n.0 in
+    let stolen = same_list session lock.stolen n.1 in
     λ i. record { queue = queue i; stolen = stolen i }
 
-left_none : (who : ℕ) (c : Course) (lock : LockValue) → stands who lock ≡ false → left who c lock ≡ lock
-left_none who c lock none = by (is_held c)
+left_none : (session : ℕ) (c : LockState) (lock : LockValue) → stands session lock ≡ false → left session c lock ≡ lock
+left_none session c lock none = by (is_held c)
   where
-    by : (b : Bool) → cond b (without who lock) (forgotten who lock) ≡ lock
-    by true = without_none who lock none
-    by false = forgotten_none who lock none
+    by : (b : Bool) → cond b (without session lock) (forgotten session lock) ≡ lock
+    by true = without_none session lock none
+    by false = forgotten_none session lock none
 
 -- its end makes nothing of it
-pub end_of_another : (who : ℕ) (l : DeskLockValue) → IsSettled l → concerns who l ≡ false → step (events.Ended who) l ≡ l
-end_of_another who l s none =
-    let n = neither (list_any (is_of who) l.late) (stands who l.lock) none in
-    rw (none_open who l.late n.0, left_none who l.course l.lock n.1, none_taken who l.late n.0) (λ i. record { lock = l.lock; late = l.late; course = course i })
+pub end_of_another : (session : ℕ) (l : RelayLockValue) → IsSettled l → concerns session l ≡ false → step (events.Ended session) l ≡ l
+end_of_another session l s none =
+    let n = neither (list_any (is_of session) l.late) (stands session l.lock) none in
+    rw (none_open session l.late n.0, left_none session l.state l.lock n.1, none_taken session l.late n.0) (λ i. record { lock = l.lock; late = l.late; state = state i })
   where
-    course : cond (is_free l.lock.queue) (course_given_up l.course) l.course ≡ l.course
-    course = by (is_free l.lock.queue) refl
+    state : cond (is_free l.lock.queue) (state_given_up l.state) l.state ≡ l.state
+    state = by (is_free l.lock.queue) refl
       where
-        by : (b : Bool) → is_free l.lock.queue ≡ b → cond b (course_given_up l.course) l.course ≡ l.course
-        by true is = nothing_given_up l.course (s.free is)
+        by : (b : Bool) → is_free l.lock.queue ≡ b → cond b (state_given_up l.state) l.state ≡ l.state
+        by true is = nothing_given_up l.state (s.free is)
         by false is = refl

@@ -16,10 +16,10 @@ use Rattle.ovs_locks.specs.ByName.{ByName, Ascends, NoneIdle, named, kept, Chang
 use Rattle.ovs_locks.specs.BySession.{Names, mark_in}
 use Rattle.ovs_locks.proofs.ByName.{same_name, busy_kept, idle_kept, busy_there, changed_none_idle}
 use Rattle.ovs_locks.proofs.Gathering.{test, own_name, named_there}
-use Rattle.ovs_lock_desk.specs.DeskLock.{no_desk_lock, is_desk_idle, step}
-use Rattle.ovs_lock_desk.specs.LockDesk.{DeskLocks, IsDeskTable, desk_lock_at, stepped}
+use Rattle.ovs_lock_desk.specs.RelayLock.{no_relay_lock, is_desk_idle, step}
+use Rattle.ovs_lock_desk.specs.LockDesk.{RelayLocks, IsDeskTable, relay_lock_at, stepped}
 use Rattle.ovs_lock_desk.specs.LockDesk as desks
-use Rattle.ovs_lock_desk.specs.declared.course.Event.{Event}
+use Rattle.ovs_lock_desk.specs.declared.lock_state.LockEvent.{LockEvent}
 use Rattle.ovs_lock_desk.proofs.DeskOwed.{idle_is_none}
 use Rattle.ovs_lock_desk.proofs.DeskTables.{still_idle}
 use Rattle.ovs_lock_desk.proofs.Named.{past}
@@ -169,16 +169,16 @@ module _ {L : Type 0} where
         same_entries es fs s t (λ q. same_lookup q es fs e f (same q))
 
 -- what an event leaves under a name, where it comes to all locks
-pub stepped_at : (event : Event) (q : List ℕ) (es : DeskLocks) → Ascends es → desk_lock_at q (stepped event es) ≡ step event (desk_lock_at q es)
-stepped_at event q es s = changed_each is_desk_idle no_desk_lock refl idle_is_none (step event) (idle_is_none (step event no_desk_lock) (still_idle event)) q es s
+pub stepped_at : (event : LockEvent) (q : List ℕ) (es : RelayLocks) → Ascends es → relay_lock_at q (stepped event es) ≡ step event (relay_lock_at q es)
+stepped_at event q es s = changed_each is_desk_idle no_relay_lock refl idle_is_none (step event) (idle_is_none (step event no_relay_lock) (still_idle event)) q es s
 
 -- ---- one lock after another
 
-module _ (event : Event) (first : DeskLocks) where
+module _ (event : LockEvent) (first : RelayLocks) where
   -- the event came to all locks but those that are left by these names
-  pub record Stepping (names : Names) (locks : DeskLocks) : Type 0 where
-    pub passed : (name : List ℕ) → mark_in name names ≡ None → desk_lock_at name locks ≡ step event (desk_lock_at name first)
-    pub left : (name : List ℕ) → is_some (mark_in name names) ≡ true → desk_lock_at name locks ≡ desk_lock_at name first
+  pub record Stepping (names : Names) (locks : RelayLocks) : Type 0 where
+    pub passed : (name : List ℕ) → mark_in name names ≡ None → relay_lock_at name locks ≡ step event (relay_lock_at name first)
+    pub left : (name : List ℕ) → is_some (mark_in name names) ≡ true → relay_lock_at name locks ≡ relay_lock_at name first
     pub ascend : Ascends names
     pub table : IsDeskTable locks
 
@@ -186,10 +186,10 @@ module _ (event : Event) (first : DeskLocks) where
   none_or_some None n = absurd (n refl)
   none_or_some (Some b) n = refl
 
-  pub stepping_first : (names : Names) → Ascends names → IsDeskTable first → ((name : List ℕ) → mark_in name names ≡ None → step event (desk_lock_at name first) ≡ desk_lock_at name first) → Stepping names first
+  pub stepping_first : (names : Names) → Ascends names → IsDeskTable first → ((name : List ℕ) → mark_in name names ≡ None → step event (relay_lock_at name first) ≡ relay_lock_at name first) → Stepping names first
   stepping_first names ascend table others = record { passed = λ name none. sym (others name none); left = λ name some. refl; ascend = ascend; table = table }
 
-  pub stepping_next : (name : List ℕ) (b : Bool) (names later : Names) (old new : DeskLocks) → names ≡ (name, b) ∷ later → Stepping names old
+  pub stepping_next : (name : List ℕ) (b : Bool) (names later : Names) (old new : RelayLocks) → names ≡ (name, b) ∷ later → Stepping names old
       → desks.ChangesAt name (step event) old new → IsDeskTable new → Stepping later new
   stepping_next name b names later old new is s change table = record {
     passed = λ q none. after q (test q name) refl none;
@@ -201,31 +201,31 @@ module _ (event : Event) (first : DeskLocks) where
       ascends : Ascends ((name, b) ∷ later)
       ascends = subst Ascends is s.ascend
 
-      here : desk_lock_at name new ≡ step event (desk_lock_at name first)
+      here : relay_lock_at name new ≡ step event (relay_lock_at name first)
       here =
-          changed_here is_desk_idle no_desk_lock refl idle_is_none name (step event) old new change s.table.ascend table.ascend
+          changed_here is_desk_idle no_relay_lock refl idle_is_none name (step event) old new change s.table.ascend table.ascend
           ∙ ap (step event) (s.left name (subst (λ (ns : Names). is_some (mark_in name ns) ≡ true) (sym is) (rw (own_name name) refl)))
 
-      others : (q : List ℕ) → test q name ≡ false → desk_lock_at q new ≡ desk_lock_at q old
-      others q at = changed_nowhere_else is_desk_idle no_desk_lock refl idle_is_none name (step event) old new change q at
+      others : (q : List ℕ) → test q name ≡ false → relay_lock_at q new ≡ relay_lock_at q old
+      others q at = changed_nowhere_else is_desk_idle no_relay_lock refl idle_is_none name (step event) old new change q at
 
       skipped : (q : List ℕ) → test q name ≡ false → mark_in q names ≡ mark_in q later
       skipped q at = ap (mark_in q) is ∙ rw at refl
 
-      after : (q : List ℕ) (c : Bool) → test q name ≡ c → mark_in q later ≡ None → desk_lock_at q new ≡ step event (desk_lock_at q first)
-      after q true at none = subst (λ (k : List ℕ). desk_lock_at k new ≡ step event (desk_lock_at k first)) (same_name q name at) here
+      after : (q : List ℕ) (c : Bool) → test q name ≡ c → mark_in q later ≡ None → relay_lock_at q new ≡ step event (relay_lock_at q first)
+      after q true at none = subst (λ (k : List ℕ). relay_lock_at k new ≡ step event (relay_lock_at k first)) (same_name q name at) here
       after q false at none = others q at ∙ s.passed q (skipped q at ∙ none)
 
-      before : (q : List ℕ) (c : Bool) → test q name ≡ c → is_some (mark_in q later) ≡ true → desk_lock_at q new ≡ desk_lock_at q first
+      before : (q : List ℕ) (c : Bool) → test q name ≡ c → is_some (mark_in q later) ≡ true → relay_lock_at q new ≡ relay_lock_at q first
       before q true at some =
           let clash = sym some ∙ ap is_some (past q (name, b) later ascends at) in
           absurd cc
       before q false at some = others q at ∙ s.left q (ap is_some (skipped q at) ∙ some)
 
   -- it came to all of them
-  pub has_stepped : (new : DeskLocks) → IsDeskTable first → Stepping [] new → new ≡ stepped event first
+  pub has_stepped : (new : RelayLocks) → IsDeskTable first → Stepping [] new → new ≡ stepped event first
   has_stepped new table s =
-      same_locks is_desk_idle no_desk_lock refl idle_is_none new (stepped event first) s.table.ascend
-      (changed_ascend is_desk_idle no_desk_lock refl idle_is_none (step event) first table.ascend)
+      same_locks is_desk_idle no_relay_lock refl idle_is_none new (stepped event first) s.table.ascend
+      (changed_ascend is_desk_idle no_relay_lock refl idle_is_none (step event) first table.ascend)
       s.table.none_idle (changed_none_idle is_desk_idle (step event) first)
       (λ q. s.passed q refl ∙ sym (stepped_at event q first table.ascend))

@@ -1,7 +1,7 @@
-pub mod Course
-pub mod DeskLock
+pub mod LockState
+pub mod RelayLock
 pub mod DueNames
-pub mod LateSteal
+pub mod PendingSteal
 pub mod LockDesk
 pub mod OwedMarks
 pub mod UpwardTable

@@ -2,21 +2,20 @@
 //! its source for each, once for all of them.
 #![tactic(auto)]
 
-mod course;
 mod crossing;
 mod desk_laws;
-mod desk_lock;
 mod desk_notice;
 mod desk_table;
 mod due_names;
 mod error;
-mod late_steal;
 mod lock_desk;
+mod lock_state;
 mod open_requests;
 mod owed_marks;
+mod pending_steal;
+mod relay_lock;
 mod upward_table;
 
-pub use course::{Course, Due, Event, LockReply, LockVerb};
 pub use crossing::lock_desk_sends;
 pub use desk_laws::{
     a_lock_is_held_only_where_the_source_gave_it, a_refused_steal_is_answered_and_leaves,
@@ -24,5 +23,6 @@ pub use desk_laws::{
 };
 pub use desk_notice::DeskNotice;
 pub use error::DeskError;
-pub use late_steal::{LateSteal, StealOutcome};
 pub use lock_desk::LockDesk;
+pub use lock_state::{LockEvent, LockReply, LockState, LockVerb, NextAsk};
+pub use pending_steal::{PendingSteal, StealOutcome};

@@ -2,16 +2,16 @@
 
 ghost use Rattle.std.specs.Prelude.{◌≡◌, [], true, false, OnOk, OnErr, IfOk, slice_get, option_map, if◌then◌else◌};
 ghost use Rattle.ovs_locks.specs.LockTable.{is_lock};
-ghost use Rattle.ovs_lock_desk.specs.DeskLock.{step, enters, asked_here, desk_owner, AnswersBy, MayHappen};
-ghost use Rattle.ovs_lock_desk.specs.LockDesk.{IsDeskTable, IsGone, is_full, desk_lock_at, ChangesAt, SendsFirst, refusal_at, stepped, first_due_up, answers_to, notices_to, owed_to, is_sent_at, owes_at};
+ghost use Rattle.ovs_lock_desk.specs.RelayLock.{step, enters, asked_here, desk_owner, AnswersBy, MayHappen};
+ghost use Rattle.ovs_lock_desk.specs.LockDesk.{IsDeskTable, IsGone, is_full, relay_lock_at, ChangesAt, SendsFirst, refusal_at, stepped, first_due_up, answers_to, notices_to, owed_to, is_sent_at, owes_at};
 
-use crate::course::{Event, LockReply, LockVerb};
 use crate::desk_notice::DeskNotice;
 use crate::error::DeskError;
-use crate::late_steal::LateSteal;
+use crate::lock_state::{LockEvent, LockReply, LockVerb};
 use crate::owed_marks::{Near, mark_near, mark_owners, remark};
+use crate::pending_steal::PendingSteal;
 use crate::upward_table::UpwardTable;
-use ovs_json::{NoMemory, Text};
+use ovs_json::{NoMemory, SessionId, Text};
 use ovs_locks::{BySession, LockNotice, is_lock};
 use ovs_wire::Id;
 use std::alloc::Global;
@@ -34,11 +34,11 @@ impl Model for LockDesk {
     ghost use Rattle.std.specs.Prelude.{Bool, refl};
     ghost use Rattle.std.specs.Coded.{code_by, coded×, coded_bool};
     ghost use Rattle.ovs_lock_desk.specs.contracts.upward_table.UpwardTable as table_row;
-    ghost use Rattle.ovs_lock_desk.specs.LockDesk.{DeskLocks, DeskValue, IsDeskTable, AreNamed, AreMarked};
+    ghost use Rattle.ovs_lock_desk.specs.LockDesk.{RelayLocks, DeskValue, IsDeskTable, AreNamed, AreMarked};
 
     ghost Value = { DeskValue };
 
-    ghost coded = { code_by (Bool × DeskLocks) (coded× coded_bool table_row.the_row.coded)
+    ghost coded = { code_by (Bool × RelayLocks) (coded× coded_bool table_row.the_row.coded)
         (λ d. (d.has_source, d.locks)) (λ p. record { has_source = p.0; locks = p.1 }) (λ _. refl) };
 
     ghost view = { λ d. record { has_source = d.has_source; locks = d.table } };
@@ -80,23 +80,23 @@ impl LockDesk {
     pub fn ask(
         &mut self,
         alloc: Global,
-        who: u64,
+        session: SessionId,
         verb: LockVerb,
         name: &Text,
         id: &Id,
     ) -> Result<Option<bool>, DeskError>
-        ensures answer { AnswersBy (refusal_at self.old.has_source verb who name.now self.old.locks) verb (desk_lock_at name.now self.old.locks) result }
-        ensures after { OnOk result (ChangesAt name.now (asked_here self.old.has_source who verb id.now) self.old.locks self.new.locks) }
+        ensures answer { AnswersBy (refusal_at self.old.has_source verb session name.now self.old.locks) verb (relay_lock_at name.now self.old.locks) result }
+        ensures after { OnOk result (ChangesAt name.now (asked_here self.old.has_source session verb id.now) self.old.locks self.new.locks) }
         ensures source { self.new.has_source ≡ self.old.has_source }
         ensures unchanged { OnErr result (self.new ≡ self.old) }
     {
         match verb {
-            LockVerb::Unlock => self.unlock(who, name),
+            LockVerb::Unlock => self.unlock(session, name),
             LockVerb::Lock | LockVerb::Steal => {
                 if !is_lock(name.as_str()) {
                     return Err(DeskError::BadLock);
                 }
-                self.enter(alloc, who, verb, name, id)
+                self.enter(alloc, session, verb, name, id)
             }
         }
     }
@@ -105,49 +105,52 @@ impl LockDesk {
     fn enter(
         &mut self,
         alloc: Global,
-        who: u64,
+        session: SessionId,
         verb: LockVerb,
         name: &Text,
         id: &Id,
     ) -> Result<Option<bool>, DeskError>
         requires enters { enters verb ≡ true }
         requires name { is_lock name.now ≡ true }
-        ensures answer { AnswersBy (refusal_at self.old.has_source verb who name.now self.old.locks) verb (desk_lock_at name.now self.old.locks) result }
-        ensures after { OnOk result (ChangesAt name.now (asked_here self.old.has_source who verb id.now) self.old.locks self.new.locks) }
+        ensures answer { AnswersBy (refusal_at self.old.has_source verb session name.now self.old.locks) verb (relay_lock_at name.now self.old.locks) result }
+        ensures after { OnOk result (ChangesAt name.now (asked_here self.old.has_source session verb id.now) self.old.locks self.new.locks) }
         ensures source { self.new.has_source ≡ self.old.has_source }
         ensures unchanged { OnErr result (self.new ≡ self.old) }
     {
-        let refused = self.table.locks().refusal(self.has_source, verb, who, name);
+        let refused = self
+            .table
+            .locks()
+            .refusal(self.has_source, verb, session, name);
         if let Some(refused) = refused {
             return Err(refused);
         }
-        if self.is_full(who) {
+        if self.is_full(session) {
             return Err(DeskError::TooMany);
         }
         let near = Near::of(self.table.locks(), name);
-        self.sessions.enter(alloc, who, name)?;
+        self.sessions.enter(alloc, session, name)?;
         let answer = self
             .table
-            .enter(alloc, self.has_source, verb, who, name, id);
-        remark(self.table.locks(), &mut self.sessions, who, name);
+            .enter(alloc, self.has_source, verb, session, name, id);
+        remark(self.table.locks(), &mut self.sessions, session, name);
         mark_near(self.table.locks(), &mut self.sessions, near, name);
         answer
     }
 
     // Whether a session stands in the lists of as many locks as it may.
-    fn is_full(&self, who: u64) -> bool
-        ensures value { result ≡ is_full who self.now.locks }
+    fn is_full(&self, session: SessionId) -> bool
+        ensures value { result ≡ is_full session self.now.locks }
     {
         // It has the name of each lock in whose lists it stands.
-        if self.sessions.count(who) < MOST_LOCKS {
+        if self.sessions.count(session) < MOST_LOCKS {
             return false;
         }
-        let Some(names) = self.sessions.names(who) else {
+        let Some(names) = self.sessions.names(session) else {
             return false;
         };
         let mut room = MOST_LOCKS;
         for (name, _mark) in names.iter() {
-            if self.table.locks().stands(who, name) {
+            if self.table.locks().stands(session, name) {
                 room -= 1;
                 if room == 0 {
                     return true;
@@ -158,27 +161,27 @@ impl LockDesk {
     }
 
     // A session leaves the lists of a lock, with the notices that it was owed for it.
-    fn unlock(&mut self, who: u64, name: &Text) -> Result<Option<bool>, DeskError>
-        ensures answer { AnswersBy (refusal_at self.old.has_source LockVerb.Unlock who name.now self.old.locks) LockVerb.Unlock (desk_lock_at name.now self.old.locks) result }
-        ensures after { OnOk result (ChangesAt name.now (step (Event.Unlocked who)) self.old.locks self.new.locks) }
+    fn unlock(&mut self, session: SessionId, name: &Text) -> Result<Option<bool>, DeskError>
+        ensures answer { AnswersBy (refusal_at self.old.has_source LockVerb.Unlock session name.now self.old.locks) LockVerb.Unlock (relay_lock_at name.now self.old.locks) result }
+        ensures after { OnOk result (ChangesAt name.now (step (LockEvent.Unlocked session)) self.old.locks self.new.locks) }
         ensures source { self.new.has_source ≡ self.old.has_source }
         ensures unchanged { OnErr result (self.new ≡ self.old) }
     {
         let refused = self
             .table
             .locks()
-            .refusal(self.has_source, LockVerb::Unlock, who, name);
+            .refusal(self.has_source, LockVerb::Unlock, session, name);
         if let Some(refused) = refused {
             return Err(refused);
         }
-        self.at(name, Event::Unlocked(who));
-        remark(self.table.locks(), &mut self.sessions, who, name);
+        self.at(name, LockEvent::Unlocked(session));
+        remark(self.table.locks(), &mut self.sessions, session, name);
         Ok(Some(true))
     }
 
     // What an event makes of the lock of this name, and of the marks of those that may be owed something by it.
-    fn at(&mut self, name: &Text, event: Event)
-        requires may { MayHappen event (desk_lock_at name.now self.old.locks) }
+    fn at(&mut self, name: &Text, event: LockEvent)
+        requires may { MayHappen event (relay_lock_at name.now self.old.locks) }
         ensures after { ChangesAt name.now (step event) self.old.locks self.new.locks }
         ensures source { self.new.has_source ≡ self.old.has_source }
     {
@@ -188,8 +191,8 @@ impl LockDesk {
     }
 
     /// The session that owns a lock: the first of its queue, and only where the source gave the lock. No memory is taken.
-    pub fn owner(&self, name: &Text) -> Option<u64>
-        ensures value { result ≡ desk_owner (desk_lock_at name.now self.now.locks) }
+    pub fn owner(&self, name: &Text) -> Option<SessionId>
+        ensures value { result ≡ desk_owner (relay_lock_at name.now self.now.locks) }
     {
         self.table.locks().owner(name)
     }
@@ -227,7 +230,7 @@ impl LockDesk {
     /// lists; the others wait until the lock is asked for anew: once another session asks for it, or there is a source again.
     /// Nothing changes where no request has this number, or it was given up since. No memory is taken.
     pub fn answered(&mut self, number: u64, reply: LockReply)
-        ensures after { self.new ≡ record { has_source = self.old.has_source; locks = stepped (Event.Answered number reply) self.old.locks } }
+        ensures after { self.new ≡ record { has_source = self.old.has_source; locks = stepped (LockEvent.Answered number reply) self.old.locks } }
     {
         self.table.answered(number, reply, &mut self.sessions);
     }
@@ -235,25 +238,25 @@ impl LockDesk {
     /// The source tells that this lock is held (`locked`, RFC 7047 section 4.1.9). Nothing changes where the desk doesn't wait
     /// for it. No memory is needed.
     pub fn granted(&mut self, name: &Text)
-        ensures after { ChangesAt name.now (step Event.Granted) self.old.locks self.new.locks }
+        ensures after { ChangesAt name.now (step LockEvent.Granted) self.old.locks self.new.locks }
         ensures source { self.new.has_source ≡ self.old.has_source }
     {
-        self.at(name, Event::Granted);
+        self.at(name, LockEvent::Granted);
     }
 
     /// The source tells that this lock was stolen (`stolen`, RFC 7047 section 4.1.10). Nothing changes where it isn't held. No
     /// memory is needed.
     pub fn stolen(&mut self, name: &Text)
-        ensures after { ChangesAt name.now (step Event.Stolen) self.old.locks self.new.locks }
+        ensures after { ChangesAt name.now (step LockEvent.Stolen) self.old.locks self.new.locks }
         ensures source { self.new.has_source ≡ self.old.has_source }
     {
-        self.at(name, Event::Stolen);
+        self.at(name, LockEvent::Stolen);
     }
 
     /// The source is lost, and with it each lock that it gave; each steal that isn't answered is answered so. Nothing is due
     /// until there is a source again. No memory is taken.
     pub fn lost_source(&mut self)
-        ensures after { self.new ≡ record { has_source = false; locks = stepped Event.Lost self.old.locks } }
+        ensures after { self.new ≡ record { has_source = false; locks = stepped LockEvent.Lost self.old.locks } }
     {
         self.has_source = false;
         self.table.locks().mark_losers(&mut self.sessions);
@@ -263,7 +266,7 @@ impl LockDesk {
     /// There is a source again, which is to be asked for each lock that a session waits for. Nothing changes where there is
     /// one. No memory is needed.
     pub fn found_source(&mut self)
-        ensures after { self.new ≡ record { has_source = true; locks = if self.old.has_source then self.old.locks else stepped Event.Found self.old.locks } }
+        ensures after { self.new ≡ record { has_source = true; locks = if self.old.has_source then self.old.locks else stepped LockEvent.Found self.old.locks } }
     {
         if !self.has_source {
             self.has_source = true;
@@ -273,25 +276,25 @@ impl LockDesk {
 
     /// A session ends: it stands nowhere then, and is owed nothing. Locks that it owned have their next owner. No memory is
     /// needed.
-    pub fn end_session(&mut self, who: u64)
-        ensures after { self.new ≡ record { has_source = self.old.has_source; locks = stepped (Event.Ended who) self.old.locks } }
-        ensures gone { IsGone who self.new.locks }
+    pub fn end_session(&mut self, session: SessionId)
+        ensures after { self.new ≡ record { has_source = self.old.has_source; locks = stepped (LockEvent.Ended session) self.old.locks } }
+        ensures gone { IsGone session self.new.locks }
     {
-        self.table.ended(who, &self.sessions);
-        if let Some(names) = self.sessions.take(who) {
+        self.table.ended(session, &self.sessions);
+        if let Some(names) = self.sessions.take(session) {
             mark_owners(self.table.locks(), &mut self.sessions, &names);
         }
     }
 
     /// Whether a session is owed an answer or a notice. No memory is taken.
-    pub fn owes(&self, who: u64) -> bool
-        ensures value { result ≡ owes_at who self.now.locks }
+    pub fn owes(&self, session: SessionId) -> bool
+        ensures value { result ≡ owes_at session self.now.locks }
     {
-        let Some(names) = self.sessions.owed(who) else {
+        let Some(names) = self.sessions.owed(session) else {
             return false;
         };
         for (name, mark) in names.iter() {
-            if *mark && self.table.locks().owes(who, name) {
+            if *mark && self.table.locks().owes(session, name) {
                 return true;
             }
         }
@@ -303,29 +306,33 @@ impl LockDesk {
     ///
     /// # Errors
     /// `NoMemory` alone; the session is then owed what it was.
-    pub fn notices(&mut self, alloc: Global, who: u64) -> Result<Vec<DeskNotice>, NoMemory>
-        ensures told { IfOk result (λ notices. notices.items ≡ owed_to who self.old.locks) }
-        ensures after { OnOk result (self.new ≡ record { has_source = self.old.has_source; locks = stepped (Event.AllTold who) self.old.locks }) }
-        ensures nothing { OnOk result (owed_to who self.new.locks ≡ []) }
+    pub fn notices(
+        &mut self,
+        alloc: Global,
+        session: SessionId,
+    ) -> Result<Vec<DeskNotice>, NoMemory>
+        ensures told { IfOk result (λ notices. notices.items ≡ owed_to session self.old.locks) }
+        ensures after { OnOk result (self.new ≡ record { has_source = self.old.has_source; locks = stepped (LockEvent.AllTold session) self.old.locks }) }
+        ensures nothing { OnOk result (owed_to session self.new.locks ≡ []) }
         ensures unchanged { OnErr result (self.new ≡ self.old) }
     {
-        let owed = self.table.locks().owed(alloc, who)?;
-        self.table.all_told(who);
-        self.sessions.note_told(who);
+        let owed = self.table.locks().owed(alloc, session)?;
+        self.table.all_told(session);
+        self.sessions.note_told(session);
         Ok(owed)
     }
 
     /// The first answer that a session is owed, which it still is then, and the name of its lock. No memory is taken.
-    pub fn first_answer(&self, who: u64) -> Option<(&Text, &LateSteal)>
-        ensures value { option_map (λ d. (d.0.now, d.1.now)) result ≡ slice_get (answers_to who self.now.locks) 0 }
+    pub fn first_answer(&self, session: SessionId) -> Option<(&Text, &PendingSteal)>
+        ensures value { option_map (λ d. (d.0.now, d.1.now)) result ≡ slice_get (answers_to session self.now.locks) 0 }
         ensures table { IsDeskTable self.now.locks }
     {
-        let Some(names) = self.sessions.owed(who) else {
+        let Some(names) = self.sessions.owed(session) else {
             return None;
         };
         for (name, mark) in names.iter() {
             if *mark {
-                if let Some(late) = self.table.locks().first_answer(who, name) {
+                if let Some(late) = self.table.locks().first_answer(session, name) {
                     return Some((name, late));
                 }
             }
@@ -334,28 +341,28 @@ impl LockDesk {
     }
 
     /// The session was told the first answer that it is owed for this lock. No memory is needed.
-    pub fn answer_told(&mut self, who: u64, name: &Text)
-        ensures after { ChangesAt name.now (step (Event.AnswerTold who)) self.old.locks self.new.locks }
+    pub fn answer_told(&mut self, session: SessionId, name: &Text)
+        ensures after { ChangesAt name.now (step (LockEvent.AnswerTold session)) self.old.locks self.new.locks }
         ensures source { self.new.has_source ≡ self.old.has_source }
     {
-        self.table.at(name, Event::AnswerTold(who));
-        remark(self.table.locks(), &mut self.sessions, who, name);
+        self.table.at(name, LockEvent::AnswerTold(session));
+        remark(self.table.locks(), &mut self.sessions, session, name);
     }
 
     /// The first notice that a session is owed, which it still is then.
     ///
     /// # Errors
     /// `NoMemory` alone.
-    pub fn first_notice(&self, who: u64) -> Result<Option<LockNotice>, NoMemory>
-        ensures value { IfOk result (λ notice. notice ≡ slice_get (notices_to who self.now.locks) 0) }
+    pub fn first_notice(&self, session: SessionId) -> Result<Option<LockNotice>, NoMemory>
+        ensures value { IfOk result (λ notice. notice ≡ slice_get (notices_to session self.now.locks) 0) }
         ensures table { IsDeskTable self.now.locks }
     {
-        let Some(names) = self.sessions.owed(who) else {
+        let Some(names) = self.sessions.owed(session) else {
             return Ok(None);
         };
         for (name, mark) in names.iter() {
             if *mark {
-                let notice = self.table.locks().first_notice(who, name)?;
+                let notice = self.table.locks().first_notice(session, name)?;
                 if notice.is_some() {
                     return Ok(notice);
                 }
@@ -365,11 +372,11 @@ impl LockDesk {
     }
 
     /// The session was told the first notice that it is owed for this lock. No memory is needed.
-    pub fn notice_told(&mut self, who: u64, name: &Text)
-        ensures after { ChangesAt name.now (step (Event.NoticeTold who)) self.old.locks self.new.locks }
+    pub fn notice_told(&mut self, session: SessionId, name: &Text)
+        ensures after { ChangesAt name.now (step (LockEvent.NoticeTold session)) self.old.locks self.new.locks }
         ensures source { self.new.has_source ≡ self.old.has_source }
     {
-        self.table.at(name, Event::NoticeTold(who));
-        remark(self.table.locks(), &mut self.sessions, who, name);
+        self.table.at(name, LockEvent::NoticeTold(session));
+        remark(self.table.locks(), &mut self.sessions, session, name);
     }
 }

@@ -5,7 +5,7 @@ ghost use Rattle.ovs_locks.specs.ByName.{Ascends};
 ghost use Rattle.ovs_locks.specs.BySession.{Notes, Forgets, names_at, mark_at};
 ghost use Rattle.ovs_lock_desk.specs.UpwardTable.{Opens};
 
-use crate::course::LockVerb;
+use crate::lock_state::LockVerb;
 use ovs_json::{NoMemory, Text};
 use ovs_locks::BySession;
 use std::alloc::Global;

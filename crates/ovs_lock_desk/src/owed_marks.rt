@@ -2,14 +2,14 @@
 
 ghost use Rattle.std.specs.Prelude.{◌≡◌, ℕ, List, Some, None, true};
 ghost use Rattle.ovs_locks.specs.BySession.{Remarks, RemarksAny, mark_in};
-ghost use Rattle.ovs_lock_desk.specs.DeskLock.{step};
-ghost use Rattle.ovs_lock_desk.specs.LockDesk.{IsDeskTable, AreNamed, AreMarked, desk_lock_at, stepped};
+ghost use Rattle.ovs_lock_desk.specs.RelayLock.{step};
+ghost use Rattle.ovs_lock_desk.specs.LockDesk.{IsDeskTable, AreNamed, AreMarked, relay_lock_at, stepped};
 ghost use Rattle.ovs_lock_desk.specs.OwedMarks.{desk_mark, if_owed, near_of, AreOthersMarked, AreMarkedButOwners};
 ghost use Rattle.ovs_lock_desk.specs.UpwardTable.{AreStolenByOne};
 
-use crate::course::Event;
 use crate::desk_table::DeskTable;
-use ovs_json::Text;
+use crate::lock_state::LockEvent;
+use ovs_json::{SessionId, Text};
 use ovs_locks::BySession;
 use std::collections::BTreeMap;
 
@@ -17,14 +17,14 @@ use std::collections::BTreeMap;
 /// answered. Beside these only the next owner may.
 #[derive(Clone, Copy)]
 pub(crate) struct Near {
-    owner: Option<u64>,
-    stealer: Option<u64>,
+    owner: Option<SessionId>,
+    stealer: Option<SessionId>,
 }
 
 impl Near {
     /// Those of the lock of this name.
     pub(crate) fn of(table: &DeskTable, name: &Text) -> Near
-        ensures value { result ≡ near_of (desk_lock_at name.now table.now) }
+        ensures value { result ≡ near_of (relay_lock_at name.now table.now) }
     {
         Near {
             owner: table.owner(name),
@@ -34,28 +34,28 @@ impl Near {
 }
 
 /// Writes what a session is owed for this lock now, or takes the name out where it has nothing to do with the lock.
-pub(crate) fn remark(table: &DeskTable, sessions: &mut BySession, who: u64, name: &Text)
-    ensures marks { Remarks (λ x. desk_mark x (desk_lock_at name.now table.now)) who name.now sessions.old sessions.new }
+pub(crate) fn remark(table: &DeskTable, sessions: &mut BySession, session: SessionId, name: &Text)
+    ensures marks { Remarks (λ x. desk_mark x (relay_lock_at name.now table.now)) session name.now sessions.old sessions.new }
 {
-    let mark = table.mark(who, name);
-    sessions.note(who, name, mark);
+    let mark = table.mark(session, name);
+    sessions.note(session, name, mark);
 }
 
 /// Marks that a session may be owed something for the lock of this name, if it has the name.
-pub(crate) fn mark_any(sessions: &mut BySession, who: Option<u64>, name: &Text)
-    ensures marks { RemarksAny (λ x. Some true) who name.now sessions.old sessions.new }
+pub(crate) fn mark_any(sessions: &mut BySession, session: Option<SessionId>, name: &Text)
+    ensures marks { RemarksAny (λ x. Some true) session name.now sessions.old sessions.new }
 {
-    if let Some(who) = who {
-        sessions.note(who, name, Some(true));
+    if let Some(session) = session {
+        sessions.note(session, name, Some(true));
     }
 }
 
 // Marks a session that is owed something for this lock. Where it is owed nothing nothing is written, since that would go over
 // all its names.
-fn mark_owed(table: &DeskTable, sessions: &mut BySession, who: Option<u64>, name: &Text)
-    ensures marks { RemarksAny (λ x. Some true) (if_owed who (desk_lock_at name.now table.now)) name.now sessions.old sessions.new }
+fn mark_owed(table: &DeskTable, sessions: &mut BySession, session: Option<SessionId>, name: &Text)
+    ensures marks { RemarksAny (λ x. Some true) (if_owed session (relay_lock_at name.now table.now)) name.now sessions.old sessions.new }
 {
-    let owed = who.filter(|who| table.owes(*who, name));
+    let owed = session.filter(|session| table.owes(*session, name));
     mark_any(sessions, owed, name);
 }
 
@@ -90,9 +90,9 @@ pub(crate) fn at_each(
     table: &mut DeskTable,
     sessions: &mut BySession,
     names: &BTreeMap<Text, bool>,
-    event: Event,
+    event: LockEvent,
 )
-    requires others { (name : List ℕ) → mark_in name names.now.entries ≡ None → step event (desk_lock_at name table.old) ≡ desk_lock_at name table.old }
+    requires others { (name : List ℕ) → mark_in name names.now.entries ≡ None → step event (relay_lock_at name table.old) ≡ relay_lock_at name table.old }
     requires table { IsDeskTable table.old }
     requires by_one { AreStolenByOne table.old }
     requires named { AreNamed table.old sessions.old }

@@ -1,18 +1,18 @@
 //! The locks of a relay's desk, with what is due upward for them and what went up.
 
 ghost use Rattle.std.specs.Prelude.{◌≡◌, [], true, OnOk, OnErr, option_map};
-ghost use Rattle.ovs_lock_desk.specs.Course.{verb_due};
-ghost use Rattle.ovs_lock_desk.specs.DeskLock.{step, refusal, asked_here, enters, AnswersBy, MayHappen};
-ghost use Rattle.ovs_lock_desk.specs.LockDesk.{IsDeskTable, AreNamed, AreMarked, desk_lock_at, ChangesAt, stepped, SendsFirst, first_due_up, is_sent_at};
+ghost use Rattle.ovs_lock_desk.specs.LockState.{verb_due};
+ghost use Rattle.ovs_lock_desk.specs.RelayLock.{step, refusal, asked_here, enters, AnswersBy, MayHappen};
+ghost use Rattle.ovs_lock_desk.specs.LockDesk.{IsDeskTable, AreNamed, AreMarked, relay_lock_at, ChangesAt, stepped, SendsFirst, first_due_up, is_sent_at};
 ghost use Rattle.ovs_lock_desk.specs.UpwardTable.{AreRequested, AreOpen, AreStolenByOne, OthersOpen, ListsDue, ListsOtherDue};
 
-use crate::course::{Event, LockReply, LockVerb};
 use crate::desk_table::DeskTable;
 use crate::due_names::DueNames;
 use crate::error::DeskError;
+use crate::lock_state::{LockEvent, LockReply, LockVerb};
 use crate::open_requests::OpenRequests;
 use crate::owed_marks::at_each;
-use ovs_json::{NoMemory, Text};
+use ovs_json::{NoMemory, SessionId, Text};
 use ovs_locks::BySession;
 use ovs_wire::Id;
 use std::alloc::Global;
@@ -29,10 +29,10 @@ pub(crate) struct UpwardTable {
 
 impl Model for UpwardTable {
     ghost use Rattle.ovs_lock_desk.specs.contracts.desk_table.DeskTable as table_row;
-    ghost use Rattle.ovs_lock_desk.specs.LockDesk.{DeskLocks};
+    ghost use Rattle.ovs_lock_desk.specs.LockDesk.{RelayLocks};
     ghost use Rattle.ovs_lock_desk.specs.UpwardTable.{IsUpwardTable};
 
-    ghost Value = { DeskLocks };
+    ghost Value = { RelayLocks };
 
     ghost coded = { table_row.the_row.coded };
 
@@ -90,26 +90,28 @@ impl UpwardTable {
         alloc: Global,
         has_source: bool,
         verb: LockVerb,
-        who: u64,
+        session: SessionId,
         name: &Text,
         id: &Id,
     ) -> Result<Option<bool>, DeskError>
         requires enters { enters verb ≡ true }
-        ensures answer { AnswersBy (refusal has_source verb who (desk_lock_at name.now self.old)) verb (desk_lock_at name.now self.old) result }
-        ensures after { OnOk result (ChangesAt name.now (asked_here has_source who verb id.now) self.old self.new) }
+        ensures answer { AnswersBy (refusal has_source verb session (relay_lock_at name.now self.old)) verb (relay_lock_at name.now self.old) result }
+        ensures after { OnOk result (ChangesAt name.now (asked_here has_source session verb id.now) self.old self.new) }
         ensures unchanged { OnErr result (self.new ≡ self.old) }
         ensures table { OnOk result (IsDeskTable self.new) }
     {
         let number = self.table.open_number(name);
-        let answer = self.table.enter(alloc, has_source, verb, who, name, id)?;
+        let answer = self
+            .table
+            .enter(alloc, has_source, verb, session, name, id)?;
         note_open(&self.table, &mut self.requests, number, name);
         note_due(&self.table, &mut self.due, name);
         Ok(answer)
     }
 
     /// What an event makes of the lock of this name, but that something went up for it.
-    pub(crate) fn at(&mut self, name: &Text, event: Event)
-        requires may { MayHappen event (desk_lock_at name.now self.old) }
+    pub(crate) fn at(&mut self, name: &Text, event: LockEvent)
+        requires may { MayHappen event (relay_lock_at name.now self.old) }
         ensures after { ChangesAt name.now (step event) self.old self.new }
         ensures table { IsDeskTable self.new }
     {
@@ -120,45 +122,45 @@ impl UpwardTable {
     }
 
     /// A session ends. The locks with which it has to do are among those of its names.
-    pub(crate) fn ended(&mut self, who: u64, sessions: &BySession)
+    pub(crate) fn ended(&mut self, session: SessionId, sessions: &BySession)
         requires named { AreNamed self.old sessions.now }
-        ensures after { self.new ≡ stepped (Event.Ended who) self.old }
+        ensures after { self.new ≡ stepped (LockEvent.Ended session) self.old }
         ensures table { IsDeskTable self.new }
     {
         // What holds of every table holds of this one before its locks change.
         let _ = &self.table;
-        let Some(names) = sessions.names(who) else {
+        let Some(names) = sessions.names(session) else {
             return;
         };
         for (name, _mark) in names.iter() {
-            self.at(name, Event::Ended(who));
+            self.at(name, LockEvent::Ended(session));
         }
     }
 
     /// A session is told all that it is owed.
-    pub(crate) fn all_told(&mut self, who: u64)
-        ensures after { self.new ≡ stepped (Event.AllTold who) self.old }
+    pub(crate) fn all_told(&mut self, session: SessionId)
+        ensures after { self.new ≡ stepped (LockEvent.AllTold session) self.old }
         ensures table { IsDeskTable self.new }
     {
-        self.table.each(Event::AllTold(who));
+        self.table.each(LockEvent::AllTold(session));
     }
 
     /// The source is lost: nothing is due then, and no request is open.
     pub(crate) fn lost(&mut self)
-        ensures after { self.new ≡ stepped Event.Lost self.old }
+        ensures after { self.new ≡ stepped LockEvent.Lost self.old }
         ensures table { IsDeskTable self.new }
     {
-        self.table.each(Event::Lost);
+        self.table.each(LockEvent::Lost);
         self.requests.clear();
         self.due.clear();
     }
 
     /// There is a source again, of which nothing was asked yet.
     pub(crate) fn found(&mut self)
-        ensures after { self.new ≡ stepped Event.Found self.old }
+        ensures after { self.new ≡ stepped LockEvent.Found self.old }
         ensures table { IsDeskTable self.new }
     {
-        self.table.each(Event::Found);
+        self.table.each(LockEvent::Found);
         self.requests.clear();
         self.table.list_due(&mut self.due);
     }
@@ -206,13 +208,13 @@ impl UpwardTable {
         name: &Text,
         verb: LockVerb,
     ) -> Result<(), NoMemory>
-        requires due { verb_due (desk_lock_at name.now self.old).course ≡ Some verb }
-        ensures after { OnOk result (ChangesAt name.now (step (Event.Sent number)) self.old self.new) }
+        requires due { verb_due (relay_lock_at name.now self.old).state ≡ Some verb }
+        ensures after { OnOk result (ChangesAt name.now (step (LockEvent.Sent number)) self.old self.new) }
         ensures table { IsDeskTable self.new }
         ensures unchanged { OnErr result (self.new ≡ self.old) }
     {
         self.requests.note_sent(alloc, number, name, verb)?;
-        self.table.at(name, Event::Sent(number));
+        self.table.at(name, LockEvent::Sent(number));
         note_due(&self.table, &mut self.due, name);
         Ok(())
     }
@@ -236,7 +238,7 @@ impl UpwardTable {
     pub(crate) fn answered(&mut self, number: u64, reply: LockReply, sessions: &mut BySession)
         requires named { AreNamed self.old sessions.old }
         requires marked { AreMarked self.old sessions.old }
-        ensures after { self.new ≡ stepped (Event.Answered number reply) self.old }
+        ensures after { self.new ≡ stepped (LockEvent.Answered number reply) self.old }
         ensures table { IsDeskTable self.new }
         ensures named { AreNamed self.new sessions.new }
         ensures marked { AreMarked self.new sessions.new }
@@ -244,7 +246,7 @@ impl UpwardTable {
         let Some(names) = self.requests.take(number) else {
             return;
         };
-        let event = Event::Answered(number, reply);
+        let event = LockEvent::Answered(number, reply);
         at_each(&mut self.table, sessions, &names, event);
     }
 }

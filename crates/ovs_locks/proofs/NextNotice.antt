@@ -3,9 +3,9 @@ use Rattle.std.proofs.Common.{◌≡◌, ℕ, List, [], ◌∷◌, ◌++◌, Boo
 use Rattle.std.specs.Prelude.{◌==◌, ◌≢◌, ◌&&◌, ◌||◌, slice_get, is_some}
 use Rattle.std.specs.List.{list_any}
 use Rattle.std.proofs.lemmas.Bool.{eqb-true}
-use Rattle.ovs_locks.specs.declared.asker.Asker.{Asker}
-use Rattle.ovs_locks.specs.declared.asker.Owed.{Owed}
-use Rattle.ovs_locks.specs.declared.asker.Owed.TheVariants.{Nothing, Locked, Stolen, LockedAndStolen}
+use Rattle.ovs_locks.specs.declared.waiter.Waiter.{Waiter}
+use Rattle.ovs_locks.specs.declared.waiter.PendingNotice.{PendingNotice}
+use Rattle.ovs_locks.specs.declared.waiter.PendingNotice.TheVariants.{Nothing, Locked, Stolen, LockedAndStolen}
 use Rattle.ovs_locks.specs.declared.notice.LockNotice.{LockNotice}
 use Rattle.ovs_locks.specs.declared.notice.LockNotice.TheVariants as told
 use Rattle.ovs_locks.specs.Lock.{LockValue, no_lock, is_in, first_who, notices_of, owed_in, owed_for, name_told, is_idle, is_due, after_first, awaits, first_due, told_first, heard_first, after_one, sessions, SameSessions}
@@ -39,32 +39,32 @@ both false c e = absurd cc
 
 -- ---- one session of a list
 
-no_notices : (name : List ℕ) (o : Owed) → is_due o ≡ false → notices_of name o ≡ []
+no_notices : (name : List ℕ) (o : PendingNotice) → is_due o ≡ false → notices_of name o ≡ []
 no_notices name Nothing e = refl
 no_notices name Locked e = absurd cc
 no_notices name Stolen e = absurd cc
 no_notices name LockedAndStolen e = absurd cc
 
-due_first : (name : List ℕ) (o : Owed) → is_some (slice_get (notices_of name o) 0) ≡ is_due o
+due_first : (name : List ℕ) (o : PendingNotice) → is_some (slice_get (notices_of name o) 0) ≡ is_due o
 due_first name Nothing = refl
 due_first name Locked = refl
 due_first name Stolen = refl
 due_first name LockedAndStolen = refl
 
-told_rest : (name : List ℕ) (o : Owed) (later : List LockNotice) → is_due o ≡ true → notices_of name (after_first o) ++ later ≡ drop 1 (notices_of name o ++ later)
+told_rest : (name : List ℕ) (o : PendingNotice) (later : List LockNotice) → is_due o ≡ true → notices_of name (after_first o) ++ later ≡ drop 1 (notices_of name o ++ later)
 told_rest name Nothing later e = absurd cc
 told_rest name Locked later e = refl
 told_rest name Stolen later e = refl
 told_rest name LockedAndStolen later e = refl
 
-named_of : (name : List ℕ) (o : Owed) (x : LockNotice) → slice_get (notices_of name o) 0 ≡ Some x → name_told x ≡ name
+named_of : (name : List ℕ) (o : PendingNotice) (x : LockNotice) → slice_get (notices_of name o) 0 ≡ Some x → name_told x ≡ name
 named_of name Nothing x e = absurd cc
 named_of name Locked x e = let is : told.Locked name ≡ x = cc in sym (ap name_told is)
 named_of name Stolen x e = let is : told.Stolen name ≡ x = cc in sym (ap name_told is)
 named_of name LockedAndStolen x e = let is : told.Locked name ≡ x = cc in sym (ap name_told is)
 
-unawaited : (who : ℕ) (name : List ℕ) (a : Asker) → awaits who a ≡ false → cond (a.who == who) (notices_of name a.owed) [] ≡ []
-unawaited who name a e = by (a.who == who) e
+unawaited : (session : ℕ) (name : List ℕ) (a : Waiter) → awaits session a ≡ false → cond (a.session == session) (notices_of name a.owed) [] ≡ []
+unawaited session name a e = by (a.session == session) e
   where
     by : (b : Bool) → (b && is_due a.owed) ≡ false → cond b (notices_of name a.owed) [] ≡ []
     by true e = no_notices name a.owed e
@@ -72,152 +72,152 @@ unawaited who name a e = by (a.who == who) e
 
 -- ---- a list of sessions
 
-first_in : (who : ℕ) (name : List ℕ) (xs : List Asker) → slice_get (owed_in who name xs) 0 ≡ slice_get (notices_of name (first_due who xs)) 0
-first_in who name [] = refl
-first_in who name (a ∷ xs) = by (awaits who a) refl (first_in who name xs)
+first_in : (session : ℕ) (name : List ℕ) (xs : List Waiter) → slice_get (owed_in session name xs) 0 ≡ slice_get (notices_of name (first_due session xs)) 0
+first_in session name [] = refl
+first_in session name (a ∷ xs) = by (awaits session a) refl (first_in session name xs)
   where
-    by : (b : Bool) → awaits who a ≡ b → slice_get (owed_in who name xs) 0 ≡ slice_get (notices_of name (first_due who xs)) 0
-        → slice_get (cond (a.who == who) (notices_of name a.owed) [] ++ owed_in who name xs) 0 ≡ slice_get (notices_of name (cond b a.owed (first_due who xs))) 0
+    by : (b : Bool) → awaits session a ≡ b → slice_get (owed_in session name xs) 0 ≡ slice_get (notices_of name (first_due session xs)) 0
+        → slice_get (cond (a.session == session) (notices_of name a.owed) [] ++ owed_in session name xs) 0 ≡ slice_get (notices_of name (cond b a.owed (first_due session xs))) 0
     by true e rest =
-        let is = both (a.who == who) (is_due a.owed) e in
-        rw is.0 (first_front (notices_of name a.owed) (owed_in who name xs) (due_first name a.owed ∙ is.1))
-    by false e rest = ap (λ ns. slice_get (ns ++ owed_in who name xs) 0) (unawaited who name a e) ∙ rest
+        let is = both (a.session == session) (is_due a.owed) e in
+        rw is.0 (first_front (notices_of name a.owed) (owed_in session name xs) (due_first name a.owed ∙ is.1))
+    by false e rest = ap (λ ns. slice_get (ns ++ owed_in session name xs) 0) (unawaited session name a e) ∙ rest
 
-pub none_due : (who : ℕ) (name : List ℕ) (xs : List Asker) → is_due (first_due who xs) ≡ false → owed_in who name xs ≡ []
-none_due who name xs e = no_first (owed_in who name xs) (first_in who name xs ∙ ap (λ ns. slice_get ns 0) (no_notices name (first_due who xs) e))
+pub none_due : (session : ℕ) (name : List ℕ) (xs : List Waiter) → is_due (first_due session xs) ≡ false → owed_in session name xs ≡ []
+none_due session name xs e = no_first (owed_in session name xs) (first_in session name xs ∙ ap (λ ns. slice_get ns 0) (no_notices name (first_due session xs) e))
 
-pub some_due : (who : ℕ) (name : List ℕ) (xs : List Asker) → is_due (first_due who xs) ≡ true → is_some (slice_get (owed_in who name xs) 0) ≡ true
-some_due who name xs e = ap is_some (first_in who name xs) ∙ due_first name (first_due who xs) ∙ e
+pub some_due : (session : ℕ) (name : List ℕ) (xs : List Waiter) → is_due (first_due session xs) ≡ true → is_some (slice_get (owed_in session name xs) 0) ≡ true
+some_due session name xs e = ap is_some (first_in session name xs) ∙ due_first name (first_due session xs) ∙ e
 
-owed_heard : (who : ℕ) (name : List ℕ) (xs : List Asker) → owed_in who name (heard_first who xs) ≡ drop 1 (owed_in who name xs)
-owed_heard who name [] = refl
-owed_heard who name (a ∷ xs) = by (awaits who a) refl (owed_heard who name xs)
+owed_heard : (session : ℕ) (name : List ℕ) (xs : List Waiter) → owed_in session name (heard_first session xs) ≡ drop 1 (owed_in session name xs)
+owed_heard session name [] = refl
+owed_heard session name (a ∷ xs) = by (awaits session a) refl (owed_heard session name xs)
   where
-    by : (b : Bool) → awaits who a ≡ b → owed_in who name (heard_first who xs) ≡ drop 1 (owed_in who name xs)
-        → owed_in who name (cond b (told_first a ∷ xs) (a ∷ heard_first who xs)) ≡ drop 1 (cond (a.who == who) (notices_of name a.owed) [] ++ owed_in who name xs)
+    by : (b : Bool) → awaits session a ≡ b → owed_in session name (heard_first session xs) ≡ drop 1 (owed_in session name xs)
+        → owed_in session name (cond b (told_first a ∷ xs) (a ∷ heard_first session xs)) ≡ drop 1 (cond (a.session == session) (notices_of name a.owed) [] ++ owed_in session name xs)
     by true e rest =
-        let is = both (a.who == who) (is_due a.owed) e in
-        rw is.0 (told_rest name a.owed (owed_in who name xs) is.1)
+        let is = both (a.session == session) (is_due a.owed) e in
+        rw is.0 (told_rest name a.owed (owed_in session name xs) is.1)
     by false e rest =
-        ap (λ ns. ns ++ owed_in who name (heard_first who xs)) (unawaited who name a e)
+        ap (λ ns. ns ++ owed_in session name (heard_first session xs)) (unawaited session name a e)
         ∙ rest
-        ∙ sym (ap (λ ns. drop 1 (ns ++ owed_in who name xs)) (unawaited who name a e))
+        ∙ sym (ap (λ ns. drop 1 (ns ++ owed_in session name xs)) (unawaited session name a e))
 
 -- ---- one lock
 
-pub first_in_queue : (who : ℕ) (name : List ℕ) (l : LockValue) → is_due (first_due who l.queue) ≡ true
-    → slice_get (owed_for who name l) 0 ≡ slice_get (notices_of name (first_due who l.queue)) 0
-first_in_queue who name l e = first_front (owed_in who name l.queue) (owed_in who name l.stolen) (some_due who name l.queue e) ∙ first_in who name l.queue
+pub first_in_queue : (session : ℕ) (name : List ℕ) (l : LockValue) → is_due (first_due session l.queue) ≡ true
+    → slice_get (owed_for session name l) 0 ≡ slice_get (notices_of name (first_due session l.queue)) 0
+first_in_queue session name l e = first_front (owed_in session name l.queue) (owed_in session name l.stolen) (some_due session name l.queue e) ∙ first_in session name l.queue
 
-pub first_in_stolen : (who : ℕ) (name : List ℕ) (l : LockValue) → is_due (first_due who l.queue) ≡ false
-    → slice_get (owed_for who name l) 0 ≡ slice_get (notices_of name (first_due who l.stolen)) 0
-first_in_stolen who name l e = ap (λ ns. slice_get (ns ++ owed_in who name l.stolen) 0) (none_due who name l.queue e) ∙ first_in who name l.stolen
+pub first_in_stolen : (session : ℕ) (name : List ℕ) (l : LockValue) → is_due (first_due session l.queue) ≡ false
+    → slice_get (owed_for session name l) 0 ≡ slice_get (notices_of name (first_due session l.stolen)) 0
+first_in_stolen session name l e = ap (λ ns. slice_get (ns ++ owed_in session name l.stolen) 0) (none_due session name l.queue e) ∙ first_in session name l.stolen
 
 -- whether it owes the session a notice
-pub lock_owes : (who : ℕ) (name : List ℕ) (l : LockValue) → is_some (slice_get (owed_for who name l) 0) ≡ (is_due (first_due who l.queue) || is_due (first_due who l.stolen))
-lock_owes who name l = by (is_due (first_due who l.queue)) refl
+pub lock_owes : (session : ℕ) (name : List ℕ) (l : LockValue) → is_some (slice_get (owed_for session name l) 0) ≡ (is_due (first_due session l.queue) || is_due (first_due session l.stolen))
+lock_owes session name l = by (is_due (first_due session l.queue)) refl
   where
-    by : (b : Bool) → is_due (first_due who l.queue) ≡ b → is_some (slice_get (owed_for who name l) 0) ≡ (b || is_due (first_due who l.stolen))
-    by true d = ap is_some (first_in_queue who name l d) ∙ due_first name (first_due who l.queue) ∙ d
-    by false d = ap is_some (first_in_stolen who name l d) ∙ due_first name (first_due who l.stolen)
+    by : (b : Bool) → is_due (first_due session l.queue) ≡ b → is_some (slice_get (owed_for session name l) 0) ≡ (b || is_due (first_due session l.stolen))
+    by true d = ap is_some (first_in_queue session name l d) ∙ due_first name (first_due session l.queue) ∙ d
+    by false d = ap is_some (first_in_stolen session name l d) ∙ due_first name (first_due session l.stolen)
 
 -- a lock that owes the session a notice is the first to owe one
 pub first_owes : (xs ys : List LockNotice) → is_some (slice_get xs 0) ≡ true → is_some (slice_get (xs ++ ys) 0) ≡ true
 first_owes xs ys e = ap is_some (first_front xs ys e) ∙ e
 
 -- its first notice tells of it
-pub named_for : (who : ℕ) (name : List ℕ) (l : LockValue) (x : LockNotice) → slice_get (owed_for who name l) 0 ≡ Some x → name_told x ≡ name
-named_for who name l x e = by (is_due (first_due who l.queue)) refl
+pub named_for : (session : ℕ) (name : List ℕ) (l : LockValue) (x : LockNotice) → slice_get (owed_for session name l) 0 ≡ Some x → name_told x ≡ name
+named_for session name l x e = by (is_due (first_due session l.queue)) refl
   where
-    by : (b : Bool) → is_due (first_due who l.queue) ≡ b → name_told x ≡ name
-    by true d = named_of name (first_due who l.queue) x (sym (first_in_queue who name l d) ∙ e)
-    by false d = named_of name (first_due who l.stolen) x (sym (first_in_stolen who name l d) ∙ e)
+    by : (b : Bool) → is_due (first_due session l.queue) ≡ b → name_told x ≡ name
+    by true d = named_of name (first_due session l.queue) x (sym (first_in_queue session name l d) ∙ e)
+    by false d = named_of name (first_due session l.stolen) x (sym (first_in_stolen session name l d) ∙ e)
 
-pub lock_heard : (who : ℕ) (name : List ℕ) (l : LockValue) → owed_for who name (after_one who l) ≡ drop 1 (owed_for who name l)
-lock_heard who name l = by (is_due (first_due who l.queue)) refl
+pub lock_heard : (session : ℕ) (name : List ℕ) (l : LockValue) → owed_for session name (after_one session l) ≡ drop 1 (owed_for session name l)
+lock_heard session name l = by (is_due (first_due session l.queue)) refl
   where
-    by : (b : Bool) → is_due (first_due who l.queue) ≡ b
-        → owed_in who name (heard_first who l.queue) ++ owed_in who name (cond b l.stolen (heard_first who l.stolen)) ≡ drop 1 (owed_in who name l.queue ++ owed_in who name l.stolen)
+    by : (b : Bool) → is_due (first_due session l.queue) ≡ b
+        → owed_in session name (heard_first session l.queue) ++ owed_in session name (cond b l.stolen (heard_first session l.stolen)) ≡ drop 1 (owed_in session name l.queue ++ owed_in session name l.stolen)
     by true d =
-        ap (λ ns. ns ++ owed_in who name l.stolen) (owed_heard who name l.queue)
-        ∙ sym (drop_front (owed_in who name l.queue) (owed_in who name l.stolen) (some_due who name l.queue d))
+        ap (λ ns. ns ++ owed_in session name l.stolen) (owed_heard session name l.queue)
+        ∙ sym (drop_front (owed_in session name l.queue) (owed_in session name l.stolen) (some_due session name l.queue d))
     by false d =
-        ap (λ ns. ns ++ owed_in who name (heard_first who l.stolen)) (owed_heard who name l.queue ∙ ap (drop 1) (none_due who name l.queue d))
-        ∙ owed_heard who name l.stolen
-        ∙ sym (ap (λ ns. drop 1 (ns ++ owed_in who name l.stolen)) (none_due who name l.queue d))
+        ap (λ ns. ns ++ owed_in session name (heard_first session l.stolen)) (owed_heard session name l.queue ∙ ap (drop 1) (none_due session name l.queue d))
+        ∙ owed_heard session name l.stolen
+        ∙ sym (ap (λ ns. drop 1 (ns ++ owed_in session name l.stolen)) (none_due session name l.queue d))
 
 -- another session is owed what it was
-heard_apart : (who other : ℕ) (name : List ℕ) → other ≢ who → (xs : List Asker) → owed_in other name (heard_first who xs) ≡ owed_in other name xs
-heard_apart who other name ne [] = refl
-heard_apart who other name ne (a ∷ xs) = by (awaits who a) refl (heard_apart who other name ne xs)
+heard_apart : (session other : ℕ) (name : List ℕ) → other ≢ session → (xs : List Waiter) → owed_in other name (heard_first session xs) ≡ owed_in other name xs
+heard_apart session other name ne [] = refl
+heard_apart session other name ne (a ∷ xs) = by (awaits session a) refl (heard_apart session other name ne xs)
   where
-    by : (b : Bool) → awaits who a ≡ b → owed_in other name (heard_first who xs) ≡ owed_in other name xs
-        → owed_in other name (cond b (told_first a ∷ xs) (a ∷ heard_first who xs)) ≡ cond (a.who == other) (notices_of name a.owed) [] ++ owed_in other name xs
+    by : (b : Bool) → awaits session a ≡ b → owed_in other name (heard_first session xs) ≡ owed_in other name xs
+        → owed_in other name (cond b (told_first a ∷ xs) (a ∷ heard_first session xs)) ≡ cond (a.session == other) (notices_of name a.owed) [] ++ owed_in other name xs
     by true e rest =
-        let is = both (a.who == who) (is_due a.owed) e in
-        let not_other : (a.who == other) ≡ false = by_test (a.who == other) (λ t. ne (sym (eqb-true a.who other t) ∙ eqb-true a.who who is.0)) in
+        let is = both (a.session == session) (is_due a.owed) e in
+        let not_other : (a.session == other) ≡ false = by_test (a.session == other) (λ t. ne (sym (eqb-true a.session other t) ∙ eqb-true a.session session is.0)) in
         rw not_other refl
-    by false e rest = ap (λ ns. cond (a.who == other) (notices_of name a.owed) [] ++ ns) rest
+    by false e rest = ap (λ ns. cond (a.session == other) (notices_of name a.owed) [] ++ ns) rest
 
-pub lock_apart : (who other : ℕ) (name : List ℕ) → other ≢ who → (l : LockValue) → owed_for other name (after_one who l) ≡ owed_for other name l
-lock_apart who other name ne l =
-    ap (λ ns. ns ++ owed_in other name (after_one who l).stolen) (heard_apart who other name ne l.queue)
-    ∙ ap (λ ns. owed_in other name l.queue ++ ns) (by (is_due (first_due who l.queue)))
+pub lock_apart : (session other : ℕ) (name : List ℕ) → other ≢ session → (l : LockValue) → owed_for other name (after_one session l) ≡ owed_for other name l
+lock_apart session other name ne l =
+    ap (λ ns. ns ++ owed_in other name (after_one session l).stolen) (heard_apart session other name ne l.queue)
+    ∙ ap (λ ns. owed_in other name l.queue ++ ns) (by (is_due (first_due session l.queue)))
   where
-    by : (b : Bool) → owed_in other name (cond b l.stolen (heard_first who l.stolen)) ≡ owed_in other name l.stolen
+    by : (b : Bool) → owed_in other name (cond b l.stolen (heard_first session l.stolen)) ≡ owed_in other name l.stolen
     by true = refl
-    by false = heard_apart who other name ne l.stolen
+    by false = heard_apart session other name ne l.stolen
 
 -- ---- who stands in a lock
 
-sessions_heard : (who : ℕ) (xs : List Asker) → sessions (heard_first who xs) ≡ sessions xs
-sessions_heard who [] = refl
-sessions_heard who (a ∷ xs) = by (awaits who a) (sessions_heard who xs)
+sessions_heard : (session : ℕ) (xs : List Waiter) → sessions (heard_first session xs) ≡ sessions xs
+sessions_heard session [] = refl
+sessions_heard session (a ∷ xs) = by (awaits session a) (sessions_heard session xs)
   where
-    by : (b : Bool) → sessions (heard_first who xs) ≡ sessions xs → sessions (cond b (told_first a ∷ xs) (a ∷ heard_first who xs)) ≡ a.who ∷ sessions xs
+    by : (b : Bool) → sessions (heard_first session xs) ≡ sessions xs → sessions (cond b (told_first a ∷ xs) (a ∷ heard_first session xs)) ≡ a.session ∷ sessions xs
     by true rest = refl
-    by false rest = ap (λ ws. a.who ∷ ws) rest
+    by false rest = ap (λ ws. a.session ∷ ws) rest
 
-first_session : (xs : List Asker) → first_who xs ≡ slice_get (sessions xs) 0
+first_session : (xs : List Waiter) → first_who xs ≡ slice_get (sessions xs) 0
 first_session [] = refl
 first_session (a ∷ xs) = refl
 
-in_sessions : (who : ℕ) (xs : List Asker) → is_in who xs ≡ list_any (λ w. w == who) (sessions xs)
-in_sessions who [] = refl
-in_sessions who (a ∷ xs) = ap (λ b. (a.who == who) || b) (in_sessions who xs)
+in_sessions : (session : ℕ) (xs : List Waiter) → is_in session xs ≡ list_any (λ w. w == session) (sessions xs)
+in_sessions session [] = refl
+in_sessions session (a ∷ xs) = ap (λ b. (a.session == session) || b) (in_sessions session xs)
 
-same_in : (who : ℕ) (xs ys : List Asker) → sessions ys ≡ sessions xs → is_in who ys ≡ is_in who xs
-same_in who xs ys e = in_sessions who ys ∙ ap (list_any (λ w. w == who)) e ∙ sym (in_sessions who xs)
+same_in : (session : ℕ) (xs ys : List Waiter) → sessions ys ≡ sessions xs → is_in session ys ≡ is_in session xs
+same_in session xs ys e = in_sessions session ys ∙ ap (list_any (λ w. w == session)) e ∙ sym (in_sessions session xs)
 
 same_sessions : (l m : LockValue) → sessions m.queue ≡ sessions l.queue → sessions m.stolen ≡ sessions l.stolen → SameSessions l m
 same_sessions l m q s = record {
   queue = q;
   stolen = s;
   same_owner = first_session m.queue ∙ ap (λ ws. slice_get ws 0) q ∙ sym (first_session l.queue);
-  same_standing = λ who. ap (λ b. b || is_in who m.stolen) (same_in who l.queue m.queue q) ∙ ap (λ b. is_in who l.queue || b) (same_in who l.stolen m.stolen s);
+  same_standing = λ session. ap (λ b. b || is_in session m.stolen) (same_in session l.queue m.queue q) ∙ ap (λ b. is_in session l.queue || b) (same_in session l.stolen m.stolen s);
 }
 
 itself : (l : LockValue) → SameSessions l l
 itself l = same_sessions l l refl refl
 
-pub one_heard : (who : ℕ) (l : LockValue) → SameSessions l (after_one who l)
-one_heard who l = same_sessions l (after_one who l) (sessions_heard who l.queue) (by (is_due (first_due who l.queue)))
+pub one_heard : (session : ℕ) (l : LockValue) → SameSessions l (after_one session l)
+one_heard session l = same_sessions l (after_one session l) (sessions_heard session l.queue) (by (is_due (first_due session l.queue)))
   where
-    by : (b : Bool) → sessions (cond b l.stolen (heard_first who l.stolen)) ≡ sessions l.stolen
+    by : (b : Bool) → sessions (cond b l.stolen (heard_first session l.stolen)) ≡ sessions l.stolen
     by true = refl
-    by false = sessions_heard who l.stolen
+    by false = sessions_heard session l.stolen
 
 -- ---- the table
 
-module _ (who : ℕ) (old new : Locks) where
-  pub keeps_sessions : (name : List ℕ) → ChangesAt name (after_one who) old new → KeepsSessions old new
-  keeps_sessions name change other = change_relates is_idle no_lock SameSessions itself name (after_one who) (one_idle who) (one_heard who) old new change other
+module _ (session : ℕ) (old new : Locks) where
+  pub keeps_sessions : (name : List ℕ) → ChangesAt name (after_one session) old new → KeepsSessions old new
+  keeps_sessions name change other = change_relates is_idle no_lock SameSessions itself name (after_one session) (one_idle session) (one_heard session) old new change other
 
-  pub others_owed : (other : ℕ) (name : List ℕ) → other ≢ who → ChangesAt name (after_one who) old new → owed_to other new ≡ owed_to other old
-  others_owed other name ne change = gathered_same is_idle no_lock (owed_for other) (idle_owes other) name (after_one who) old new change (lock_apart who other name ne change.lock)
+  pub others_owed : (other : ℕ) (name : List ℕ) → other ≢ session → ChangesAt name (after_one session) old new → owed_to other new ≡ owed_to other old
+  others_owed other name ne change = gathered_same is_idle no_lock (owed_for other) (idle_owes other) name (after_one session) old new change (lock_apart session other name ne change.lock)
 
   -- the session is owed the rest
-  pub rest_owed : (x : LockNotice) → AscendByName old → NoneIdle old → slice_get (owed_to who old) 0 ≡ Some x → ChangesAt (name_told x) (after_one who) old new
-      → owed_to who new ≡ drop 1 (owed_to who old)
+  pub rest_owed : (x : LockNotice) → AscendByName old → NoneIdle old → slice_get (owed_to session old) 0 ≡ Some x → ChangesAt (name_told x) (after_one session) old new
+      → owed_to session new ≡ drop 1 (owed_to session old)
   rest_owed x ascend none_idle first change =
-      first_given is_idle no_lock (owed_for who) name_told (named_for who) (idle_owes who) (after_one who) old new x ascend none_idle first (λ l. lock_heard who (name_told x) l) change
+      first_given is_idle no_lock (owed_for session) name_told (named_for session) (idle_owes session) (after_one session) old new x ascend none_idle first (λ l. lock_heard session (name_told x) l) change

@@ -13,8 +13,8 @@ use Rattle.ovs_locks.specs.ByName.{Ascends}
 use Rattle.ovs_locks.specs.BySession.{Names, Sessions, NamesNote, Notes, names_at, mark_in, mark_at}
 use Rattle.ovs_locks.proofs.Tables.{tied, by_test, apart, there}
 
-pub other_session : (who other : ℕ) → other ≢ who → is_at (nat_cmp who) other ≡ false
-other_session who other n = by_test (is_eq (nat_cmp who other)) (λ e. n (sym (nat_cmp-IsAntisymmetric who other (tied (nat_cmp who other) e))))
+pub other_session : (session other : ℕ) → other ≢ session → is_at (nat_cmp session) other ≡ false
+other_session session other n = by_test (is_eq (nat_cmp session other)) (λ e. n (sym (nat_cmp-IsAntisymmetric session other (tied (nat_cmp session other) e))))
 
 -- a name was set or taken out
 pub updated : (name : List ℕ) (m n : BTreeMap (List ℕ) Bool) (mark : Option Bool) → tree.Updates (slice_cmp nat_cmp) m n name mark → NamesNote m.entries name mark n.entries
@@ -33,34 +33,34 @@ mark_absent name names new owed none same =
     subst (λ (ns : Names). NamesNote names name (option_map (λ _. owed) (mark_in name names)) ns) (sym same)
     (record { at = sym none ∙ ap (option_map (λ _. owed)) none; others = λ other ne. refl })
 
-session_updated : (who : ℕ) (name : List ℕ) (m n : BTreeMap ℕ Names) (names : Names) (mark : Option Bool) → tree.Updates nat_cmp m n who (Some names)
-    → NamesNote (names_at who m.entries) name mark names → Notes m.entries who name mark n.entries
-session_updated who name m n names mark u note =
-    let here : names_at who n.entries ≡ names = ap (λ (o : Option Names). unwrap_or o []) u.1 in
+session_updated : (session : ℕ) (name : List ℕ) (m n : BTreeMap ℕ Names) (names : Names) (mark : Option Bool) → tree.Updates nat_cmp m n session (Some names)
+    → NamesNote (names_at session m.entries) name mark names → Notes m.entries session name mark n.entries
+session_updated session name m n names mark u note =
+    let here : names_at session n.entries ≡ names = ap (λ (o : Option Names). unwrap_or o []) u.1 in
     record {
       at = ap (mark_in name) here ∙ note.at;
       others = λ other ne. ap (mark_in other) here ∙ note.others other ne;
-      sessions = λ other ne. ap (λ (o : Option Names). unwrap_or o []) (u.2 other (other_session who other ne));
+      sessions = λ other ne. ap (λ (o : Option Names). unwrap_or o []) (u.2 other (other_session session other ne));
     }
 
 -- the names of a session that is there were written
-pub session_written : (who : ℕ) (name : List ℕ) (m n : BTreeMap ℕ Names) (was names : Names) (mark : Option Bool) → Some was ≡ tree.get_by (nat_cmp who) m
-    → tree.WritesThrough nat_cmp (nat_cmp who) m names n → NamesNote was name mark names → Notes m.entries who name mark n.entries
-session_written who name m n was names mark is w note =
-    session_updated who name m n names mark (w.3 (there (tree.get_by (nat_cmp who) m) was is))
+pub session_written : (session : ℕ) (name : List ℕ) (m n : BTreeMap ℕ Names) (was names : Names) (mark : Option Bool) → Some was ≡ tree.get_by (nat_cmp session) m
+    → tree.WritesThrough nat_cmp (nat_cmp session) m names n → NamesNote was name mark names → Notes m.entries session name mark n.entries
+session_written session name m n was names mark is w note =
+    session_updated session name m n names mark (w.3 (there (tree.get_by (nat_cmp session) m) was is))
     (subst (λ (ns : Names). NamesNote ns name mark names) (ap (λ (o : Option Names). unwrap_or o []) is) note)
 
 -- a session that isn't there was put
-pub session_put : (who : ℕ) (name : List ℕ) (m n : BTreeMap ℕ Names) (names : Names) (mark : Option Bool) → None ≡ tree.get_by (nat_cmp who) m
-    → tree.Updates nat_cmp m n who (Some names) → NamesNote [] name mark names → Notes m.entries who name mark n.entries
-session_put who name m n names mark none u note =
-    session_updated who name m n names mark u (subst (λ (ns : Names). NamesNote ns name mark names) (ap (λ (o : Option Names). unwrap_or o []) none) note)
+pub session_put : (session : ℕ) (name : List ℕ) (m n : BTreeMap ℕ Names) (names : Names) (mark : Option Bool) → None ≡ tree.get_by (nat_cmp session) m
+    → tree.Updates nat_cmp m n session (Some names) → NamesNote [] name mark names → Notes m.entries session name mark n.entries
+session_put session name m n names mark none u note =
+    session_updated session name m n names mark u (subst (λ (ns : Names). NamesNote ns name mark names) (ap (λ (o : Option Names). unwrap_or o []) none) note)
 
 -- nothing changes where the session isn't there
-pub session_absent : (who : ℕ) (name : List ℕ) (old new : Sessions) (mark : Option Bool) → names_at who old ≡ [] → new ≡ old
-    → Notes old who name (option_and_then (λ _. mark) (mark_at who name old)) new
-session_absent who name old new mark none same =
-    subst (λ (s : Sessions). Notes old who name (option_and_then (λ _. mark) (mark_at who name old)) s) (sym same)
+pub session_absent : (session : ℕ) (name : List ℕ) (old new : Sessions) (mark : Option Bool) → names_at session old ≡ [] → new ≡ old
+    → Notes old session name (option_and_then (λ _. mark) (mark_at session name old)) new
+session_absent session name old new mark none same =
+    subst (λ (s : Sessions). Notes old session name (option_and_then (λ _. mark) (mark_at session name old)) s) (sym same)
     (record {
       at = ap (mark_in name) none ∙ sym (ap (λ (ns : Names). option_and_then (λ _. mark) (mark_in name ns)) none);
       others = λ other ne. refl;
@@ -68,21 +68,21 @@ session_absent who name old new mark none same =
     })
 
 -- a session that isn't there has none, in order
-pub none_ascend : (who : ℕ) (s : Sessions) → None ≡ lookup (is_at (nat_cmp who)) s → Ascends (names_at who s)
+pub none_ascend : (session : ℕ) (s : Sessions) → None ≡ lookup (is_at (nat_cmp session)) s → Ascends (names_at session s)
 unfolding IsStrictlySortedBy
-none_ascend who s none = subst Ascends (ap (λ (o : Option Names). unwrap_or o []) none) tt
+none_ascend session s none = subst Ascends (ap (λ (o : Option Names). unwrap_or o []) none) tt
 
 -- nothing changes where the names are written back as they were
-pub session_unwritten : (who : ℕ) (m n : BTreeMap ℕ Names) (was names : Names) → Some was ≡ tree.get_by (nat_cmp who) m
-    → tree.WritesThrough nat_cmp (nat_cmp who) m names n → names ≡ was → n.entries ≡ m.entries
-session_unwritten who m n was names is w same =
-    w.0 ∙ ap (set_value (is_at (nat_cmp who)) m.entries) same ∙ set_value_same (is_at (nat_cmp who)) m.entries was (sym is)
+pub session_unwritten : (session : ℕ) (m n : BTreeMap ℕ Names) (was names : Names) → Some was ≡ tree.get_by (nat_cmp session) m
+    → tree.WritesThrough nat_cmp (nat_cmp session) m names n → names ≡ was → n.entries ≡ m.entries
+session_unwritten session m n was names is w same =
+    w.0 ∙ ap (set_value (is_at (nat_cmp session)) m.entries) same ∙ set_value_same (is_at (nat_cmp session)) m.entries was (sym is)
 
 -- a session that has none was taken out
-pub emptied : (old written new : Sessions) (who : ℕ) (name : List ℕ) (mark : Option Bool) → Notes old who name mark written
-    → ((other : ℕ) → names_at other new ≡ names_at other written) → Notes old who name mark new
-emptied old written new who name mark note same = record {
-  at = ap (mark_in name) (same who) ∙ note.at;
-  others = λ other ne. ap (mark_in other) (same who) ∙ note.others other ne;
+pub emptied : (old written new : Sessions) (session : ℕ) (name : List ℕ) (mark : Option Bool) → Notes old session name mark written
+    → ((other : ℕ) → names_at other new ≡ names_at other written) → Notes old session name mark new
+emptied old written new session name mark note same = record {
+  at = ap (mark_in name) (same session) ∙ note.at;
+  others = λ other ne. ap (mark_in other) (same session) ∙ note.others other ne;
   sessions = λ other ne. same other ∙ note.sessions other ne;
 }

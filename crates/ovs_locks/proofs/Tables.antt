@@ -16,8 +16,8 @@ use Rattle.std.proofs.lemmas.Map.Keys.{sorted_tail, IsDistinct-from_sorted}
 use Rattle.std.proofs.lemmas.Map.Entries.{none_past_head}
 use Rattle.std.proofs.lemmas.Map.Made.{lookup-map_values}
 use Rattle.std.proofs.lemmas.Map.Steps.{set_value_same}
-use Rattle.ovs_locks.specs.declared.asker.Asker.{Asker}
-use Rattle.ovs_locks.specs.Lock.{LockValue, no_lock, asker, is_in, stands, is_first, dropped, granted, without, is_idle, heard, after_telling, notices_of, owed_in, owed_for}
+use Rattle.ovs_locks.specs.declared.waiter.Waiter.{Waiter}
+use Rattle.ovs_locks.specs.Lock.{LockValue, no_lock, waiter, is_in, stands, is_first, dropped, granted, without, is_idle, heard, after_telling, notices_of, owed_in, owed_for}
 use Rattle.ovs_locks.specs.ByName.{changed}
 use Rattle.ovs_locks.proofs.Gathering.{gathered_changed, gathers_nothing}
 use Rattle.ovs_locks.proofs.Idle.{idle_is_none, idle_owes}
@@ -93,25 +93,25 @@ alike : {A : Type 0} (b : Bool) (x : A) → cond b x x ≡ x
 alike true x = refl
 alike false x = refl
 
-told_nothing : (who : ℕ) (name : List ℕ) (a : Asker) (b : Bool) → (a.who == who) ≡ b
-    → cond ((cond b (asker who) a).who == who) (notices_of name (cond b (asker who) a).owed) [] ≡ []
-told_nothing who name a true e = alike (who == who) []
-told_nothing who name a false e = rw e refl
+told_nothing : (session : ℕ) (name : List ℕ) (a : Waiter) (b : Bool) → (a.session == session) ≡ b
+    → cond ((cond b (waiter session) a).session == session) (notices_of name (cond b (waiter session) a).owed) [] ≡ []
+told_nothing session name a true e = alike (session == session) []
+told_nothing session name a false e = rw e refl
 
-owed_nothing : (who : ℕ) (name : List ℕ) (xs : List Asker) → owed_in who name (heard who xs) ≡ []
-owed_nothing who name [] = refl
-owed_nothing who name (a ∷ xs) = ap (λ ns. ns ++ owed_in who name (heard who xs)) (told_nothing who name a (a.who == who) refl) ∙ owed_nothing who name xs
+owed_nothing : (session : ℕ) (name : List ℕ) (xs : List Waiter) → owed_in session name (heard session xs) ≡ []
+owed_nothing session name [] = refl
+owed_nothing session name (a ∷ xs) = ap (λ ns. ns ++ owed_in session name (heard session xs)) (told_nothing session name a (a.session == session) refl) ∙ owed_nothing session name xs
 
 -- a session that was told all is owed nothing
-pub told_all : (who : ℕ) (name : List ℕ) (l : LockValue) → owed_for who name (after_telling who l) ≡ []
-told_all who name l = rw (owed_nothing who name l.queue, owed_nothing who name l.stolen) refl
+pub told_all : (session : ℕ) (name : List ℕ) (l : LockValue) → owed_for session name (after_telling session l) ≡ []
+told_all session name l = rw (owed_nothing session name l.queue, owed_nothing session name l.stolen) refl
 
-pub all_told : (who : ℕ) (es : Locks) → owed_to who (map (λ e. (e.0, after_telling who e.1)) es) ≡ []
-all_told who [] = refl
-all_told who (e ∷ es) =
-    ap (λ ns. (ns ++ owed_in who e.0 (heard who e.1.stolen)) ++ owed_to who (map (λ e. (e.0, after_telling who e.1)) es)) (owed_nothing who e.0 e.1.queue)
-    ∙ ap (λ ns. ns ++ owed_to who (map (λ e. (e.0, after_telling who e.1)) es)) (owed_nothing who e.0 e.1.stolen)
-    ∙ all_told who es
+pub all_told : (session : ℕ) (es : Locks) → owed_to session (map (λ e. (e.0, after_telling session e.1)) es) ≡ []
+all_told session [] = refl
+all_told session (e ∷ es) =
+    ap (λ ns. (ns ++ owed_in session e.0 (heard session e.1.stolen)) ++ owed_to session (map (λ e. (e.0, after_telling session e.1)) es)) (owed_nothing session e.0 e.1.queue)
+    ∙ ap (λ ns. ns ++ owed_to session (map (λ e. (e.0, after_telling session e.1)) es)) (owed_nothing session e.0 e.1.stolen)
+    ∙ all_told session es
 
 -- ---- a lock that was lent
 
@@ -142,38 +142,38 @@ then_gone name l a b d p i q = (q.0 ∙ sym (idle_is_none l i), λ other ne. q.1
 -- ---- a session that left
 
 -- it stands in no list
-pub none_left : (who : ℕ) (xs : List Asker) → is_in who (dropped who xs) ≡ false
-none_left who [] = refl
-none_left who (a ∷ xs) = by (a.who == who) refl (none_left who xs)
+pub none_left : (session : ℕ) (xs : List Waiter) → is_in session (dropped session xs) ≡ false
+none_left session [] = refl
+none_left session (a ∷ xs) = by (a.session == session) refl (none_left session xs)
   where
-    by : (b : Bool) → (a.who == who) ≡ b → is_in who (dropped who xs) ≡ false → is_in who (cond (not b) (a ∷ dropped who xs) (dropped who xs)) ≡ false
+    by : (b : Bool) → (a.session == session) ≡ b → is_in session (dropped session xs) ≡ false → is_in session (cond (not b) (a ∷ dropped session xs) (dropped session xs)) ≡ false
     by true e rest = rest
     by false e rest = rw e rest
 
-in_granted : (who : ℕ) (now : Bool) (xs : List Asker) → is_in who (granted now xs) ≡ is_in who xs
-in_granted who now [] = refl
-in_granted who true (a ∷ xs) = refl
-in_granted who false (a ∷ xs) = refl
+in_granted : (session : ℕ) (now : Bool) (xs : List Waiter) → is_in session (granted now xs) ≡ is_in session xs
+in_granted session now [] = refl
+in_granted session true (a ∷ xs) = refl
+in_granted session false (a ∷ xs) = refl
 
-pub left : (who : ℕ) (l : LockValue) → stands who (without who l) ≡ false
-left who l =
-    ap (λ b. b || is_in who (dropped who l.stolen)) (in_granted who (is_first who l.queue) (dropped who l.queue) ∙ none_left who l.queue)
-    ∙ none_left who l.stolen
+pub left : (session : ℕ) (l : LockValue) → stands session (without session l) ≡ false
+left session l =
+    ap (λ b. b || is_in session (dropped session l.stolen)) (in_granted session (is_first session l.queue) (dropped session l.queue) ∙ none_left session l.queue)
+    ∙ none_left session l.stolen
 
 -- what stands in no list is owed nothing
-pub not_owed : (who : ℕ) (name : List ℕ) (xs : List Asker) → is_in who xs ≡ false → owed_in who name xs ≡ []
-not_owed who name [] none = refl
-not_owed who name (a ∷ xs) none = by (a.who == who) refl none (not_owed who name xs)
+pub not_owed : (session : ℕ) (name : List ℕ) (xs : List Waiter) → is_in session xs ≡ false → owed_in session name xs ≡ []
+not_owed session name [] none = refl
+not_owed session name (a ∷ xs) none = by (a.session == session) refl none (not_owed session name xs)
   where
-    by : (b : Bool) → (a.who == who) ≡ b → (b || is_in who xs) ≡ false → (is_in who xs ≡ false → owed_in who name xs ≡ []) → owed_in who name (a ∷ xs) ≡ []
+    by : (b : Bool) → (a.session == session) ≡ b → (b || is_in session xs) ≡ false → (is_in session xs ≡ false → owed_in session name xs ≡ []) → owed_in session name (a ∷ xs) ≡ []
     by true e none rest = absurd cc
     by false e none rest = rw e (rest none)
 
-pub left_owed : (who : ℕ) (name : List ℕ) (l : LockValue) → owed_for who name (without who l) ≡ []
-left_owed who name l =
-    ap (λ ns. ns ++ owed_in who name (dropped who l.stolen))
-    (not_owed who name (granted (is_first who l.queue) (dropped who l.queue)) (in_granted who (is_first who l.queue) (dropped who l.queue) ∙ none_left who l.queue))
-    ∙ not_owed who name (dropped who l.stolen) (none_left who l.stolen)
+pub left_owed : (session : ℕ) (name : List ℕ) (l : LockValue) → owed_for session name (without session l) ≡ []
+left_owed session name l =
+    ap (λ ns. ns ++ owed_in session name (dropped session l.stolen))
+    (not_owed session name (granted (is_first session l.queue) (dropped session l.queue)) (in_granted session (is_first session l.queue) (dropped session l.queue) ∙ none_left session l.queue))
+    ∙ not_owed session name (dropped session l.stolen) (none_left session l.stolen)
 
-pub none_owed : (who : ℕ) (es : Locks) → owed_to who (changed is_idle (without who) es) ≡ []
-none_owed who es = gathered_changed is_idle no_lock (owed_for who) (idle_owes who) (without who) (λ name l. []) (λ name l. left_owed who name l) es ∙ gathers_nothing es
+pub none_owed : (session : ℕ) (es : Locks) → owed_to session (changed is_idle (without session) es) ≡ []
+none_owed session es = gathered_changed is_idle no_lock (owed_for session) (idle_owes session) (without session) (λ name l. []) (λ name l. left_owed session name l) es ∙ gathers_nothing es

@@ -16,14 +16,14 @@ Sessions = List (ℕ × Names)
 
 -- the names of a session; one that isn't there has none
 abbrev pub names_at : ℕ → Sessions → Names
-names_at who sessions = unwrap_or (lookup (is_at (nat_cmp who)) sessions) []
+names_at session sessions = unwrap_or (lookup (is_at (nat_cmp session)) sessions) []
 
 abbrev pub mark_in : List ℕ → Names → Option Bool
 mark_in name names = lookup (is_at (slice_cmp nat_cmp name)) names
 
 -- whether a session may be owed something for the lock of this name; none where it has nothing to do with it
 abbrev pub mark_at : ℕ → List ℕ → Sessions → Option Bool
-mark_at who name sessions = mark_in name (names_at who sessions)
+mark_at session name sessions = mark_in name (names_at session sessions)
 
 -- whether something may be owed for one of them
 abbrev pub is_some_owed : Names → Bool
@@ -31,7 +31,7 @@ is_some_owed names = list_any (λ (e : List ℕ × Bool). e.1) names
 
 -- the names of a session, where something may be owed for one of them
 abbrev pub owed_names : ℕ → Sessions → Option Names
-owed_names who sessions = if is_some_owed (names_at who sessions) then Some (names_at who sessions) else None
+owed_names session sessions = if is_some_owed (names_at session sessions) then Some (names_at session sessions) else None
 
 -- the mark of this name becomes this, and no other changes
 pub record NamesNote (old : Names) (name : List ℕ) (mark : Option Bool) (new : Names) : Type 0 where
@@ -39,29 +39,29 @@ pub record NamesNote (old : Names) (name : List ℕ) (mark : Option Bool) (new :
   pub others : (other : List ℕ) → other ≢ name → mark_in other new ≡ mark_in other old
 
 -- the mark of this session for this name becomes this, and no other changes
-pub record Notes (old : Sessions) (who : ℕ) (name : List ℕ) (mark : Option Bool) (new : Sessions) : Type 0 where
-  pub at : mark_at who name new ≡ mark
-  pub others : (other : List ℕ) → other ≢ name → mark_at who other new ≡ mark_at who other old
-  pub sessions : (other : ℕ) → other ≢ who → names_at other new ≡ names_at other old
+pub record Notes (old : Sessions) (session : ℕ) (name : List ℕ) (mark : Option Bool) (new : Sessions) : Type 0 where
+  pub at : mark_at session name new ≡ mark
+  pub others : (other : List ℕ) → other ≢ name → mark_at session other new ≡ mark_at session other old
+  pub sessions : (other : ℕ) → other ≢ session → names_at other new ≡ names_at other old
 
 -- this session is owed nothing more
-pub record TellsAll (who : ℕ) (old new : Sessions) : Type 0 where
-  pub at : (name : List ℕ) → mark_at who name new ≡ option_map (λ _. false) (mark_at who name old)
-  pub sessions : (other : ℕ) → other ≢ who → names_at other new ≡ names_at other old
+pub record TellsAll (session : ℕ) (old new : Sessions) : Type 0 where
+  pub at : (name : List ℕ) → mark_at session name new ≡ option_map (λ _. false) (mark_at session name old)
+  pub sessions : (other : ℕ) → other ≢ session → names_at other new ≡ names_at other old
 
 -- this session has no names, and the others have theirs
-pub record Forgets (who : ℕ) (old new : Sessions) : Type 0 where
-  pub gone : names_at who new ≡ []
-  pub sessions : (other : ℕ) → other ≢ who → names_at other new ≡ names_at other old
+pub record Forgets (session : ℕ) (old new : Sessions) : Type 0 where
+  pub gone : names_at session new ≡ []
+  pub sessions : (other : ℕ) → other ≢ session → names_at other new ≡ names_at other old
 
 -- the mark of this session becomes as said, if it has the name
 abbrev pub Remarks : (ℕ → Option Bool) → ℕ → List ℕ → Sessions → Sessions → Type 0
-Remarks mark who name old new = Notes old who name (option_and_then (λ _. mark who) (mark_at who name old)) new
+Remarks mark session name old new = Notes old session name (option_and_then (λ _. mark session) (mark_at session name old)) new
 
 abbrev pub RemarksAny : (ℕ → Option Bool) → Option ℕ → List ℕ → Sessions → Sessions → Type 0
 RemarksAny mark None name old new = new ≡ old
-RemarksAny mark (Some who) name old new = Remarks mark who name old new
+RemarksAny mark (Some session) name old new = Remarks mark session name old new
 
 -- each session has the names of the locks for which it has a mark
 abbrev pub IsListed : {L : Type 0} → (ℕ → L → Option Bool) → L → ByName L → Sessions → Type 0
-IsListed mark unasked locks sessions = (who : ℕ) (name : List ℕ) → mark_at who name sessions ≡ mark who (named unasked name locks)
+IsListed mark unasked locks sessions = (session : ℕ) (name : List ℕ) → mark_at session name sessions ≡ mark session (named unasked name locks)

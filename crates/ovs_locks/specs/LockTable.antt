@@ -8,7 +8,7 @@ use Rattle.ovs_locks.specs.ByName as by_name
 use Rattle.ovs_locks.specs.BySession.{Names, Sessions, IsListed, mark_in, mark_at}
 use Rattle.ovs_locks.specs.Lock.{LockValue, no_lock, is_idle, stands, mark, without, AsksAs, owed_for, SameSessions}
 use Rattle.ovs_locks.specs.declared.notice.LockNotice.{LockNotice}
-use Rattle.ovs_locks.specs.declared.asker.Asking.{Asking}
+use Rattle.ovs_locks.specs.declared.waiter.Asking.{Asking}
 use Rattle.ovs_locks.specs.declared.error.LockError.{LockError}
 use Rattle.ovs_locks.specs.declared.error.LockError.TheVariants.{BadLock, AlreadyAsked, TooMany, NoMemory}
 
@@ -46,7 +46,7 @@ AllBecome old f new = (name : List ℕ) → lock_at name new ≡ f (lock_at name
 
 -- the locks in whose lists a session stands
 abbrev pub locks_of : ℕ → Locks → Locks
-locks_of who locks = filter (λ (e : List ℕ × LockValue). stands who e.1) locks
+locks_of session locks = filter (λ (e : List ℕ × LockValue). stands session e.1) locks
 
 -- so many a session may have asked for
 abbrev pub most_locks : ℕ
@@ -54,18 +54,18 @@ most_locks = 1024
 
 -- what asking for a lock by its name answers
 abbrev pub AnswersAs : Asking → ℕ → List ℕ → Locks → Result Bool LockError → Type 0
-AnswersAs how who name locks (Ok answer) =
-    (is_lock name ≡ true) × AsksAs how who (lock_at name locks) (Ok answer) × (length (locks_of who locks) < most_locks)
-AnswersAs how who name locks (Err BadLock) = is_lock name ≡ false
-AnswersAs how who name locks (Err AlreadyAsked) = (is_lock name ≡ true) × AsksAs how who (lock_at name locks) (Err AlreadyAsked)
-AnswersAs how who name locks (Err TooMany) =
-    (is_lock name ≡ true) × (stands who (lock_at name locks) ≡ false) × (most_locks ≤ length (locks_of who locks))
-AnswersAs how who name locks (Err NoMemory) =
-    (is_lock name ≡ true) × AsksAs how who (lock_at name locks) (Err NoMemory) × (length (locks_of who locks) < most_locks)
+AnswersAs how session name locks (Ok answer) =
+    (is_lock name ≡ true) × AsksAs how session (lock_at name locks) (Ok answer) × (length (locks_of session locks) < most_locks)
+AnswersAs how session name locks (Err BadLock) = is_lock name ≡ false
+AnswersAs how session name locks (Err AlreadyAsked) = (is_lock name ≡ true) × AsksAs how session (lock_at name locks) (Err AlreadyAsked)
+AnswersAs how session name locks (Err TooMany) =
+    (is_lock name ≡ true) × (stands session (lock_at name locks) ≡ false) × (most_locks ≤ length (locks_of session locks))
+AnswersAs how session name locks (Err NoMemory) =
+    (is_lock name ≡ true) × AsksAs how session (lock_at name locks) (Err NoMemory) × (length (locks_of session locks) < most_locks)
 
 -- what a session is owed, lock by lock
 abbrev pub owed_to : ℕ → Locks → List LockNotice
-owed_to who locks = gathered (owed_for who) locks
+owed_to session locks = gathered (owed_for session) locks
 
 -- each lock has the sessions that it had, in the same order
 abbrev pub KeepsSessions : Locks → Locks → Type 0
@@ -73,15 +73,15 @@ KeepsSessions old new = (name : List ℕ) → SameSessions (lock_at name old) (l
 
 -- whether a session stands in the lists of some lock
 abbrev pub stands_somewhere : ℕ → Locks → Bool
-stands_somewhere who locks = list_any (λ e. stands who e.1) locks
+stands_somewhere session locks = list_any (λ e. stands session e.1) locks
 
 -- all but this session are listed, and it stands at most in the lists of the locks with these names
-pub record LeavesFrom (who : ℕ) (names : Names) (locks : Locks) (sessions : Sessions) : Type 0 where
-  pub at : (name : List ℕ) → mark_in name names ≡ None → stands who (lock_at name locks) ≡ false
-  pub listed : (other : ℕ) (name : List ℕ) → other ≢ who → mark_at other name sessions ≡ mark other (lock_at name locks)
-  pub gone : (name : List ℕ) → mark_at who name sessions ≡ None
+pub record LeavesFrom (session : ℕ) (names : Names) (locks : Locks) (sessions : Sessions) : Type 0 where
+  pub at : (name : List ℕ) → mark_in name names ≡ None → stands session (lock_at name locks) ≡ false
+  pub listed : (other : ℕ) (name : List ℕ) → other ≢ session → mark_at other name sessions ≡ mark other (lock_at name locks)
+  pub gone : (name : List ℕ) → mark_at session name sessions ≡ None
 
 -- this session has left all lists, and each session is listed
-pub record Leaves (who : ℕ) (old new : Locks) (sessions : Sessions) : Type 0 where
-  pub locks : AllBecome old (without who) new
+pub record Leaves (session : ℕ) (old new : Locks) (sessions : Sessions) : Type 0 where
+  pub locks : AllBecome old (without session) new
   pub listed : IsListed mark no_lock new sessions

@@ -6,7 +6,7 @@ ghost use Rattle.std.specs.Ordering.{nat_cmp};
 ghost use Rattle.ovs_locks.specs.ByName.{Ascends};
 ghost use Rattle.ovs_locks.specs.BySession.{NamesNote, Notes, names_at, mark_in, mark_at, is_some_owed, owed_names, TellsAll, Forgets};
 
-use ovs_json::{NoMemory, Text};
+use ovs_json::{NoMemory, SessionId, Text};
 use std::alloc::Global;
 use std::collections::BTreeMap;
 use std::marker::Model;
@@ -119,7 +119,7 @@ impl Names {
 /// The names of each session. One that has none isn't there.
 #[derive(Drop)]
 pub struct BySession {
-    sessions: BTreeMap<u64, Names>,
+    sessions: BTreeMap<SessionId, Names>,
 }
 
 impl Model for BySession {
@@ -139,12 +139,12 @@ impl Model for BySession {
 }
 
 // Takes a session out that has no names.
-fn forget(sessions: &mut BTreeMap<u64, Names>, who: u64)
-    requires empty { names_at who sessions.old.entries ≡ [] }
+fn forget(sessions: &mut BTreeMap<SessionId, Names>, session: SessionId)
+    requires empty { names_at session sessions.old.entries ≡ [] }
     ensures same { (other : ℕ) → names_at other sessions.new.entries ≡ names_at other sessions.old.entries }
     ensures ordered { IsOrdered nat_cmp sessions.new }
 {
-    let _ = sessions.remove(&who);
+    let _ = sessions.remove(&session);
 }
 
 impl BySession {
@@ -161,86 +161,86 @@ impl BySession {
     ///
     /// # Errors
     /// `NoMemory` alone; nothing is changed then.
-    pub fn enter(&mut self, alloc: Global, who: u64, name: &Text) -> Result<(), NoMemory>
-        ensures note { OnOk result (Notes self.old who name.now (Some false) self.new) }
+    pub fn enter(&mut self, alloc: Global, session: SessionId, name: &Text) -> Result<(), NoMemory>
+        ensures note { OnOk result (Notes self.old session name.now (Some false) self.new) }
         ensures unchanged { OnErr result (self.new ≡ self.old) }
     {
-        if let Some(names) = self.sessions.get_mut(&who) {
+        if let Some(names) = self.sessions.get_mut(&session) {
             return names.add(name);
         }
         let mut names = Names::new(alloc);
         names.add(name)?;
-        self.sessions.insert(who, names)?;
+        self.sessions.insert(session, names)?;
         Ok(())
     }
 
     /// The mark of a name that a session has becomes this; `None` takes the name out. No memory is taken.
-    pub fn note(&mut self, who: u64, name: &Text, mark: Option<bool>)
-        ensures note { Notes self.old who name.now (option_and_then (λ _. mark) (mark_at who name.now self.old)) self.new }
+    pub fn note(&mut self, session: SessionId, name: &Text, mark: Option<bool>)
+        ensures note { Notes self.old session name.now (option_and_then (λ _. mark) (mark_at session name.now self.old)) self.new }
     {
-        if let Some(names) = self.sessions.get_mut(&who) {
+        if let Some(names) = self.sessions.get_mut(&session) {
             names.note(name, mark);
             if names.is_empty() {
-                forget(&mut self.sessions, who);
+                forget(&mut self.sessions, session);
             }
         }
     }
 
     /// Nothing is owed to a session any more. No memory is taken.
-    pub fn note_told(&mut self, who: u64)
-        ensures told { TellsAll who self.old self.new }
+    pub fn note_told(&mut self, session: SessionId)
+        ensures told { TellsAll session self.old self.new }
     {
-        if let Some(names) = self.sessions.get_mut(&who) {
+        if let Some(names) = self.sessions.get_mut(&session) {
             names.note_told();
         }
     }
 
     /// Takes out the names of a session. No memory is taken.
-    pub fn take(&mut self, who: u64) -> Option<BTreeMap<Text, bool>>
-        ensures names { unwrap_or (option_map (λ m. m.entries) result) [] ≡ names_at who self.old }
-        ensures forgets { Forgets who self.old self.new }
+    pub fn take(&mut self, session: SessionId) -> Option<BTreeMap<Text, bool>>
+        ensures names { unwrap_or (option_map (λ m. m.entries) result) [] ≡ names_at session self.old }
+        ensures forgets { Forgets session self.old self.new }
     {
-        let names = self.sessions.remove(&who)?;
+        let names = self.sessions.remove(&session)?;
         Some(names.names)
     }
 
     /// How many names a session has.
-    pub fn count(&self, who: u64) -> usize
-        ensures value { result ≡ length (names_at who self.now) }
-        ensures ascend { Ascends (names_at who self.now) }
+    pub fn count(&self, session: SessionId) -> usize
+        ensures value { result ≡ length (names_at session self.now) }
+        ensures ascend { Ascends (names_at session self.now) }
     {
-        match self.sessions.get(&who) {
+        match self.sessions.get(&session) {
             Some(names) => names.len(),
             None => 0,
         }
     }
 
     /// Whether something may be owed to a session.
-    pub fn is_owed(&self, who: u64) -> bool
-        ensures value { result ≡ is_some_owed (names_at who self.now) }
-        ensures ascend { Ascends (names_at who self.now) }
+    pub fn is_owed(&self, session: SessionId) -> bool
+        ensures value { result ≡ is_some_owed (names_at session self.now) }
+        ensures ascend { Ascends (names_at session self.now) }
     {
-        match self.sessions.get(&who) {
+        match self.sessions.get(&session) {
             Some(names) => names.is_owed,
             None => false,
         }
     }
 
     /// The names of a session.
-    pub fn names(&self, who: u64) -> Option<&BTreeMap<Text, bool>>
-        ensures value { unwrap_or (option_map (λ m. m.now.entries) result) [] ≡ names_at who self.now }
-        ensures ascend { Ascends (names_at who self.now) }
+    pub fn names(&self, session: SessionId) -> Option<&BTreeMap<Text, bool>>
+        ensures value { unwrap_or (option_map (λ m. m.now.entries) result) [] ≡ names_at session self.now }
+        ensures ascend { Ascends (names_at session self.now) }
     {
-        let names = self.sessions.get(&who)?;
+        let names = self.sessions.get(&session)?;
         Some(&names.names)
     }
 
     /// The names of a session, where something may be owed to it.
-    pub fn owed(&self, who: u64) -> Option<&BTreeMap<Text, bool>>
-        ensures value { option_map (λ m. m.now.entries) result ≡ owed_names who self.now }
-        ensures ascend { Ascends (names_at who self.now) }
+    pub fn owed(&self, session: SessionId) -> Option<&BTreeMap<Text, bool>>
+        ensures value { option_map (λ m. m.now.entries) result ≡ owed_names session self.now }
+        ensures ascend { Ascends (names_at session self.now) }
     {
-        let names = self.sessions.get(&who)?;
+        let names = self.sessions.get(&session)?;
         if names.is_owed {
             Some(&names.names)
         } else {

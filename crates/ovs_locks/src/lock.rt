@@ -3,10 +3,10 @@
 ghost use Rattle.std.specs.Prelude.{◌≡◌, ◌≤◌, false, ◌++◌, OnOk, OnErr, IfOk, slice_get, vec_len, vec_capacity};
 ghost use Rattle.ovs_locks.specs.Lock.{no_lock, is_in, stands, owner, is_first, is_free, appended, stolen_by, put_first, asked, AsksAs, without, forgotten, granted_first, robbed_first, after_telling, owed_for, owed_in, is_owed, heard, dropped, granted, notices_of, is_idle, is_due, first_due, heard_first, after_one};
 
-use crate::asker::{Asker, Asking, Owed};
 use crate::error::LockError;
 use crate::notice::LockNotice;
-use ovs_json::{NoMemory, Text};
+use crate::waiter::{Asking, PendingNotice, Waiter};
+use ovs_json::{NoMemory, SessionId, Text};
 use std::alloc::Global;
 use std::marker::Model;
 
@@ -15,20 +15,20 @@ use std::marker::Model;
 /// a session into the queue makes room for it in both lists, so that no other takes memory.
 #[derive(Drop)]
 pub struct Lock {
-    queue: Vec<Asker>,
-    stolen: Vec<Asker>,
+    queue: Vec<Waiter>,
+    stolen: Vec<Waiter>,
 }
 
 impl Model for Lock {
     ghost use Rattle.std.specs.Prelude.{List, ◌≤◌, ◌+◌, vec_len, vec_capacity, refl};
     ghost use Rattle.std.specs.Coded.{code_by, coded×, coded_list};
-    ghost use Rattle.ovs_locks.specs.contracts.asker.Asker as asker_row;
-    ghost use Rattle.ovs_locks.specs.declared.asker.Asker.{Asker};
+    ghost use Rattle.ovs_locks.specs.contracts.waiter.Waiter as asker_row;
+    ghost use Rattle.ovs_locks.specs.declared.waiter.Waiter.{Waiter};
     ghost use Rattle.ovs_locks.specs.Lock.{LockValue};
 
     ghost Value = { LockValue };
 
-    ghost coded = { code_by (List Asker × List Asker)
+    ghost coded = { code_by (List Waiter × List Waiter)
         (coded× (coded_list asker_row.the_row.coded) (coded_list asker_row.the_row.coded))
         (λ l. (l.queue, l.stolen)) (λ p. record { queue = p.0; stolen = p.1 }) (λ _. refl) };
 
@@ -38,38 +38,38 @@ impl Model for Lock {
     ghost invariant = { λ l. vec_len l.queue + vec_len l.stolen ≤ vec_capacity l.stolen };
 }
 
-fn is_in(askers: &[Asker], who: u64) -> bool
-    ensures value { result ≡ is_in who askers.now }
+fn is_in(waiters: &[Waiter], session: SessionId) -> bool
+    ensures value { result ≡ is_in session waiters.now }
 {
-    askers.iter().any(|asker| asker.who == who)
+    waiters.iter().any(|waiter| waiter.session == session)
 }
 
-fn is_first(askers: &[Asker], who: u64) -> bool
-    ensures value { result ≡ is_first who askers.now }
+fn is_first(waiters: &[Waiter], session: SessionId) -> bool
+    ensures value { result ≡ is_first session waiters.now }
 {
-    match askers {
-        [first, ..] => first.who == who,
+    match waiters {
+        [first, ..] => first.session == session,
         [] => false,
     }
 }
 
 // Takes a session out of a list.
-fn drop_session(askers: &mut Vec<Asker>, who: u64)
-    ensures value { askers.new.items ≡ dropped who askers.old.items }
-    ensures bound { vec_len askers.new ≤ vec_len askers.old }
-    ensures capacity { vec_capacity askers.new ≡ vec_capacity askers.old }
+fn drop_session(waiters: &mut Vec<Waiter>, session: SessionId)
+    ensures value { waiters.new.items ≡ dropped session waiters.old.items }
+    ensures bound { vec_len waiters.new ≤ vec_len waiters.old }
+    ensures capacity { vec_capacity waiters.new ≡ vec_capacity waiters.old }
 {
-    askers.retain(|asker| asker.who != who);
+    waiters.retain(|waiter| waiter.session != session);
 }
 
 // The first of the queue is owed that it owns the lock, if it does only now.
-fn grant(queue: &mut [Asker], now: bool)
+fn grant(queue: &mut [Waiter], now: bool)
     ensures value { queue.new ≡ granted now queue.old }
 {
     match queue {
         [first, ..] => {
             if now {
-                first.owed = Owed::Locked;
+                first.owed = PendingNotice::Locked;
             }
         }
         [] => {}
@@ -77,23 +77,23 @@ fn grant(queue: &mut [Asker], now: bool)
 }
 
 // The session is owed nothing more.
-fn hear(askers: &mut [Asker], who: u64)
-    ensures value { askers.new ≡ heard who askers.old }
+fn hear(waiters: &mut [Waiter], session: SessionId)
+    ensures value { waiters.new ≡ heard session waiters.old }
 {
-    for asker in askers.iter_mut() {
-        *asker = asker.told(who);
+    for waiter in waiters.iter_mut() {
+        *waiter = waiter.told(session);
     }
 }
 
 // Adds what the session is owed.
-fn add_notices(asker: Asker, name: &Text, notices: &mut Vec<LockNotice>) -> Result<(), NoMemory>
-    ensures value { OnOk result (notices.new.items ≡ notices.old.items ++ notices_of name.now asker.owed) }
+fn add_notices(waiter: Waiter, name: &Text, notices: &mut Vec<LockNotice>) -> Result<(), NoMemory>
+    ensures value { OnOk result (notices.new.items ≡ notices.old.items ++ notices_of name.now waiter.owed) }
 {
-    match asker.owed {
-        Owed::Nothing => {}
-        Owed::Locked => notices.push(LockNotice::Locked(name.copy()?))?,
-        Owed::Stolen => notices.push(LockNotice::Stolen(name.copy()?))?,
-        Owed::LockedAndStolen => {
+    match waiter.owed {
+        PendingNotice::Nothing => {}
+        PendingNotice::Locked => notices.push(LockNotice::Locked(name.copy()?))?,
+        PendingNotice::Stolen => notices.push(LockNotice::Stolen(name.copy()?))?,
+        PendingNotice::LockedAndStolen => {
             notices.push(LockNotice::Locked(name.copy()?))?;
             notices.push(LockNotice::Stolen(name.copy()?))?;
         }
@@ -102,41 +102,41 @@ fn add_notices(asker: Asker, name: &Text, notices: &mut Vec<LockNotice>) -> Resu
 }
 
 fn add_owed(
-    askers: &[Asker],
-    who: u64,
+    waiters: &[Waiter],
+    session: SessionId,
     name: &Text,
     notices: &mut Vec<LockNotice>,
 ) -> Result<(), NoMemory>
-    ensures value { OnOk result (notices.new.items ≡ notices.old.items ++ owed_in who name.now askers.now) }
+    ensures value { OnOk result (notices.new.items ≡ notices.old.items ++ owed_in session name.now waiters.now) }
 {
-    for asker in askers {
-        if asker.who == who {
-            add_notices(*asker, name, notices)?;
+    for waiter in waiters {
+        if waiter.session == session {
+            add_notices(*waiter, name, notices)?;
         }
     }
     Ok(())
 }
 
 // What the session is owed where it is first owed something.
-fn first_due(askers: &[Asker], who: u64) -> Owed
-    ensures value { result ≡ first_due who askers.now }
+fn first_due(waiters: &[Waiter], session: SessionId) -> PendingNotice
+    ensures value { result ≡ first_due session waiters.now }
 {
-    for asker in askers {
-        if asker.awaits(who) {
-            return asker.owed;
+    for waiter in waiters {
+        if waiter.awaits(session) {
+            return waiter.owed;
         }
     }
-    Owed::Nothing
+    PendingNotice::Nothing
 }
 
 // The session is told the first notice that it is owed here. The answer is whether it was owed one.
-fn hear_first(askers: &mut [Asker], who: u64) -> bool
-    ensures value { askers.new ≡ heard_first who askers.old }
-    ensures answer { result ≡ is_due (first_due who askers.old) }
+fn hear_first(waiters: &mut [Waiter], session: SessionId) -> bool
+    ensures value { waiters.new ≡ heard_first session waiters.old }
+    ensures answer { result ≡ is_due (first_due session waiters.old) }
 {
-    for asker in askers.iter_mut() {
-        if asker.awaits(who) {
-            *asker = asker.told_first();
+    for waiter in waiters.iter_mut() {
+        if waiter.awaits(session) {
+            *waiter = waiter.told_first();
             return true;
         }
     }
@@ -144,13 +144,15 @@ fn hear_first(askers: &mut [Asker], who: u64) -> bool
 }
 
 // The first notice of what is owed.
-fn first_of(owed: Owed, name: &Text) -> Result<Option<LockNotice>, NoMemory>
+fn first_of(owed: PendingNotice, name: &Text) -> Result<Option<LockNotice>, NoMemory>
     ensures value { IfOk result (λ notice. notice ≡ slice_get (notices_of name.now owed) 0) }
 {
     match owed {
-        Owed::Nothing => Ok(None),
-        Owed::Locked | Owed::LockedAndStolen => Ok(Some(LockNotice::Locked(name.copy()?))),
-        Owed::Stolen => Ok(Some(LockNotice::Stolen(name.copy()?))),
+        PendingNotice::Nothing => Ok(None),
+        PendingNotice::Locked | PendingNotice::LockedAndStolen => Ok(Some(LockNotice::Locked(
+            name.copy()?,
+        ))),
+        PendingNotice::Stolen => Ok(Some(LockNotice::Stolen(name.copy()?))),
     }
 }
 
@@ -166,18 +168,18 @@ impl Lock {
     }
 
     /// Whether a session stands in one of the lists.
-    pub fn stands(&self, who: u64) -> bool
-        ensures value { result ≡ stands who self.now }
+    pub fn stands(&self, session: SessionId) -> bool
+        ensures value { result ≡ stands session self.now }
     {
-        is_in(&self.queue, who) || is_in(&self.stolen, who)
+        is_in(&self.queue, session) || is_in(&self.stolen, session)
     }
 
     /// The session that owns the lock.
-    pub fn owner(&self) -> Option<u64>
+    pub fn owner(&self) -> Option<SessionId>
         ensures value { result ≡ owner self.now }
     {
         match self.queue.as_slice() {
-            [first, ..] => Some(first.who),
+            [first, ..] => Some(first.session),
             [] => None,
         }
     }
@@ -200,12 +202,12 @@ impl Lock {
     ///
     /// # Errors
     /// `NoMemory` alone; the lock is then as it was.
-    pub fn append(&mut self, who: u64) -> Result<(), NoMemory>
-        ensures value { OnOk result (self.new ≡ appended who self.old) }
+    pub fn append(&mut self, session: SessionId) -> Result<(), NoMemory>
+        ensures value { OnOk result (self.new ≡ appended session self.old) }
         ensures unchanged { OnErr result (self.new ≡ self.old) }
     {
         self.stolen.reserve(self.queue.len() + 1)?;
-        self.queue.push(Asker::new(who))?;
+        self.queue.push(Waiter::new(session))?;
         Ok(())
     }
 
@@ -213,17 +215,17 @@ impl Lock {
     ///
     /// # Errors
     /// `NoMemory` alone; the lock is then as it was.
-    pub fn steal(&mut self, who: u64) -> Result<(), NoMemory>
-        ensures value { OnOk result (self.new ≡ stolen_by who self.old) }
+    pub fn steal(&mut self, session: SessionId) -> Result<(), NoMemory>
+        ensures value { OnOk result (self.new ≡ stolen_by session self.old) }
         ensures unchanged { OnErr result (self.new ≡ self.old) }
     {
         self.stolen.reserve(self.queue.len() + 1)?;
         if self.queue.is_empty() {
-            self.queue.push(Asker::new(who))?;
+            self.queue.push(Waiter::new(session))?;
             return Ok(());
         }
         let owner = self.queue[0];
-        self.queue[0] = Asker::new(who);
+        self.queue[0] = Waiter::new(session);
         self.stolen.push_reserved(owner.robbed());
         Ok(())
     }
@@ -232,34 +234,34 @@ impl Lock {
     ///
     /// # Errors
     /// `NoMemory` alone; the lock is then as it was.
-    pub fn put_first(&mut self, who: u64) -> Result<(), NoMemory>
-        ensures value { OnOk result (self.new ≡ put_first who self.old) }
+    pub fn put_first(&mut self, session: SessionId) -> Result<(), NoMemory>
+        ensures value { OnOk result (self.new ≡ put_first session self.old) }
         ensures unchanged { OnErr result (self.new ≡ self.old) }
     {
         self.stolen.reserve(self.queue.len() + 1)?;
-        self.queue.insert(0, Asker::new(who))?;
+        self.queue.insert(0, Waiter::new(session))?;
         Ok(())
     }
 
     /// A session asks for the lock. Answers whether it owns it now.
     #[tactic(auto, using(crate::proofs::Idle::busy))]
-    pub(crate) fn ask(&mut self, who: u64, how: Asking) -> Result<bool, LockError>
-        ensures answer { AsksAs how who self.old result }
-        ensures after { OnOk result (self.new ≡ asked how who self.old) }
+    pub(crate) fn ask(&mut self, session: SessionId, how: Asking) -> Result<bool, LockError>
+        ensures answer { AsksAs how session self.old result }
+        ensures after { OnOk result (self.new ≡ asked how session self.old) }
         ensures busy { OnOk result (is_idle self.new ≡ false) }
         ensures unchanged { OnErr result (self.new ≡ self.old) }
     {
-        if self.stands(who) {
+        if self.stands(session) {
             return Err(LockError::AlreadyAsked);
         }
         match how {
             Asking::Lock => {
                 let is_free = self.queue.is_empty();
-                self.append(who)?;
+                self.append(session)?;
                 Ok(is_free)
             }
             Asking::Steal => {
-                self.steal(who)?;
+                self.steal(session)?;
                 Ok(true)
             }
         }
@@ -267,20 +269,20 @@ impl Lock {
 
     /// Takes a session out of both lists. If it was the owner, the next one is, and is owed the notice of it. No memory is
     /// taken.
-    pub fn leave(&mut self, who: u64)
-        ensures value { self.new ≡ without who self.old }
+    pub fn leave(&mut self, session: SessionId)
+        ensures value { self.new ≡ without session self.old }
     {
-        let was_owner = is_first(&self.queue, who);
-        self.forget(who);
+        let was_owner = is_first(&self.queue, session);
+        self.forget(session);
         grant(&mut self.queue, was_owner);
     }
 
     /// Takes a session out of both lists. Nobody is told that it owns the lock for that. No memory is taken.
-    pub fn forget(&mut self, who: u64)
-        ensures value { self.new ≡ forgotten who self.old }
+    pub fn forget(&mut self, session: SessionId)
+        ensures value { self.new ≡ forgotten session self.old }
     {
-        drop_session(&mut self.queue, who);
-        drop_session(&mut self.stolen, who);
+        drop_session(&mut self.queue, session);
+        drop_session(&mut self.stolen, session);
     }
 
     /// The first of the queue is owed the notice that it owns the lock. No memory is taken.
@@ -302,18 +304,18 @@ impl Lock {
     }
 
     /// Notes that a session was told what it was owed.
-    pub fn note_told(&mut self, who: u64)
-        ensures value { self.new ≡ after_telling who self.old }
+    pub fn note_told(&mut self, session: SessionId)
+        ensures value { self.new ≡ after_telling session self.old }
     {
-        hear(&mut self.queue, who);
-        hear(&mut self.stolen, who);
+        hear(&mut self.queue, session);
+        hear(&mut self.stolen, session);
     }
 
     /// Whether a session is owed a notice for this lock.
-    pub fn owes(&self, who: u64) -> bool
-        ensures value { result ≡ is_owed who self.now }
+    pub fn owes(&self, session: SessionId) -> bool
+        ensures value { result ≡ is_owed session self.now }
     {
-        first_due(&self.queue, who).is_due() || first_due(&self.stolen, who).is_due()
+        first_due(&self.queue, session).is_due() || first_due(&self.stolen, session).is_due()
     }
 
     /// Adds what a session is owed for this lock, which has this name.
@@ -322,37 +324,41 @@ impl Lock {
     /// `NoMemory` alone; some notices may be added then.
     pub fn add_owed(
         &self,
-        who: u64,
+        session: SessionId,
         name: &Text,
         notices: &mut Vec<LockNotice>,
     ) -> Result<(), NoMemory>
-        ensures value { OnOk result (notices.new.items ≡ notices.old.items ++ owed_for who name.now self.now) }
+        ensures value { OnOk result (notices.new.items ≡ notices.old.items ++ owed_for session name.now self.now) }
     {
-        add_owed(&self.queue, who, name, notices)?;
-        add_owed(&self.stolen, who, name, notices)
+        add_owed(&self.queue, session, name, notices)?;
+        add_owed(&self.stolen, session, name, notices)
     }
 
     /// The first notice of what a session is owed for this lock, which has this name; `None` where it is owed nothing.
     ///
     /// # Errors
     /// `NoMemory` alone.
-    pub fn first_notice(&self, who: u64, name: &Text) -> Result<Option<LockNotice>, NoMemory>
-        ensures value { IfOk result (λ notice. notice ≡ slice_get (owed_for who name.now self.now) 0) }
+    pub fn first_notice(
+        &self,
+        session: SessionId,
+        name: &Text,
+    ) -> Result<Option<LockNotice>, NoMemory>
+        ensures value { IfOk result (λ notice. notice ≡ slice_get (owed_for session name.now self.now) 0) }
     {
-        let due = first_due(&self.queue, who);
+        let due = first_due(&self.queue, session);
         if due.is_due() {
             first_of(due, name)
         } else {
-            first_of(first_due(&self.stolen, who), name)
+            first_of(first_due(&self.stolen, session), name)
         }
     }
 
     /// Notes that a session was told the first notice that it was owed.
-    pub fn note_one_told(&mut self, who: u64)
-        ensures value { self.new ≡ after_one who self.old }
+    pub fn note_one_told(&mut self, session: SessionId)
+        ensures value { self.new ≡ after_one session self.old }
     {
-        if !hear_first(&mut self.queue, who) {
-            let _ = hear_first(&mut self.stolen, who);
+        if !hear_first(&mut self.queue, session) {
+            let _ = hear_first(&mut self.stolen, session);
         }
     }
 }

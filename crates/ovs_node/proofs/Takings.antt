@@ -20,7 +20,7 @@ use Rattle.ovs_links.specs.declared.answer.TakeError.TheVariants.{Fork, Full, No
 use Rattle.ovs_links.proofs.MapLemmas.{insert_at, len_insert_new}
 use Rattle.ovs_links.proofs.TakeLemmas.{no_prev, holds_more, held_before}
 use Rattle.ovs_node.specs.declared.refused.RefusedLink.{RefusedLink}
-use Rattle.ovs_node.specs.declared.refused.Why.TheVariants as why
+use Rattle.ovs_node.specs.declared.refused.RefusedBecause.TheVariants as why
 use Rattle.ovs_node.specs.Ledger.{Fate, Taken, Repeated, Against, NoRoom, IntakeValue, IsFate, IsAccountOf, IsGone, KeepsPruning, TellsMore, all_told_as, counted, forks_in, kept_as, shorts_in, taken_of, told_as}
 use Rattle.ovs_node.proofs.Fates.{among_left, among_right, among_either, taken_and, told_and, fates_and, forks_and, shorts_and, on_from}
 

@@ -13,8 +13,8 @@ use Rattle.ovs_links.specs.Steps.{folded_of}
 use Rattle.ovs_links.specs.declared.link.Link.{Link}
 use Rattle.ovs_links.specs.declared.step.Step.{Step}
 use Rattle.ovs_node.specs.declared.refused.RefusedLink.{RefusedLink}
-use Rattle.ovs_node.specs.declared.refused.Why.{Why}
-use Rattle.ovs_node.specs.declared.refused.Why.TheVariants as why
+use Rattle.ovs_node.specs.declared.refused.RefusedBecause.{RefusedBecause}
+use Rattle.ovs_node.specs.declared.refused.RefusedBecause.TheVariants as why
 
 -- the steps of a store's folded links
 abbrev pub steps_in : Stored → List Step
@@ -75,11 +75,11 @@ all_told_as [] fs = []
 all_told_as (l ∷ ls) [] = []
 all_told_as (l ∷ ls) (f ∷ fs) = told_as l f ++ all_told_as ls fs
 
-abbrev pub fork_as : Why → ℕ
+abbrev pub fork_as : RefusedBecause → ℕ
 fork_as (why.Fork prev id) = 1
 fork_as why.Full = 0
 
-abbrev pub short_as : Why → ℕ
+abbrev pub short_as : RefusedBecause → ℕ
 short_as (why.Fork prev id) = 0
 short_as why.Full = 1
 

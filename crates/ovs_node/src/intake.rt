@@ -13,7 +13,7 @@ ghost use Rattle.ovs_node.specs.InStep.{IsOneChain};
 ghost use Rattle.ovs_node.specs.Ledger.{IsAccountOf, IsFresh, NoneOld, TakesOne, TellsMore, WasSent, steps_in};
 
 use crate::node_link::NodeLink;
-use crate::refused::{RefusedLink, Why};
+use crate::refused::{RefusedBecause, RefusedLink};
 use ovs_feed::{Feed, FeedEnd, FeedName, FeedQueue};
 use ovs_links::{Folded, Link, LinkStore, Settled, TakeError};
 use ovs_types::{NoMemory, TxnId};
@@ -110,13 +110,16 @@ impl<K: NodeName, Q: FeedName> Intake<K, Q> {
                 },
             ) => {
                 self.forks = self.forks.saturating_add(1);
-                self.refused
-                    .push_reserved(refused(&link, Why::Fork { held_prev, held_id }));
+                self.refused.push_reserved(refused(
+                    &link,
+                    RefusedBecause::Fork { held_prev, held_id },
+                ));
                 Ok(())
             }
             Err(TakeError::Full { link }) => {
                 self.short = self.short.saturating_add(1);
-                self.refused.push_reserved(refused(&link, Why::Full));
+                self.refused
+                    .push_reserved(refused(&link, RefusedBecause::Full));
                 Ok(())
             }
             Err(TakeError::NoMemory { link }) => {
@@ -224,7 +227,7 @@ impl<K: NodeName, Q: FeedName> Intake<K, Q> {
 
     /// The store and the counts, when all ends are back and all that they sent was taken: each held link was sent, and where
     /// nothing was refused or dropped each that was sent is held.
-    pub fn close(self) -> Closed<K, Q>
+    pub fn close(self) -> ClosedIntake<K, Q>
         requires taken { self.kept ≡ None }
         requires back { length self.feed.returned ≡ self.feed.ends }
         requires drained { IsDrained self.feed }
@@ -248,7 +251,7 @@ impl<K: NodeName, Q: FeedName> Intake<K, Q> {
             prunes: _,
             refused,
         } = self;
-        Closed {
+        ClosedIntake {
             feed,
             store,
             forks,
@@ -260,7 +263,7 @@ impl<K: NodeName, Q: FeedName> Intake<K, Q> {
 }
 
 // This link, which was refused.
-fn refused(link: &Link, why: Why) -> RefusedLink
+fn refused(link: &Link, why: RefusedBecause) -> RefusedLink
     ensures value { result ≡ record { prev = link.now.prev; id = link.now.id; why = why } }
 {
     RefusedLink {
@@ -272,7 +275,7 @@ fn refused(link: &Link, why: Why) -> RefusedLink
 
 /// What is left of an intake.
 #[derive(Drop)]
-pub struct Closed<K: NodeName, Q: FeedName> {
+pub struct ClosedIntake<K: NodeName, Q: FeedName> {
     /// The feed that the links came from.
     pub feed: Feed<NodeLink<K>, Q>,
     /// The links that are held.

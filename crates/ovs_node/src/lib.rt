@@ -8,14 +8,14 @@ mod open_node;
 mod refused;
 mod report;
 
-pub use intake::{Closed, Intake};
+pub use intake::{ClosedIntake, Intake};
 pub use node::Node;
 pub use node_link::NodeLink;
 pub use open_node::{MAX_UPSTREAMS, MAX_VIEWS, NodeError, OpenNode, Parts};
 pub use ovs_feed::{FeedEnd, FeedName, FeedQueue};
 pub use ovs_history::Opened;
 pub use ovs_views::{
-    Board, Front, Gone, Handle, NodeName, Publisher, Told, View, ViewError, ViewSession, teach,
+    Board, Gone, Handle, NodeName, Publisher, StepPrefix, Told, View, ViewError, ViewSession, teach,
 };
-pub use refused::{RefusedLink, Why};
+pub use refused::{RefusedBecause, RefusedLink};
 pub use report::Report;

@@ -15,7 +15,7 @@ ghost use Rattle.ovs_node.specs.InStep.{HasShown, IsInStep, IsOneChain};
 ghost use Rattle.ovs_node.specs.Nodes.{NodeAtRest, NodeInStep};
 ghost use Rattle.ovs_node.specs.Ledger.{IsAccountOf, KeepsPruning, TakesOne, TellsMore, WasSent, steps_in};
 
-use crate::intake::{Closed, Intake};
+use crate::intake::{ClosedIntake, Intake};
 use crate::node_link::NodeLink;
 use crate::refused::RefusedLink;
 use crate::report::Report;
@@ -97,7 +97,7 @@ impl<K: NodeName, Q: FeedName, R: Wait + Drop> Node<K, Q, Handle<K, R>> {
 
     // Takes what was kept, settles and publishes, and drops old links then.
     #[tactic(auto, using(ovs_links::proofs::AbsorbingLemmas::goes_on))]
-    fn work_off(&mut self) -> Result<(), NoMemory>
+    fn fold_pending(&mut self) -> Result<(), NoMemory>
         requires in_step { NodeInStep self.old }
         ensures in_step { NodeInStep self.new }
         ensures feed { self.new.intake.feed ≡ self.old.intake.feed }
@@ -114,7 +114,7 @@ impl<K: NodeName, Q: FeedName, R: Wait + Drop> Node<K, Q, Handle<K, R>> {
     }
 
     // Takes what was kept, settles and publishes, and posts what is published then.
-    fn work_off_and_post<W: Wait>(
+    fn fold_pending_and_post<W: Wait>(
         &mut self,
         rt: &W,
         board: &Mutex<Board<K>>,
@@ -126,7 +126,7 @@ impl<K: NodeName, Q: FeedName, R: Wait + Drop> Node<K, Q, Handle<K, R>> {
         ensures told { TellsMore self.old.intake self.new.intake }
         ensures pruning { KeepsPruning self.old.intake self.new.intake }
     {
-        self.work_off()?;
+        self.fold_pending()?;
         board.lock(rt).post(&self.publisher.told());
         Ok(())
     }
@@ -151,11 +151,11 @@ impl<K: NodeName, Q: FeedName, R: Wait + Drop> Node<K, Q, Handle<K, R>> {
         ensures told { TellsMore self.old.intake self.new.intake }
         ensures pruning { KeepsPruning self.old.intake self.new.intake }
     {
-        self.work_off_and_post(rt, board)?;
+        self.fold_pending_and_post(rt, board)?;
         if !self.intake.pop(rt, queue) {
             return Ok(false);
         }
-        self.work_off_and_post(rt, board)?;
+        self.fold_pending_and_post(rt, board)?;
         Ok(true)
     }
 
@@ -199,7 +199,7 @@ impl<K: NodeName, Q: FeedName, R: Wait + Drop> Node<K, Q, Handle<K, R>> {
             publisher,
             settled,
         } = self;
-        let Closed {
+        let ClosedIntake {
             store,
             feed,
             forks,

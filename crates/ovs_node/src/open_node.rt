@@ -11,7 +11,7 @@ use ovs_feed::{Feed, FeedEnd, FeedName, FeedQueue, OpenFeed};
 use ovs_history::Opened;
 use ovs_links::{Folded, LinkStore, Step};
 use ovs_types::{NoMemory, Schema};
-use ovs_views::{Board, Front, Handle, NoPlace, NodeName, Publisher, StepHistory, View};
+use ovs_views::{Board, Handle, NoPlace, NodeName, Publisher, StepHistory, StepPrefix, View};
 use std::alloc::{AllocError, Global};
 use std::sync::{Mutex, Wait};
 use thiserror::Error;
@@ -77,7 +77,7 @@ pub struct OpenNode<K: NodeName, H> {
     pub(crate) store: LinkStore,
     pub(crate) publisher: Publisher<K, H>,
     pub(crate) views: Vec<View<K>>,
-    pub(crate) told: Front<K>,
+    pub(crate) told: StepPrefix<K>,
     pub(crate) upstreams: usize,
 }
 
@@ -200,7 +200,7 @@ impl<K: NodeName, R: Wait + Drop> OpenNode<K, Handle<K, R>> {
 fn views_of<K: NodeName, R: Wait + Drop>(
     alloc: Global,
     publisher: &Publisher<K, Handle<K, R>>,
-    told: &Front<K>,
+    told: &StepPrefix<K>,
     count: usize,
 ) -> Result<Vec<View<K>>, NodeError>
     ensures count { IfOk result (λ v. vec_len v ≡ count) }

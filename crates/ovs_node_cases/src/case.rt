@@ -1,6 +1,6 @@
 //! A line by its first word.
 
-use crate::fault::Fault;
+use crate::node_case_error::NodeCaseError;
 use crate::{engine, many, node, sendings, tier, worker};
 use log::Log;
 use ovs_links::Step;
@@ -41,32 +41,35 @@ impl<
     }
 
     /// What a line answers, with a fault as text.
-    pub(crate) fn told(&mut self, line: &str) -> Result<String, Fault> {
+    pub(crate) fn told(&mut self, line: &str) -> Result<String, NodeCaseError> {
         match self.answer(line) {
             Ok(answer) => Ok(answer),
             Err(fault) => Ok(String::from_str(self.alloc, fault.word())?),
         }
     }
 
-    fn answer(&mut self, line: &str) -> Result<String, Fault> {
+    fn answer(&mut self, line: &str) -> Result<String, NodeCaseError> {
         let line = Value::from_str(self.alloc, line)?;
-        let parts = line.as_array().ok_or(Fault::Malformed)?.as_slice();
+        let parts = line.as_array().ok_or(NodeCaseError::Malformed)?.as_slice();
         match parts {
             [word, json] if word.as_str() == Some("use") => {
                 self.schema = Some(read_schema(self.alloc, json)?);
                 Ok(String::from_str(self.alloc, "ok")?)
             }
-            _ => self.of_schema(self.schema.as_deref().ok_or(Fault::Malformed)?, parts),
+            _ => self.of_schema(
+                self.schema.as_deref().ok_or(NodeCaseError::Malformed)?,
+                parts,
+            ),
         }
     }
 
     // The lines that are asked of the schema in use.
-    fn of_schema(&self, schema: &Schema, parts: &[Value]) -> Result<String, Fault> {
+    fn of_schema(&self, schema: &Schema, parts: &[Value]) -> Result<String, NodeCaseError> {
         let (rt, alloc) = (&self.rt, self.alloc);
-        let (word, arguments) = parts.split_first().ok_or(Fault::Malformed)?;
-        match (word.as_str().ok_or(Fault::Malformed)?, arguments) {
+        let (word, arguments) = parts.split_first().ok_or(NodeCaseError::Malformed)?;
+        match (word.as_str().ok_or(NodeCaseError::Malformed)?, arguments) {
             ("node", [views, ends]) => {
-                let ends = ends.as_array().ok_or(Fault::Malformed)?.as_slice();
+                let ends = ends.as_array().ok_or(NodeCaseError::Malformed)?.as_slice();
                 let scene = sendings::Scene::Listed(ends);
                 of_node(rt, alloc, schema, count(views)? as usize, scene)
             }
@@ -93,20 +96,20 @@ impl<
                 let scene = tier::Scene::read(alloc, scene)?;
                 tier::run_tier(self.rt, alloc, schema, &scene)
             }
-            _ => Err(Fault::Malformed),
+            _ => Err(NodeCaseError::Malformed),
         }
     }
 }
 
-fn read_schema(alloc: Global, json: &Value) -> Result<Box<Schema>, Fault> {
+fn read_schema(alloc: Global, json: &Value) -> Result<Box<Schema>, NodeCaseError> {
     match Schema::read(alloc, json) {
         Ok(schema) => Ok(Box::new(alloc, schema)?),
-        Err(_) => Err(Fault::Malformed),
+        Err(_) => Err(NodeCaseError::Malformed),
     }
 }
 
-fn count(json: &Value) -> Result<u64, Fault> {
-    json.as_u64().ok_or(Fault::Malformed)
+fn count(json: &Value) -> Result<u64, NodeCaseError> {
+    json.as_u64().ok_or(NodeCaseError::Malformed)
 }
 
 // What a node answers, whose history is opened here.
@@ -116,7 +119,7 @@ fn of_node<R: Threads + Wait + Sync>(
     schema: &Schema,
     views: usize,
     scene: sendings::Scene,
-) -> Result<String, Fault> {
+) -> Result<String, NodeCaseError> {
     let opened = Opened::<Step>::new();
     node::opened::<Brand, R>(rt, alloc, schema, opened, views, scene)
 }
@@ -127,7 +130,7 @@ fn of_worker<R: Wait>(
     alloc: Global,
     schema: &Schema,
     scene: worker::Scene,
-) -> Result<String, Fault> {
+) -> Result<String, NodeCaseError> {
     let opened = Opened::<Step>::new();
     worker::opened::<Brand, R>(rt, alloc, schema, opened, scene)
 }
@@ -138,7 +141,7 @@ fn of_engine<R: Threads + Wait + Sync>(
     alloc: Global,
     schema: &Schema,
     scene: engine::Scene,
-) -> Result<String, Fault> {
+) -> Result<String, NodeCaseError> {
     let opened = Opened::<Step>::new();
     engine::opened::<Brand, R>(rt, alloc, schema, opened, scene)
 }

@@ -5,11 +5,11 @@ ghost use Rattle.std.specs.List.{AllByRecursion};
 ghost use Rattle.ovs_node.specs.Nodes.{NodeInStep, OpenNodeInStep};
 ghost use Rattle.ovs_node.specs.Ledger.{IsFresh};
 
-use crate::fault::Fault;
 use crate::memory_threads::{SharedParts, senders_of, threads_of};
+use crate::node_case_error::NodeCaseError;
 use crate::outcome::{Question, shown};
 use crate::readers::request_text;
-use crate::upstreams::{UpSession, Upstream, number_in, read_sessions};
+use crate::upstreams::{ScriptedUpstream, UpstreamScript, number_in, read_sessions};
 use ovs_json::Text;
 use ovs_links::Step;
 use ovs_node::{
@@ -45,7 +45,7 @@ pub(crate) struct Scene {
 /// Those who talk to the node.
 #[derive(Drop)]
 pub(crate) struct Talkers {
-    pub(crate) upstreams: Vec<Vec<UpSession>>,
+    pub(crate) upstreams: Vec<Vec<UpstreamScript>>,
     pub(crate) readers: usize,
     // Whether it is to be told how many of them were shown what they wait for.
     counts_readers: bool,
@@ -55,14 +55,18 @@ pub(crate) struct Talkers {
 
 impl Scene {
     /// What stands in a line.
-    pub(crate) fn read(alloc: Global, schema: &Schema, parts: &[Value]) -> Result<Scene, Fault> {
+    pub(crate) fn read(
+        alloc: Global,
+        schema: &Schema,
+        parts: &[Value],
+    ) -> Result<Scene, NodeCaseError> {
         let [upstreams, until, select, kept_back @ ..] = parts else {
-            return Err(Fault::Malformed);
+            return Err(NodeCaseError::Malformed);
         };
         let questions = match kept_back {
             [] => one_view(alloc, read_question(alloc, schema, select)?)?,
             [lists] => read_questions(alloc, schema, lists)?,
-            _ => return Err(Fault::Malformed),
+            _ => return Err(NodeCaseError::Malformed),
         };
         let mut sessions = Vec::new(alloc);
         for upstream in list(upstreams)? {
@@ -89,30 +93,30 @@ impl Scene {
     }
 }
 
-fn list(json: &Value) -> Result<&[Value], Fault> {
-    Ok(json.as_array().ok_or(Fault::Malformed)?.as_slice())
+fn list(json: &Value) -> Result<&[Value], NodeCaseError> {
+    Ok(json.as_array().ok_or(NodeCaseError::Malformed)?.as_slice())
 }
 
 // The number of the commit that readers are to see, 0 where null stands, and how many readers there are, where that stands beside it.
-fn read_readers(json: &Value) -> Result<(u64, Option<usize>), Fault> {
+fn read_readers(json: &Value) -> Result<(u64, Option<usize>), NodeCaseError> {
     let Some(parts) = json.as_array() else {
         return Ok((number_in(json)?, None));
     };
     let [until, readers] = parts.as_slice() else {
-        return Err(Fault::Malformed);
+        return Err(NodeCaseError::Malformed);
     };
-    let readers = readers.as_u64().ok_or(Fault::Malformed)?;
+    let readers = readers.as_u64().ok_or(NodeCaseError::Malformed)?;
     Ok((number_in(until)?, Some(readers as usize)))
 }
 
 // A select, or a number: how many steps come after the first so many.
-fn read_question(alloc: Global, schema: &Schema, json: &Value) -> Result<Question, Fault> {
+fn read_question(alloc: Global, schema: &Schema, json: &Value) -> Result<Question, NodeCaseError> {
     if let Some(steps) = json.as_u64() {
         return Ok(Question::Steps(steps as usize));
     }
     match Select::read(alloc, json, schema) {
         Ok(select) => Ok(Question::Rows(select)),
-        Err(_) => Err(Fault::Malformed),
+        Err(_) => Err(NodeCaseError::Malformed),
     }
 }
 
@@ -121,7 +125,7 @@ fn read_questions(
     alloc: Global,
     schema: &Schema,
     lists: &Value,
-) -> Result<Vec<Vec<Question>>, Fault> {
+) -> Result<Vec<Vec<Question>>, NodeCaseError> {
     let mut views = Vec::new(alloc);
     for questions in list(lists)? {
         let mut read = Vec::new(alloc);
@@ -134,7 +138,7 @@ fn read_questions(
 }
 
 // One view, which is asked this.
-fn one_view(alloc: Global, question: Question) -> Result<Vec<Vec<Question>>, Fault> {
+fn one_view(alloc: Global, question: Question) -> Result<Vec<Vec<Question>>, NodeCaseError> {
     let mut questions = Vec::new(alloc);
     questions.push(question)?;
     let mut views = Vec::new(alloc);
@@ -149,7 +153,7 @@ pub(crate) fn opened<K: NodeName + Send + Sync, R: Threads + Wait + Sync>(
     schema: &Schema,
     opened: Opened<Step>,
     scene: Scene,
-) -> Result<String, Fault>
+) -> Result<String, NodeCaseError>
     requires name { (opened.seen.book ≡ K.book) × (schema.now ≡ K.schema) }
 {
     let desk = DeskOf {
@@ -169,7 +173,7 @@ fn named<K: NodeName + Send + Sync, Q: FeedName + Send + Sync, R: Threads + Wait
     node: OpenNode<K, Handle<K, &R>>,
     desk: DeskOf,
     scene: Scene,
-) -> Result<String, Fault>
+) -> Result<String, NodeCaseError>
     requires schema { schema.now ≡ K.schema }
     requires table { node.feed.items.table.shared.table_id ≡ Q.table }
     requires upstreams { node.upstreams ≤ 4 }
@@ -201,7 +205,7 @@ fn run<
     parts: Parts<K, Q, Handle<K, &'x R>>,
     desk: DeskOf,
     scene: Scene,
-) -> Result<String, Fault>
+) -> Result<String, NodeCaseError>
     requires desk { (desk.opened.seen.book ≡ N.book) × (desk.database ≡ N.database) }
     requires schema { schema.now ≡ K.schema }
     requires in_step { NodeInStep parts.node }
@@ -221,7 +225,7 @@ fn run<
     let DeskOf { database, opened } = desk;
     let common = SharedParts::<'x, N, R>::new(rt, alloc, talkers.readers, database, opened)?;
     let senders = senders_of(alloc, ends)?;
-    let own = OwnParts {
+    let own = CaseParts {
         talkers,
         senders,
         views,
@@ -240,19 +244,19 @@ fn kept_back<K: NodeName>(
     alloc: Global,
     views: &mut Vec<View<K>>,
     count: usize,
-) -> Result<Vec<View<K>>, Fault> {
+) -> Result<Vec<View<K>>, NodeCaseError> {
     let mut kept = Vec::new(alloc);
     for _ in 0..count {
-        kept.push(views.pop().ok_or(Fault::BadCount)?)?;
+        kept.push(views.pop().ok_or(NodeCaseError::BadCount)?)?;
     }
     Ok(kept)
 }
 
 // What the threads of a node are made of.
 #[derive(Drop)]
-struct OwnParts<K: NodeName, Q: FeedName> {
+struct CaseParts<K: NodeName, Q: FeedName> {
     talkers: Talkers,
-    senders: Vec<UpstreamSender<K, Q, Upstream>>,
+    senders: Vec<UpstreamSender<K, Q, ScriptedUpstream>>,
     views: Vec<View<K>>,
 }
 
@@ -272,13 +276,13 @@ fn run_threads<
     board: &'a Mutex<Board<K>>,
     common: &'a SharedParts<'x, N, R>,
     node: Node<K, Q, Handle<K, &'x R>>,
-    own: OwnParts<K, Q>,
-) -> Result<Report<K, Q, Handle<K, &'x R>>, Fault>
+    own: CaseParts<K, Q>,
+) -> Result<Report<K, Q, Handle<K, &'x R>>, NodeCaseError>
     requires schema { schema.now ≡ K.schema }
     requires in_step { NodeInStep node }
     requires none { node.intake.feed.returned ≡ [] }
 {
-    let OwnParts {
+    let CaseParts {
         talkers,
         senders,
         views,
@@ -290,7 +294,7 @@ fn run_threads<
         board: &*board,
         desk: &common.desk,
         wakers: &common.wakers,
-        upward: &common.upward,
+        uplink_waker: &common.uplink_waker,
         counters: &common.counters,
         observer: &NoObserver,
         limits: LIMITS,

@@ -2,8 +2,8 @@
 
 ghost use Rattle.ovs_node.specs.Nodes.{NodeInStep};
 
-use crate::fault::Fault;
-use crate::jobs::{Back, Done};
+use crate::jobs::{Done, TaskResult};
+use crate::node_case_error::NodeCaseError;
 use ovs_node::{
     Board, FeedEnd, FeedName, FeedQueue, Handle, Node, NodeLink, NodeName, Report, View,
 };
@@ -37,9 +37,9 @@ pub(crate) fn fold_all<K: NodeName, Q: FeedName, H: Wait + Drop, R: Wait>(
 fn take_back<K: NodeName, Q: FeedName, H: Wait + Drop>(
     queue: &FeedQueue<NodeLink<K>, Q>,
     node: &mut Node<K, Q, Handle<K, H>>,
-    backs: Vec<Back<K, Q>>,
+    backs: Vec<TaskResult<K, Q>>,
     views: &mut Vec<View<K>>,
-) -> Result<(), Fault>
+) -> Result<(), NodeCaseError>
     requires in_step { NodeInStep node.old }
     ensures in_step { NodeInStep node.new }
 {
@@ -52,9 +52,9 @@ fn take_back<K: NodeName, Q: FeedName, H: Wait + Drop>(
 fn take_one_back<K: NodeName, Q: FeedName, H: Wait + Drop>(
     queue: &FeedQueue<NodeLink<K>, Q>,
     node: &mut Node<K, Q, Handle<K, H>>,
-    back: Back<K, Q>,
+    back: TaskResult<K, Q>,
     views: &mut Vec<View<K>>,
-) -> Result<(), Fault>
+) -> Result<(), NodeCaseError>
     requires in_step { NodeInStep node.old }
     ensures in_step { NodeInStep node.new }
 {
@@ -65,8 +65,8 @@ fn take_one_back<K: NodeName, Q: FeedName, H: Wait + Drop>(
     };
     match (is_joined(queue, node, end), is_whole) {
         (true, true) => Ok(()),
-        (true, false) => Err(Fault::Unsent),
-        (false, _) => Err(Fault::NotDrained),
+        (true, false) => Err(NodeCaseError::Unsent),
+        (false, _) => Err(NodeCaseError::NotDrained),
     }
 }
 
@@ -88,15 +88,15 @@ pub(crate) fn finished<K: NodeName, Q: FeedName, H: Wait + Drop, R: Wait>(
     queue: &FeedQueue<NodeLink<K>, Q>,
     board: &Mutex<Board<K>>,
     node: Node<K, Q, Handle<K, H>>,
-    backs: Vec<Back<K, Q>>,
+    backs: Vec<TaskResult<K, Q>>,
     views: &mut Vec<View<K>>,
-) -> Result<Report<K, Q, Handle<K, H>>, Fault>
+) -> Result<Report<K, Q, Handle<K, H>>, NodeCaseError>
     requires in_step { NodeInStep node }
 {
     let mut node = node;
     take_back(queue, &mut node, backs, views)?;
     if node.fold_next(rt, queue, board)? || !node.is_back() {
-        return Err(Fault::NotDrained);
+        return Err(NodeCaseError::NotDrained);
     }
     Ok(node.finish())
 }

@@ -1,6 +1,6 @@
 //! Ids of commits: a letter stands for the id that is written with it.
 
-use crate::fault::Fault;
+use crate::node_case_error::NodeCaseError;
 use ovs_types::TxnId;
 
 // The letters, and the ids that they stand for.
@@ -14,19 +14,19 @@ const LETTERS: [(&str, &str); 4] = [
 const START: &str = "00000000-0000-0000-0000-000000000000";
 
 /// How the id is written that a letter stands for; `0` is the start.
-pub(crate) fn text_of(letter: &str) -> Result<&'static str, Fault> {
+pub(crate) fn text_of(letter: &str) -> Result<&'static str, NodeCaseError> {
     if letter == "0" {
         return Ok(START);
     }
     match LETTERS.iter().find(|pair| pair.0 == letter) {
         Some((_, text)) => Ok(*text),
-        None => Err(Fault::Malformed),
+        None => Err(NodeCaseError::Malformed),
     }
 }
 
 /// The id that a letter stands for.
-pub(crate) fn commit(letter: &str) -> Result<TxnId, Fault> {
-    TxnId::read(text_of(letter)?).map_err(|_| Fault::Malformed)
+pub(crate) fn commit(letter: &str) -> Result<TxnId, NodeCaseError> {
+    TxnId::read(text_of(letter)?).map_err(|_| NodeCaseError::Malformed)
 }
 
 /// The letter of an id, `0` for the start and `?` where it has none.
@@ -43,10 +43,10 @@ pub(crate) fn letter(id: TxnId) -> &'static str {
 }
 
 /// The number of a letter's commit, from 1 on.
-pub(crate) fn number_of(letter: &str) -> Result<u64, Fault> {
+pub(crate) fn number_of(letter: &str) -> Result<u64, NodeCaseError> {
     match LETTERS.iter().position(|pair| pair.0 == letter) {
         Some(place) => Ok(place as u64 + 1),
-        None => Err(Fault::Malformed),
+        None => Err(NodeCaseError::Malformed),
     }
 }
 

@@ -1,11 +1,11 @@
 //! What the threads beside the folder do. What crosses into a thread and back is told in tuples of what it is made of.
 
-use crate::sendings::Sending;
+use crate::sendings::LinkSending;
 use left_right::ReadHandle;
-use ovs_node::{Board, FeedEnd, FeedName, FeedQueue, Front, NodeLink, NodeName, View, teach};
+use ovs_node::{Board, FeedEnd, FeedName, FeedQueue, NodeLink, NodeName, StepPrefix, View, teach};
 use ovs_threads::Work;
 use ovs_types::TxnId;
-use ovs_views::Shown;
+use ovs_views::PublishedCopy;
 use std::sync::atomic::{AtomicU64, Ordering};
 use std::sync::{Mutex, Wait};
 use std::thread;
@@ -15,9 +15,9 @@ const TURNS: u64 = 1_000_000;
 
 /// What a thread is to do, with a view.
 #[derive(Drop)]
-pub(crate) enum Task<K: NodeName, Q: FeedName> {
+pub(crate) enum ThreadTask<K: NodeName, Q: FeedName> {
     /// To send these links by an end of the feed, in order.
-    Send(FeedEnd<NodeLink<K>, Q>, Vec<Sending<K>>),
+    Send(FeedEnd<NodeLink<K>, Q>, Vec<LinkSending<K>>),
     /// To ask for the head again and again, until no thread sends any more.
     Read,
 }
@@ -32,10 +32,14 @@ pub(crate) enum Done<K: NodeName, Q: FeedName> {
 }
 
 /// A task with the parts of the view by which it reads.
-pub(crate) type Job<K, Q> = (Task<K, Q>, ReadHandle<Shown<K>>, Front<K>);
+pub(crate) type TaskJob<K, Q> = (
+    ThreadTask<K, Q>,
+    ReadHandle<PublishedCopy<K>>,
+    StepPrefix<K>,
+);
 
 /// What was done, with the parts of the view.
-pub(crate) type Back<K, Q> = (Done<K, Q>, ReadHandle<Shown<K>>, Front<K>);
+pub(crate) type TaskResult<K, Q> = (Done<K, Q>, ReadHandle<PublishedCopy<K>>, StepPrefix<K>);
 
 // Has the view taught by the board until its head is this.
 fn wait_for<K: NodeName, R: Wait>(
@@ -70,9 +74,9 @@ impl<'a, K: NodeName, Q: FeedName, R: Wait> Jobs<'a, K, Q, R> {
         &self,
         end: &mut FeedEnd<NodeLink<K>, Q>,
         view: &mut View<K>,
-        sending: Sending<K>,
+        sending: LinkSending<K>,
     ) -> bool {
-        let Sending { after, link } = sending;
+        let LinkSending { after, link } = sending;
         if let Some(id) = after {
             if !wait_for(self.rt, self.board, view, id) {
                 return false;
@@ -87,7 +91,7 @@ impl<'a, K: NodeName, Q: FeedName, R: Wait> Jobs<'a, K, Q, R> {
         &self,
         end: &mut FeedEnd<NodeLink<K>, Q>,
         view: &mut View<K>,
-        sendings: Vec<Sending<K>>,
+        sendings: Vec<LinkSending<K>>,
     ) -> bool {
         let mut is_whole = true;
         for sending in sendings {
@@ -119,30 +123,31 @@ impl<'a, K: NodeName, Q: FeedName, R: Wait> Jobs<'a, K, Q, R> {
     }
 }
 
-impl<'a, K: NodeName, Q: FeedName, R: Wait> Work<Job<K, Q>, Back<K, Q>> for Jobs<'a, K, Q, R> {
-    fn work(&self, job: Job<K, Q>) -> Back<K, Q> {
+impl<'a, K: NodeName, Q: FeedName, R: Wait> Work<TaskJob<K, Q>, TaskResult<K, Q>>
+    for Jobs<'a, K, Q, R> {
+    fn work(&self, job: TaskJob<K, Q>) -> TaskResult<K, Q> {
         let (task, handle, known) = job;
         let mut view = View::new(handle, known);
         let done = match task {
-            Task::Send(mut end, sendings) => {
+            ThreadTask::Send(mut end, sendings) => {
                 let is_whole = self.send_all(&mut end, &mut view, sendings);
                 self.leave();
                 Done::Sent(end, is_whole)
             }
-            Task::Read => Done::Read(self.read_on(&mut view)),
+            ThreadTask::Read => Done::Read(self.read_on(&mut view)),
         };
         let (handle, known) = view.into_parts();
         (done, handle, known)
     }
 
-    fn refuse(&self, job: Job<K, Q>) -> Back<K, Q> {
+    fn refuse(&self, job: TaskJob<K, Q>) -> TaskResult<K, Q> {
         let (task, handle, known) = job;
         let done = match task {
-            Task::Send(end, _) => {
+            ThreadTask::Send(end, _) => {
                 self.leave();
                 Done::Sent(end, false)
             }
-            Task::Read => Done::Read(0),
+            ThreadTask::Read => Done::Read(0),
         };
         (done, handle, known)
     }

@@ -3,8 +3,8 @@
 ghost use Rattle.std.specs.Prelude.{IfOk};
 ghost use Rattle.ovs_links.specs.Sets.{IsOfTables};
 
-use crate::fault::Fault;
 use crate::ids::commit;
+use crate::node_case_error::NodeCaseError;
 use ovs_links::Link;
 use ovs_rows::Change;
 use ovs_types::{Schema, TxnId};
@@ -12,8 +12,8 @@ use serde_json::Value;
 use std::alloc::Global;
 
 /// The id that a letter stands for.
-pub(crate) fn id_of(json: &Value) -> Result<TxnId, Fault> {
-    commit(json.as_str().ok_or(Fault::Malformed)?)
+pub(crate) fn id_of(json: &Value) -> Result<TxnId, NodeCaseError> {
+    commit(json.as_str().ok_or(NodeCaseError::Malformed)?)
 }
 
 /// The link from one id to another that makes this change.
@@ -23,14 +23,14 @@ pub(crate) fn read_link(
     prev: TxnId,
     id: TxnId,
     change: &Value,
-) -> Result<Link, Fault>
+) -> Result<Link, NodeCaseError>
     ensures tables { IfOk result (IsOfTables schema.now.description.tables) }
 {
     let Ok(change) = Change::read(alloc, change, schema) else {
-        return Err(Fault::Malformed);
+        return Err(NodeCaseError::Malformed);
     };
     match Link::new(prev, id, change) {
         Ok(link) => Ok(link),
-        Err(_) => Err(Fault::Malformed),
+        Err(_) => Err(NodeCaseError::Malformed),
     }
 }

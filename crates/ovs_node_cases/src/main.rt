@@ -7,7 +7,6 @@
 mod case;
 mod client;
 mod engine;
-mod fault;
 mod fold;
 mod hosts;
 mod ids;
@@ -16,6 +15,7 @@ mod links;
 mod many;
 mod memory_threads;
 mod node;
+mod node_case_error;
 mod outcome;
 mod poller;
 mod readers;

@@ -4,13 +4,14 @@ ghost use Rattle.std.specs.Prelude.{◌≡◌, []};
 ghost use Rattle.std.specs.List.{AllByRecursion};
 
 use crate::engine::Talkers;
-use crate::fault::Fault;
+use crate::node_case_error::NodeCaseError;
 use crate::readers::{Chat, MemoryWaker, ReaderPoller, counter};
-use crate::upstreams::{UpSession, Upstream};
+use crate::upstreams::{ScriptedUpstream, UpstreamScript};
 use ovs_json::Text;
 use ovs_node::{FeedEnd, FeedName, NodeLink, NodeName, Opened, View};
 use ovs_node_threads::{
-    Counters, LockedDesk, NodeThreads, RelayThreads, SharedSide, UnusedPoller, UpstreamSender,
+    Counters, LockedForwarder, NodeThreads, RelayThreads, SharedUpstreamHandler, UnusedPoller,
+    UpstreamSender,
 };
 use ovs_recorded_desk::{DeskName, DeskStep, RecordedDesk};
 use std::alloc::Global;
@@ -25,8 +26,8 @@ pub(crate) struct SharedParts<'a, N: DeskName, R: Wait> {
     // One for each reader.
     pub(crate) chats: Vec<Chat>,
     pub(crate) wakers: Vec<MemoryWaker>,
-    pub(crate) desk: LockedDesk<'a, N, R>,
-    pub(crate) upward: MemoryWaker,
+    pub(crate) desk: LockedForwarder<'a, N, R>,
+    pub(crate) uplink_waker: MemoryWaker,
     pub(crate) counters: Counters,
 }
 
@@ -38,7 +39,7 @@ impl<'a, N: DeskName, R: Wait> SharedParts<'a, N, R> {
         readers: usize,
         database: Text,
         opened: Opened<DeskStep>,
-    ) -> Result<SharedParts<'a, N, R>, Fault>
+    ) -> Result<SharedParts<'a, N, R>, NodeCaseError>
         requires name { (opened.seen.book ≡ N.book) × (database ≡ N.database) }
     {
         let (desk, _known) = RecordedDesk::new(alloc, database, opened);
@@ -48,8 +49,8 @@ impl<'a, N: DeskName, R: Wait> SharedParts<'a, N, R> {
             seen,
             chats,
             wakers: wakers_of(alloc, readers)?,
-            desk: LockedDesk::new(rt, desk),
-            upward: MemoryWaker::new(alloc)?,
+            desk: LockedForwarder::new(rt, desk),
+            uplink_waker: MemoryWaker::new(alloc)?,
             counters: Counters::new(),
         })
     }
@@ -64,7 +65,11 @@ impl<'a, N: DeskName, R: Wait> SharedParts<'a, N, R> {
 }
 
 // What each of so many readers shares with its poller.
-fn chats_of(alloc: Global, readers: usize, seen: &Arc<AtomicU64>) -> Result<Vec<Chat>, Fault> {
+fn chats_of(
+    alloc: Global,
+    readers: usize,
+    seen: &Arc<AtomicU64>,
+) -> Result<Vec<Chat>, NodeCaseError> {
     let mut chats = Vec::new(alloc);
     for _ in 0..readers {
         chats.push(Chat::new(alloc, seen)?)?;
@@ -73,7 +78,7 @@ fn chats_of(alloc: Global, readers: usize, seen: &Arc<AtomicU64>) -> Result<Vec<
 }
 
 // What wakes each of so many workers.
-fn wakers_of(alloc: Global, workers: usize) -> Result<Vec<MemoryWaker>, Fault> {
+fn wakers_of(alloc: Global, workers: usize) -> Result<Vec<MemoryWaker>, NodeCaseError> {
     let mut wakers = Vec::new(alloc);
     for _ in 0..workers {
         wakers.push(MemoryWaker::new(alloc)?)?;
@@ -85,7 +90,7 @@ fn wakers_of(alloc: Global, workers: usize) -> Result<Vec<MemoryWaker>, Fault> {
 pub(crate) fn senders_of<K: NodeName, Q: FeedName>(
     alloc: Global,
     ends: Vec<FeedEnd<NodeLink<K>, Q>>,
-) -> Result<Vec<UpstreamSender<K, Q, Upstream>>, Fault>
+) -> Result<Vec<UpstreamSender<K, Q, ScriptedUpstream>>, NodeCaseError>
     requires unsent { AllByRecursion (λ e. e.1 ≡ []) ends.items }
 {
     let mut senders = Vec::new(alloc);
@@ -100,9 +105,9 @@ pub(crate) type MemoryThreads<'a, 'x, K, Q, N, R> = RelayThreads<
     'a,
     K,
     Q,
-    Upstream,
+    ScriptedUpstream,
     ReaderPoller,
-    LockedDesk<'x, N, R>,
+    LockedForwarder<'x, N, R>,
     MemoryWaker,
 >;
 
@@ -111,18 +116,18 @@ fn add_upstreams<'a, 'x, K: NodeName, Q: FeedName, N: DeskName + Send, R: Wait>(
     alloc: Global,
     threads: MemoryThreads<'a, 'x, K, Q, N, R>,
     common: &'a SharedParts<'x, N, R>,
-    senders: Vec<UpstreamSender<K, Q, Upstream>>,
-    upstreams: Vec<Vec<UpSession>>,
+    senders: Vec<UpstreamSender<K, Q, ScriptedUpstream>>,
+    upstreams: Vec<Vec<UpstreamScript>>,
     views: &mut Vec<View<K>>,
-) -> Result<MemoryThreads<'a, 'x, K, Q, N, R>, Fault> {
+) -> Result<MemoryThreads<'a, 'x, K, Q, N, R>, NodeCaseError> {
     let mut threads = threads;
     for (sender, sessions) in senders.into_iter().zip(upstreams) {
         let seen = common.seen.clone()?;
-        let view = views.pop().ok_or(Fault::BadCount)?;
+        let view = views.pop().ok_or(NodeCaseError::BadCount)?;
         let upstream = ovs_node_threads::Upstream {
             sender,
-            connector: Upstream::new(sessions, seen),
-            source: SharedSide::new(alloc, None),
+            connector: ScriptedUpstream::new(sessions, seen),
+            source: SharedUpstreamHandler::new(alloc, None),
         };
         threads.add_feed(upstream, view)?;
     }
@@ -136,7 +141,7 @@ fn pollers_of(
     waker: &MemoryWaker,
     request: &str,
     until: u64,
-) -> Result<UnusedPoller<ReaderPoller>, Fault> {
+) -> Result<UnusedPoller<ReaderPoller>, NodeCaseError> {
     let request = String::from_str(alloc, request)?;
     let (chat, waker) = (chat.again()?, waker.again()?);
     Ok(UnusedPoller::new(ReaderPoller::new(chat, waker, request, until)))
@@ -150,11 +155,11 @@ fn add_readers<'a, 'x, K: NodeName, Q: FeedName, N: DeskName + Send, R: Wait>(
     request: &str,
     until: u64,
     views: &mut Vec<View<K>>,
-) -> Result<MemoryThreads<'a, 'x, K, Q, N, R>, Fault> {
+) -> Result<MemoryThreads<'a, 'x, K, Q, N, R>, NodeCaseError> {
     let mut threads = threads;
     for (chat, waker) in common.chats.iter().zip(&common.wakers) {
         let poller = pollers_of(alloc, chat, waker, request, until)?;
-        threads.add_worker(poller, views.pop().ok_or(Fault::BadCount)?)?;
+        threads.add_worker(poller, views.pop().ok_or(NodeCaseError::BadCount)?)?;
     }
     Ok(threads)
 }
@@ -164,9 +169,9 @@ pub(crate) fn threads_of<'a, 'x, K: NodeName, Q: FeedName, N: DeskName + Send, R
     alloc: Global,
     talkers: Talkers,
     common: &'a SharedParts<'x, N, R>,
-    senders: Vec<UpstreamSender<K, Q, Upstream>>,
+    senders: Vec<UpstreamSender<K, Q, ScriptedUpstream>>,
     views: Vec<View<K>>,
-) -> Result<MemoryThreads<'a, 'x, K, Q, N, R>, Fault> {
+) -> Result<MemoryThreads<'a, 'x, K, Q, N, R>, NodeCaseError> {
     let Talkers {
         upstreams,
         until,

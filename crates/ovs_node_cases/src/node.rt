@@ -4,20 +4,20 @@ ghost use Rattle.std.specs.Prelude.{◌≡◌, ◌≤◌, [], IfOk};
 ghost use Rattle.ovs_node.specs.Nodes.{NodeInStep, OpenNodeInStep};
 ghost use Rattle.ovs_node.specs.Ledger.{IsFresh};
 
-use crate::fault::Fault;
 use crate::fold::{finished, fold_all};
-use crate::jobs::{Back, Done, Job, Jobs, Task};
+use crate::jobs::{Done, Jobs, TaskJob, TaskResult, ThreadTask};
+use crate::node_case_error::NodeCaseError;
 use crate::outcome::{measured, told};
-use crate::sendings::{Scene, Sending};
+use crate::sendings::{LinkSending, Scene};
 use left_right::ReadHandle;
 use ovs_links::Step;
 use ovs_node::{
-    Board, FeedEnd, FeedName, FeedQueue, Front, Handle, Node, NodeLink, NodeName, OpenNode, Opened,
-    Parts, View,
+    Board, FeedEnd, FeedName, FeedQueue, Handle, Node, NodeLink, NodeName, OpenNode, Opened, Parts,
+    StepPrefix, View,
 };
-use ovs_threads::{NotBegun, Work, beside};
+use ovs_threads::{SpawnError, Work, run_scoped};
 use ovs_types::{NoMemory, Schema};
-use ovs_views::Shown;
+use ovs_views::PublishedCopy;
 use std::alloc::Global;
 use std::marker::Brand;
 use std::sync::atomic::AtomicU64;
@@ -32,7 +32,7 @@ pub(crate) fn opened<K: NodeName + Send + Sync, R: Threads + Wait + Sync>(
     opened: Opened<Step>,
     views: usize,
     scene: Scene,
-) -> Result<String, Fault>
+) -> Result<String, NodeCaseError>
     requires name { (opened.seen.book ≡ K.book) × (schema.now ≡ K.schema) }
 {
     let node = OpenNode::<K, Handle<K, &R>>::new(alloc, rt, schema, opened, scene.ends(), views)?;
@@ -45,9 +45,9 @@ fn named<K: NodeName + Send + Sync, Q: FeedName + Send + Sync, R: Threads + Wait
     rt: &R,
     alloc: Global,
     node: OpenNode<K, Handle<K, &R>>,
-    sendings: Vec<Vec<Sending<K>>>,
+    sendings: Vec<Vec<LinkSending<K>>>,
     is_measured: bool,
-) -> Result<String, Fault>
+) -> Result<String, NodeCaseError>
     requires table { node.feed.items.table.shared.table_id ≡ Q.table }
     requires upstreams { node.upstreams ≤ 4 }
     requires store { IsFresh K.schema node.store }
@@ -62,7 +62,7 @@ fn named<K: NodeName + Send + Sync, Q: FeedName + Send + Sync, R: Threads + Wait
     } = node.named::<Q>()?;
     let sending = AtomicU64::new(ends.len() as u64);
     let jobs = jobs_of(alloc, ends, sendings, views)?;
-    let (backs, node) = fold_beside(rt, alloc, &queue, &board, &sending, jobs, node)?;
+    let (backs, node) = fold_with_threads(rt, alloc, &queue, &board, &sending, jobs, node)?;
     outcome(rt, alloc, &queue, &board, node, backs, is_measured)
 }
 
@@ -73,9 +73,9 @@ fn outcome<K: NodeName, Q: FeedName, H: Wait + Drop, R: Wait>(
     queue: &FeedQueue<NodeLink<K>, Q>,
     board: &Mutex<Board<K>>,
     node: Node<K, Q, Handle<K, H>>,
-    backs: Vec<Back<K, Q>>,
+    backs: Vec<TaskResult<K, Q>>,
     is_measured: bool,
-) -> Result<String, Fault>
+) -> Result<String, NodeCaseError>
     requires in_step { NodeInStep node }
 {
     let answers = answers_of(backs.as_slice());
@@ -89,7 +89,7 @@ fn outcome<K: NodeName, Q: FeedName, H: Wait + Drop, R: Wait>(
 }
 
 // How often all views answered that read.
-fn answers_of<K: NodeName, Q: FeedName>(backs: &[Back<K, Q>]) -> u64 {
+fn answers_of<K: NodeName, Q: FeedName>(backs: &[TaskResult<K, Q>]) -> u64 {
     let mut total = 0u64;
     for number in 0..backs.len() {
         if let Done::Read(answers) = &backs[number].0 {
@@ -103,49 +103,53 @@ fn answers_of<K: NodeName, Q: FeedName>(backs: &[Back<K, Q>]) -> u64 {
 fn jobs_of<K: NodeName, Q: FeedName>(
     alloc: Global,
     ends: Vec<FeedEnd<NodeLink<K>, Q>>,
-    sendings: Vec<Vec<Sending<K>>>,
+    sendings: Vec<Vec<LinkSending<K>>>,
     views: Vec<View<K>>,
-) -> Result<Vec<Job<K, Q>>, Fault> {
+) -> Result<Vec<TaskJob<K, Q>>, NodeCaseError> {
     let mut views = views;
     let mut jobs = Vec::new(alloc);
     for (end, sendings) in ends.into_iter().zip(sendings) {
-        let (handle, known) = views.pop().ok_or(Fault::BadCount)?.into_parts();
-        jobs.push((Task::Send(end, sendings), handle, known))?;
+        let (handle, known) = views.pop().ok_or(NodeCaseError::BadCount)?.into_parts();
+        jobs.push((ThreadTask::Send(end, sendings), handle, known))?;
     }
     for view in views {
         let (handle, known) = view.into_parts();
-        jobs.push((Task::Read, handle, known))?;
+        jobs.push((ThreadTask::Read, handle, known))?;
     }
     Ok(jobs)
 }
 
 // Does each task that has a view in a thread of its own, beside what is to be done here.
-fn beside_with_views<
+fn run_scoped_with_views<
     K: NodeName + Send + Sync,
     E: Send + Drop,
     F: Send + Drop,
-    W: Work<(E, ReadHandle<Shown<K>>, Front<K>), (F, ReadHandle<Shown<K>>, Front<K>)> + Sync,
+    W: Work<
+        (E, ReadHandle<PublishedCopy<K>>, StepPrefix<K>),
+        (F, ReadHandle<PublishedCopy<K>>, StepPrefix<K>),
+    >
+        + Sync,
     R: Threads + Wait + Sync,
     S: FnOnce() -> Z,
     Z,
 >(
     rt: &R,
     alloc: Global,
-    jobs: Vec<(E, ReadHandle<Shown<K>>, Front<K>)>,
+    jobs: Vec<(E, ReadHandle<PublishedCopy<K>>, StepPrefix<K>)>,
     work: &W,
     here: S,
 ) -> Result<
-    (Vec<(F, ReadHandle<Shown<K>>, Front<K>)>, Z),
-    NotBegun<(E, ReadHandle<Shown<K>>, Front<K>), S>,
+    (Vec<(F, ReadHandle<PublishedCopy<K>>, StepPrefix<K>)>, Z),
+    SpawnError<(E, ReadHandle<PublishedCopy<K>>, StepPrefix<K>), S>,
 >
     requires here { S.pre here }
     ensures here { IfOk result (λ r. S.post here r.1) }
 {
-    beside(rt, alloc, jobs, work, here)
+    run_scoped(rt, alloc, jobs, work, here)
 }
 
 // Each job in a thread of its own, and this one folds: what the jobs gave, and the node, which is still in step.
-fn fold_beside<
+fn fold_with_threads<
     'x,
     K: NodeName + Send + Sync,
     Q: FeedName + Send + Sync,
@@ -157,9 +161,9 @@ fn fold_beside<
     queue: &'x FeedQueue<NodeLink<K>, Q>,
     board: &'x Mutex<Board<K>>,
     sending: &'x AtomicU64,
-    jobs: Vec<Job<K, Q>>,
+    jobs: Vec<TaskJob<K, Q>>,
     node: Node<K, Q, Handle<K, H>>,
-) -> Result<(Vec<Back<K, Q>>, Node<K, Q, Handle<K, H>>), NoMemory>
+) -> Result<(Vec<TaskResult<K, Q>>, Node<K, Q, Handle<K, H>>), NoMemory>
     requires in_step { NodeInStep node }
     ensures in_step { IfOk result (λ r. NodeInStep r.1) }
 {
@@ -177,7 +181,7 @@ fn fold_beside<
         fold_all(rt, queue, board, sending, &mut node);
         node
     };
-    match beside_with_views(rt, alloc, jobs, &work, folds) {
+    match run_scoped_with_views(rt, alloc, jobs, &work, folds) {
         Ok(done) => Ok(done),
         Err(_not_begun) => Err(NoMemory),
     }

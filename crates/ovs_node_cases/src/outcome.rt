@@ -1,7 +1,7 @@
 //! What became of a node, as text.
 
-use crate::fault::Fault;
 use crate::ids::letter;
+use crate::node_case_error::NodeCaseError;
 use ovs_links::Settled;
 use ovs_node::{Board, FeedName, NodeName, Report, Told, View, teach};
 use ovs_query::Select;
@@ -13,7 +13,7 @@ use std::sync::{Mutex, Wait};
 fn ended<K: NodeName, Q: FeedName, H>(
     alloc: Global,
     report: &Report<K, Q, H>,
-) -> Result<String, Fault> {
+) -> Result<String, NodeCaseError> {
     let store = &report.store;
     let (head, links, chain) = (letter(store.head()), store.len(), store.chain_len());
     let (forks, short) = (report.forks, report.short);
@@ -27,7 +27,11 @@ fn ended<K: NodeName, Q: FeedName, H>(
 }
 
 // How many steps of a chain from the id 0 a view tells after the first n.
-fn told_after<K: NodeName>(alloc: Global, view: &mut View<K>, n: usize) -> Result<usize, Fault> {
+fn told_after<K: NodeName>(
+    alloc: Global,
+    view: &mut View<K>,
+    n: usize,
+) -> Result<usize, NodeCaseError> {
     let (_start, steps) = view.changes_since(alloc, TxnId::zero(), n)?;
     Ok(steps.len())
 }
@@ -38,7 +42,7 @@ pub(crate) fn told<K: NodeName, Q: FeedName, H>(
     alloc: Global,
     report: &Report<K, Q, H>,
     views: Vec<View<K>>,
-) -> Result<String, Fault> {
+) -> Result<String, NodeCaseError> {
     let mut told = ended(alloc, report)?;
     for view in views {
         let seen = seen_by(alloc, &report.told, view)?;
@@ -47,7 +51,11 @@ pub(crate) fn told<K: NodeName, Q: FeedName, H>(
     Ok(told)
 }
 
-fn seen_by<K: NodeName>(alloc: Global, told: &Told<K>, view: View<K>) -> Result<String, Fault> {
+fn seen_by<K: NodeName>(
+    alloc: Global,
+    told: &Told<K>,
+    view: View<K>,
+) -> Result<String, NodeCaseError> {
     let mut view = view;
     view.learn(told);
     let head = letter(view.head()?);
@@ -61,7 +69,7 @@ pub(crate) fn measured<K: NodeName, Q: FeedName, H>(
     alloc: Global,
     report: &Report<K, Q, H>,
     answers: u64,
-) -> Result<String, Fault> {
+) -> Result<String, NodeCaseError> {
     let chain = report.store.chain_len();
     Ok(format!(in alloc; "chain {chain} answers {answers}")?)
 }
@@ -80,7 +88,7 @@ fn answer_of<K: NodeName>(
     alloc: Global,
     view: &mut View<K>,
     question: &Question,
-) -> Result<String, Fault> {
+) -> Result<String, NodeCaseError> {
     match question {
         Question::Rows(select) => Ok(view.select(alloc, select)?.to_string(alloc)?),
         Question::Steps(n) => {
@@ -97,7 +105,7 @@ fn answers_of<K: NodeName, R: Wait>(
     board: &Mutex<Board<K>>,
     view: View<K>,
     questions: &[Question],
-) -> Result<String, Fault> {
+) -> Result<String, NodeCaseError> {
     let mut view = view;
     teach(rt, board, &mut view);
     let mut answers = String::from_str(alloc, " |")?;
@@ -117,7 +125,7 @@ pub(crate) fn shown<K: NodeName, Q: FeedName, H, R: Wait>(
     report: &Report<K, Q, H>,
     views: Vec<View<K>>,
     questions: &[Vec<Question>],
-) -> Result<String, Fault> {
+) -> Result<String, NodeCaseError> {
     let mut shown = ended(alloc, report)?;
     for (view, questions) in views.into_iter().zip(questions) {
         let answers = answers_of(rt, alloc, board, view, questions.as_slice())?;

@@ -3,7 +3,7 @@
 ghost use Rattle.std.specs.Prelude.{◌≡◌, ◌≤◌, [], ℕ, None, length};
 ghost use Rattle.ovs_worker.specs.Connections.{out_of};
 
-use crate::sessions::Script;
+use crate::sessions::ReaderScript;
 use ovs_session::Ended;
 use ovs_worker::{Connections, Poller, Ready, Timeout, Wakeup};
 use std::io::{self, ErrorKind, Read, Write};
@@ -34,7 +34,7 @@ impl<'a> Read for Pieces<'a> {
 pub(crate) struct Checked<'a> {
     rest: &'a [u8],
     piece: usize,
-    script: &'a Script,
+    script: &'a ReaderScript,
 }
 
 impl<'a> Write for Checked<'a> {
@@ -58,7 +58,7 @@ impl<'a> Write for Checked<'a> {
 /// Lets the sessions of these scripts in, one after another.
 #[derive(Drop)]
 pub(crate) struct MemoryPoller<'a> {
-    scripts: &'a [Script],
+    scripts: &'a [ReaderScript],
     piece: usize,
     have_all_come: &'a AtomicBool,
     // How many sessions came in.
@@ -72,7 +72,7 @@ pub(crate) struct MemoryPoller<'a> {
 impl<'a> MemoryPoller<'a> {
     /// None came in yet.
     pub(crate) fn new(
-        scripts: &'a [Script],
+        scripts: &'a [ReaderScript],
         piece: usize,
         have_all_come: &'a AtomicBool,
     ) -> MemoryPoller<'a>

@@ -3,8 +3,8 @@
 ghost use Rattle.std.specs.Prelude.{◌≡◌, [], ℕ, None, true};
 ghost use Rattle.ovs_worker.specs.Connections.{out_of};
 
-use crate::fault::Fault;
 use crate::ids::last_number_in;
+use crate::node_case_error::NodeCaseError;
 use ovs_session::Ended;
 use ovs_worker::{Connections, Poller, Ready, Timeout, Wake, Wakeup};
 use serde_json::Value;
@@ -18,7 +18,7 @@ use std::thread;
 const MOST_ASKED: u64 = 1_000_000;
 
 /// The request for what a select shows.
-pub(crate) fn request_text(alloc: Global, select: &Value) -> Result<String, Fault> {
+pub(crate) fn request_text(alloc: Global, select: &Value) -> Result<String, NodeCaseError> {
     let select = select.to_string(alloc)?;
     Ok(format!(in alloc;
         "{{\"method\":\"transact\",\"params\":[\"net\",{select}],\"id\":\"rows\"}}"
@@ -71,7 +71,7 @@ pub(crate) fn counter(alloc: Global) -> Result<Arc<AtomicU64>, AllocError> {
 
 /// Gives the next request once the one before is answered, until an answer showed the commit of a number.
 #[derive(Drop)]
-pub(crate) struct Asking {
+pub(crate) struct RequestSource {
     request: String,
     given: usize,
     asked: u64,
@@ -79,13 +79,13 @@ pub(crate) struct Asking {
     chat: Chat,
 }
 
-impl Asking {
+impl RequestSource {
     fn is_over(&self) -> bool {
         self.asked >= MOST_ASKED || self.chat.has_seen(self.until)
     }
 }
 
-impl Read for Asking {
+impl Read for RequestSource {
     fn read(&mut self, buf: &mut [u8]) -> io::Result<usize> {
         if self.given == self.request.len() {
             if self.chat.answered.load(Ordering::SeqCst) < self.asked {
@@ -168,7 +168,7 @@ pub(crate) struct ReaderPoller {
     has_come: bool,
     is_ready: bool,
     // The reader, while it is inside.
-    connections: Connections<Asking, Seeing>,
+    connections: Connections<RequestSource, Seeing>,
 }
 
 impl ReaderPoller {
@@ -190,7 +190,7 @@ impl ReaderPoller {
 }
 
 impl Poller for ReaderPoller {
-    type In = Asking;
+    type In = RequestSource;
 
     type Out = Seeing;
 
@@ -228,10 +228,10 @@ impl Poller for ReaderPoller {
         })
     }
 
-    fn accept(&mut self, key: usize) -> Option<(Asking, Seeing)> {
+    fn accept(&mut self, key: usize) -> Option<(RequestSource, Seeing)> {
         let request = self.request.take()?;
         self.has_come = true;
-        let reader = Asking {
+        let reader = RequestSource {
             given: request.len(),
             request,
             asked: 0,
@@ -245,7 +245,7 @@ impl Poller for ReaderPoller {
         Some((reader, writer))
     }
 
-    fn left(&mut self, key: usize, _reader: Asking, _writer: Seeing, _ended: Ended) {
+    fn left(&mut self, key: usize, _reader: RequestSource, _writer: Seeing, _ended: Ended) {
         self.connections.note_left(key);
     }
 }

@@ -2,9 +2,9 @@
 
 ghost use Rattle.std.specs.Prelude.{◌≡◌};
 
-use crate::fault::Fault;
 use crate::links::{id_of, read_link};
 use crate::many::link_after;
+use crate::node_case_error::NodeCaseError;
 use ovs_node::{NodeLink, NodeName};
 use ovs_types::{Schema, TxnId};
 use serde_json::Value;
@@ -12,7 +12,7 @@ use std::alloc::Global;
 
 /// A link, and the head for which its end waits before it sends it.
 #[derive(Drop)]
-pub(crate) struct Sending<K: NodeName> {
+pub(crate) struct LinkSending<K: NodeName> {
     pub(crate) after: Option<TxnId>,
     pub(crate) link: NodeLink<K>,
 }
@@ -22,11 +22,12 @@ fn read_sending<K: NodeName>(
     alloc: Global,
     schema: &Schema,
     json: &Value,
-) -> Result<Sending<K>, Fault>
+) -> Result<LinkSending<K>, NodeCaseError>
     requires schema { schema.now ≡ K.schema }
 {
-    let [after, prev, id, change] = json.as_array().ok_or(Fault::Malformed)?.as_slice() else {
-        return Err(Fault::Malformed);
+    let [after, prev, id, change] = json.as_array().ok_or(NodeCaseError::Malformed)?.as_slice()
+    else {
+        return Err(NodeCaseError::Malformed);
     };
     let after = if after.is_null() {
         None
@@ -35,7 +36,7 @@ fn read_sending<K: NodeName>(
     };
     let (prev, id) = (id_of(prev)?, id_of(id)?);
     let link = read_link(alloc, schema, prev, id, change)?;
-    Ok(Sending {
+    Ok(LinkSending {
         after,
         link: NodeLink::new(link),
     })
@@ -46,11 +47,11 @@ fn read_sendings<K: NodeName>(
     alloc: Global,
     schema: &Schema,
     json: &Value,
-) -> Result<Vec<Sending<K>>, Fault>
+) -> Result<Vec<LinkSending<K>>, NodeCaseError>
     requires schema { schema.now ≡ K.schema }
 {
     let mut sendings = Vec::new(alloc);
-    for sending in json.as_array().ok_or(Fault::Malformed)?.as_slice() {
+    for sending in json.as_array().ok_or(NodeCaseError::Malformed)?.as_slice() {
         sendings.push(read_sending(alloc, schema, sending)?)?;
     }
     Ok(sendings)
@@ -61,13 +62,13 @@ fn many_sendings<K: NodeName>(
     alloc: Global,
     schema: &Schema,
     steps: u64,
-) -> Result<Vec<Sending<K>>, Fault>
+) -> Result<Vec<LinkSending<K>>, NodeCaseError>
     requires schema { schema.now ≡ K.schema }
 {
     let mut sendings = Vec::new(alloc);
     for number in 0..steps {
         let link = link_after(alloc, schema, number)?;
-        sendings.push(Sending {
+        sendings.push(LinkSending {
             after: None,
             link: NodeLink::new(link),
         })?;
@@ -98,7 +99,7 @@ impl<'a> Scene<'a> {
         &self,
         alloc: Global,
         schema: &Schema,
-    ) -> Result<Vec<Vec<Sending<K>>>, Fault>
+    ) -> Result<Vec<Vec<LinkSending<K>>>, NodeCaseError>
         requires schema { schema.now ≡ K.schema }
     {
         let mut sendings = Vec::new(alloc);

@@ -1,13 +1,13 @@
 //! What the sessions of a worker send, and what is to come of it.
 
-use crate::fault::Fault;
+use crate::node_case_error::NodeCaseError;
 use serde_json::Value;
 use std::alloc::Global;
 use std::sync::atomic::{AtomicBool, AtomicU64, Ordering};
 
 /// What one session sends, what is to be written to it, and how far that has come.
 #[derive(Drop)]
-pub(crate) struct Script {
+pub(crate) struct ReaderScript {
     /// What its reader gives.
     pub(crate) text: String,
     /// What is to be written.
@@ -18,7 +18,7 @@ pub(crate) struct Script {
     pub(crate) is_wrong: AtomicBool,
 }
 
-impl Script {
+impl ReaderScript {
     /// Whether all that is to be written was, and nothing else.
     pub(crate) fn is_right(&self) -> bool {
         self.left.load(Ordering::SeqCst) == 0 && !self.is_wrong.load(Ordering::SeqCst)
@@ -31,14 +31,14 @@ fn request_of(
     number: usize,
     method: &Value,
     params: &Value,
-) -> Result<String, Fault> {
+) -> Result<String, NodeCaseError> {
     let method = method.to_string(alloc)?;
     let params = params.to_string(alloc)?;
     Ok(format!(in alloc; "{{\"method\":{method},\"params\":{params},\"id\":\"{number} of #\"}}")?)
 }
 
 // The reply to the request of this number.
-fn reply_of(alloc: Global, number: usize, answer: &Value) -> Result<String, Fault> {
+fn reply_of(alloc: Global, number: usize, answer: &Value) -> Result<String, NodeCaseError> {
     let answer = answer.to_string(alloc)?;
     Ok(format!(in alloc; "{{\"error\":null,\"id\":\"{number} of #\",\"result\":{answer}}}")?)
 }
@@ -50,9 +50,10 @@ fn add_exchange(
     json: &Value,
     text: &mut String,
     wanted: &mut String,
-) -> Result<(), Fault> {
-    let [method, params, result] = json.as_array().ok_or(Fault::Malformed)?.as_slice() else {
-        return Err(Fault::Malformed);
+) -> Result<(), NodeCaseError> {
+    let [method, params, result] = json.as_array().ok_or(NodeCaseError::Malformed)?.as_slice()
+    else {
+        return Err(NodeCaseError::Malformed);
     };
     text.push_str(request_of(alloc, number, method, params)?.as_str())?;
     wanted.push_str(reply_of(alloc, number, result)?.as_str())?;
@@ -60,10 +61,10 @@ fn add_exchange(
 }
 
 // What each session sends, and what is to be written to it, where `#` stands for its number.
-fn read_talk(alloc: Global, json: &Value) -> Result<(String, String), Fault> {
+fn read_talk(alloc: Global, json: &Value) -> Result<(String, String), NodeCaseError> {
     let mut text = String::new(alloc);
     let mut wanted = String::new(alloc);
-    let exchanges = json.as_array().ok_or(Fault::Malformed)?.as_slice();
+    let exchanges = json.as_array().ok_or(NodeCaseError::Malformed)?.as_slice();
     for (number, json) in exchanges.iter().enumerate() {
         add_exchange(alloc, number, json, &mut text, &mut wanted)?;
     }
@@ -71,11 +72,16 @@ fn read_talk(alloc: Global, json: &Value) -> Result<(String, String), Fault> {
 }
 
 // The script of the session of this number.
-fn script_of(alloc: Global, number: u64, text: &str, wanted: &str) -> Result<Script, Fault> {
+fn script_of(
+    alloc: Global,
+    number: u64,
+    text: &str,
+    wanted: &str,
+) -> Result<ReaderScript, NodeCaseError> {
     let number = format!(in alloc; "{number}")?;
     let text = text.replace(alloc, '#', number.as_str())?;
     let wanted = wanted.replace(alloc, '#', number.as_str())?;
-    Ok(Script {
+    Ok(ReaderScript {
         text,
         left: AtomicU64::new(wanted.len() as u64),
         wanted,
@@ -84,7 +90,11 @@ fn script_of(alloc: Global, number: u64, text: &str, wanted: &str) -> Result<Scr
 }
 
 /// The scripts of so many sessions.
-pub(crate) fn read_scripts(alloc: Global, count: u64, talk: &Value) -> Result<Vec<Script>, Fault> {
+pub(crate) fn read_scripts(
+    alloc: Global,
+    count: u64,
+    talk: &Value,
+) -> Result<Vec<ReaderScript>, NodeCaseError> {
     let (text, wanted) = read_talk(alloc, talk)?;
     let mut scripts = Vec::new(alloc);
     for number in 0..count {

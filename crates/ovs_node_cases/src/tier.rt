@@ -1,13 +1,14 @@
 //! A source and a relay behind it, over sockets and in one process, with a client of the relay: what the client is answered, and
 //! what both nodes say at their ends.
 
-use crate::client::Client;
-use crate::fault::Fault;
+use crate::client::RequestClient;
 use crate::links::id_of;
+use crate::node_case_error::NodeCaseError;
 use log::{LevelFilter, Log, Logged};
 use ovs_data::{RowId, TxnId};
 use ovs_server::{ExitReport, NodeRuntime, NodeServer, RelayPlan, ServerError, SourcePlan, Stop};
 use ovs_types::Schema;
+use ovs_wire::MAX_MESSAGE_BYTES;
 use serde_json::Value;
 use std::alloc::Global;
 use std::net::{Net, SocketAddr, TcpStream};
@@ -31,14 +32,14 @@ pub(crate) struct Scene {
 
 impl Scene {
     /// What stands in a line.
-    pub(crate) fn read(alloc: Global, parts: &[Value]) -> Result<Scene, Fault> {
+    pub(crate) fn read(alloc: Global, parts: &[Value]) -> Result<Scene, NodeCaseError> {
         let [commit, row, insert, select] = parts else {
-            return Err(Fault::Malformed);
+            return Err(NodeCaseError::Malformed);
         };
-        let row = row.as_str().ok_or(Fault::Malformed)?;
+        let row = row.as_str().ok_or(NodeCaseError::Malformed)?;
         Ok(Scene {
             first_commit: id_of(commit)?,
-            first_row: RowId::read(row).or(Err(Fault::Malformed))?,
+            first_row: RowId::read(row).or(Err(NodeCaseError::Malformed))?,
             insert: insert.to_string(alloc)?,
             select: select.to_string(alloc)?,
         })
@@ -49,13 +50,13 @@ impl Scene {
 type NodeEnd = Result<ExitReport, ServerError>;
 
 // What the client was answered.
-type ClientAnswers = Result<(String, String), Fault>;
+type ClientAnswers = Result<(String, String), NodeCaseError>;
 
 // An address of this machine, with a port that the system chooses.
-fn any_port() -> Result<SocketAddr, Fault> {
+fn any_port() -> Result<SocketAddr, NodeCaseError> {
     "127.0.0.1:0"
         .parse::<SocketAddr>()
-        .or(Err(Fault::Malformed))
+        .or(Err(NodeCaseError::Malformed))
 }
 
 // A source whose first commit and first row have the ids of the scene.
@@ -63,7 +64,7 @@ fn source<R: NodeRuntime + Log>(
     rt: R,
     alloc: Global,
     scene: &Scene,
-) -> Result<NodeServer<R>, Fault> {
+) -> Result<NodeServer<R>, NodeCaseError> {
     let plan = SourcePlan {
         listen: any_port()?,
         first_commit: scene.first_commit,
@@ -79,12 +80,13 @@ fn relay<R: NodeRuntime + Log>(
     rt: R,
     alloc: Global,
     upstream: SocketAddr,
-) -> Result<NodeServer<R>, Fault> {
+) -> Result<NodeServer<R>, NodeCaseError> {
     let plan = RelayPlan {
         listen: any_port()?,
         upstreams: &[Vec::from_slice(alloc, &[upstream])?],
         accepts: Some(MOST_CONNECTIONS),
         tries: Some(MOST_CONNECTIONS),
+        most_bytes: MAX_MESSAGE_BYTES,
         ends_on_refusal: false,
         prunes: false,
     };
@@ -105,7 +107,7 @@ struct Talk<'a> {
 impl<'a> Talk<'a> {
     // Inserts the row, and selects until one is shown: what was answered to the insert, and to the last select.
     fn answers<R: Net<Stream = TcpStream>>(&self, rt: &R) -> ClientAnswers {
-        let mut client = Client::connect(rt, self.alloc, self.address)?;
+        let mut client = RequestClient::connect(rt, self.alloc, self.address)?;
         let inserted = client.transact(self.scene.insert.as_str())?;
         for _ in 0..MOST_SELECTS {
             let shown = client.transact(self.scene.select.as_str())?;
@@ -113,7 +115,7 @@ impl<'a> Talk<'a> {
                 return Ok((inserted, shown));
             }
         }
-        Err(Fault::NotShown)
+        Err(NodeCaseError::NotShown)
     }
 
     // The same, and then both nodes are brought to their ends.
@@ -128,7 +130,7 @@ impl<'a> Talk<'a> {
 
 // Runs a source and a relay, each in a thread of its own, and their client in this one: what came of each. The nodes and what runs them
 // go apart to the threads, so that it is known of each node's type alone that it may.
-fn beside<
+fn run_both<
     R: Threads + Net<Stream = TcpStream> + Sync,
     S: Send + Drop,
     N: Send + Drop,
@@ -158,12 +160,12 @@ fn told(
     alloc: Global,
     answers: &(String, String),
     exit_reports: &[Result<ExitReport, ServerError>],
-) -> Result<String, Fault> {
+) -> Result<String, NodeCaseError> {
     let (inserted, shown) = answers;
     let mut told = format!(in alloc; "{inserted} | {shown}")?;
     for exit_report in exit_reports {
         let Ok(exit_report) = exit_report else {
-            return Err(Fault::NotDrained);
+            return Err(NodeCaseError::NotDrained);
         };
         let lines = exit_report.text.as_str().trim().replace(alloc, '\n', " ")?;
         told.push_str(" | ")?;
@@ -178,7 +180,7 @@ pub(crate) fn run_tier<R: NodeRuntime + Log>(
     alloc: Global,
     schema: &Schema,
     scene: &Scene,
-) -> Result<String, Fault> {
+) -> Result<String, NodeCaseError> {
     let quiet = Logged::new(rt, LevelFilter::Off, rt);
     let source = source(quiet, alloc, scene)?;
     let relay = relay(quiet, alloc, source.address())?;
@@ -189,7 +191,7 @@ pub(crate) fn run_tier<R: NodeRuntime + Log>(
         scene,
         stops: &stops,
     };
-    let (of_source, (of_relay, answers)) = beside(
+    let (of_source, (of_relay, answers)) = run_both(
         &rt,
         source,
         |source: NodeServer<Logged<R, R>>| source.run(schema),

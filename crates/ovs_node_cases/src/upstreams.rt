@@ -1,9 +1,10 @@
 //! What an upstream says over memory, session by session.
 
-use crate::fault::Fault;
 use crate::ids::{number_of, text_of};
+use crate::node_case_error::NodeCaseError;
 use ovs_node_threads::Connector;
 use ovs_types::{Schema, TxnId};
+use ovs_wire::MAX_MESSAGE_BYTES;
 use serde_json::Value;
 use std::alloc::Global;
 use std::collections::VecDeque;
@@ -17,7 +18,7 @@ const TURNS: u64 = 1_000_000;
 
 /// One session of an upstream.
 #[derive(Drop)]
-pub(crate) struct UpSession {
+pub(crate) struct UpstreamScript {
     /// It begins once a reader has seen the commit of this number.
     pub(crate) after: u64,
     /// What the upstream says.
@@ -40,10 +41,10 @@ fn wait_for(seen: &AtomicU64, number: u64) -> bool {
 }
 
 // `[KNOWN, ID, CHANGES]`, the answer to a monitor request, or `[ID, CHANGES]`, what comes after it.
-fn message_text(alloc: Global, json: &Value) -> Result<String, Fault> {
-    match json.as_array().ok_or(Fault::Malformed)?.as_slice() {
+fn message_text(alloc: Global, json: &Value) -> Result<String, NodeCaseError> {
+    match json.as_array().ok_or(NodeCaseError::Malformed)?.as_slice() {
         [known, id, changes] => {
-            let known = known.as_bool().ok_or(Fault::Malformed)?;
+            let known = known.as_bool().ok_or(NodeCaseError::Malformed)?;
             let id = id_in(id)?;
             let changes = changes.to_string(alloc)?;
             Ok(format!(in alloc;
@@ -57,47 +58,58 @@ fn message_text(alloc: Global, json: &Value) -> Result<String, Fault> {
                 "{{\"method\":\"update3\",\"params\":[\"relay\",\"{id}\",{changes}],\"id\":null}}"
             )?)
         }
-        _ => Err(Fault::Malformed),
+        _ => Err(NodeCaseError::Malformed),
     }
 }
 
 // How the id is written that a letter stands for.
-fn id_in(json: &Value) -> Result<&'static str, Fault> {
-    text_of(json.as_str().ok_or(Fault::Malformed)?)
+fn id_in(json: &Value) -> Result<&'static str, NodeCaseError> {
+    text_of(json.as_str().ok_or(NodeCaseError::Malformed)?)
 }
 
 // The number of the commit that a reader is to have seen; 0 where null stands.
-pub(crate) fn number_in(json: &Value) -> Result<u64, Fault> {
+pub(crate) fn number_in(json: &Value) -> Result<u64, NodeCaseError> {
     if json.is_null() {
         return Ok(0);
     }
-    number_of(json.as_str().ok_or(Fault::Malformed)?)
+    number_of(json.as_str().ok_or(NodeCaseError::Malformed)?)
 }
 
 // Behind how many bytes a session breaks off: at its end where nothing stands there.
-fn bytes_in(parts: &[Value]) -> Result<usize, Fault> {
+fn bytes_in(parts: &[Value]) -> Result<usize, NodeCaseError> {
     match parts {
         [] => Ok(usize::MAX),
-        [bytes] => Ok(bytes.as_u64().ok_or(Fault::Malformed)? as usize),
-        _ => Err(Fault::Malformed),
+        [bytes] => Ok(bytes.as_u64().ok_or(NodeCaseError::Malformed)? as usize),
+        _ => Err(NodeCaseError::Malformed),
     }
 }
 
 // `[AFTER, UNTIL, [MESSAGE, ..]]`, where the reply with the schema comes before the messages; or `[AFTER, UNTIL, [MESSAGE, ..], BYTES]`
 // for a session that breaks off behind so many bytes of that.
-fn read_session(alloc: Global, schema: &Schema, json: &Value) -> Result<UpSession, Fault> {
-    let [after, until, messages, rest @ ..] = json.as_array().ok_or(Fault::Malformed)?.as_slice()
+fn read_session(
+    alloc: Global,
+    schema: &Schema,
+    json: &Value,
+) -> Result<UpstreamScript, NodeCaseError> {
+    let [after, until, messages, rest @ ..] = json
+        .as_array()
+        .ok_or(NodeCaseError::Malformed)?
+        .as_slice()
     else {
-        return Err(Fault::Malformed);
+        return Err(NodeCaseError::Malformed);
     };
     let bytes = bytes_in(rest)?;
     let schema = schema.to_json()?.to_string(alloc)?;
     let mut text = format!(in alloc; "{{\"id\":\"schema\",\"result\":{schema},\"error\":null}}")?;
-    for message in messages.as_array().ok_or(Fault::Malformed)?.as_slice() {
+    for message in messages
+        .as_array()
+        .ok_or(NodeCaseError::Malformed)?
+        .as_slice()
+    {
         let message = message_text(alloc, message)?;
         text.push_str(message.as_str())?;
     }
-    Ok(UpSession {
+    Ok(UpstreamScript {
         after: number_in(after)?,
         text,
         bytes,
@@ -110,9 +122,9 @@ pub(crate) fn read_sessions(
     alloc: Global,
     schema: &Schema,
     json: &Value,
-) -> Result<Vec<UpSession>, Fault> {
+) -> Result<Vec<UpstreamScript>, NodeCaseError> {
     let mut sessions = Vec::new(alloc);
-    for session in json.as_array().ok_or(Fault::Malformed)?.as_slice() {
+    for session in json.as_array().ok_or(NodeCaseError::Malformed)?.as_slice() {
         sessions.push(read_session(alloc, schema, session)?)?;
     }
     Ok(sessions)
@@ -121,7 +133,7 @@ pub(crate) fn read_sessions(
 /// What an upstream says in a session. Its end comes once a reader has seen what it is to see.
 #[derive(Drop)]
 pub(crate) struct Saying {
-    session: UpSession,
+    session: UpstreamScript,
     given: usize,
     seen: Arc<AtomicU64>,
 }
@@ -159,27 +171,31 @@ impl Write for Unheard {
 
 /// Connections with one upstream.
 #[derive(Drop)]
-pub(crate) struct Upstream {
-    sessions: VecDeque<UpSession>,
+pub(crate) struct ScriptedUpstream {
+    sessions: VecDeque<UpstreamScript>,
     seen: Arc<AtomicU64>,
 }
 
-impl Upstream {
+impl ScriptedUpstream {
     /// One for each of these sessions.
-    pub(crate) fn new(sessions: Vec<UpSession>, seen: Arc<AtomicU64>) -> Upstream {
-        Upstream {
+    pub(crate) fn new(sessions: Vec<UpstreamScript>, seen: Arc<AtomicU64>) -> ScriptedUpstream {
+        ScriptedUpstream {
             sessions: VecDeque::from_vec(sessions),
             seen,
         }
     }
 }
 
-impl Connector for Upstream {
+impl Connector for ScriptedUpstream {
     type In = Saying;
 
     type Out = Unheard;
 
     ghost admits = { λ _ _. Unit {0} };
+
+    fn most_bytes(&self) -> usize {
+        MAX_MESSAGE_BYTES
+    }
 
     fn next(&mut self) -> bool {
         match self.sessions.front() {

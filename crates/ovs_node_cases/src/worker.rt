@@ -4,12 +4,12 @@ ghost use Rattle.std.specs.Prelude.{◌≡◌, ◌≤◌, []};
 ghost use Rattle.ovs_node.specs.Nodes.{OpenNodeInStep};
 ghost use Rattle.ovs_node.specs.Ledger.{IsFresh};
 
-use crate::fault::Fault;
 use crate::hosts::WorkerHost;
 use crate::ids::commit;
 use crate::links::read_link;
+use crate::node_case_error::NodeCaseError;
 use crate::poller::MemoryPoller;
-use crate::sessions::{Script, read_scripts};
+use crate::sessions::{ReaderScript, read_scripts};
 use ovs_desk::RelayDesk;
 use ovs_json::Text;
 use ovs_links::Step;
@@ -47,7 +47,7 @@ pub(crate) fn opened<K: NodeName, R: Wait>(
     schema: &Schema,
     opened: Opened<Step>,
     scene: Scene,
-) -> Result<String, Fault>
+) -> Result<String, NodeCaseError>
     requires name { (opened.seen.book ≡ K.book) × (schema.now ≡ K.schema) }
 {
     let id = commit("a")?;
@@ -64,7 +64,7 @@ fn published<K: NodeName, Q: FeedName, R: Wait>(
     node: OpenNode<K, Handle<K, &R>>,
     link: NodeLink<K>,
     scene: Scene,
-) -> Result<String, Fault>
+) -> Result<String, NodeCaseError>
     requires table { node.feed.items.table.shared.table_id ≡ Q.table }
     requires upstreams { node.upstreams ≤ 4 }
     requires store { IsFresh K.schema node.store }
@@ -77,8 +77,8 @@ fn published<K: NodeName, Q: FeedName, R: Wait>(
         mut views,
         board,
     } = node.named::<Q>()?;
-    let mut end = ends.pop().ok_or(Fault::BadCount)?;
-    let view = views.pop().ok_or(Fault::BadCount)?;
+    let mut end = ends.pop().ok_or(NodeCaseError::BadCount)?;
+    let view = views.pop().ok_or(NodeCaseError::BadCount)?;
     end.send(rt, &queue, link);
     node.fold_next(rt, &queue, &board)?;
     served(rt, alloc, view, scene)
@@ -90,9 +90,9 @@ fn served<K: NodeName, R: Wait>(
     alloc: Global,
     view: View<K>,
     scene: Scene,
-) -> Result<String, Fault> {
+) -> Result<String, NodeCaseError> {
     if scene.piece == 0 {
-        return Err(Fault::Malformed);
+        return Err(NodeCaseError::Malformed);
     }
     let scripts = read_scripts(alloc, scene.sessions, scene.talk)?;
     let desk = Unshared::new(RelayDesk::new(alloc, Text::new(alloc, "net")?));
@@ -110,7 +110,11 @@ fn served<K: NodeName, R: Wait>(
 }
 
 // How many sessions ended, how many messages they answered, and how many of them were written what they were to be.
-fn told(alloc: Global, totals: SessionTotals, scripts: &[Script]) -> Result<String, Fault> {
+fn told(
+    alloc: Global,
+    totals: SessionTotals,
+    scripts: &[ReaderScript],
+) -> Result<String, NodeCaseError> {
     let right = scripts.iter().filter(|script| script.is_right()).count();
     let SessionTotals { sessions, counts } = totals;
     let (messages, bytes) = (counts.messages, counts.bytes_out);

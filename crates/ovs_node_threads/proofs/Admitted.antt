@@ -17,10 +17,10 @@ AllOf-any S all [] = tt
 AllOf-any S all (x ∷ xs) = (all x, AllOf-any S all xs)
 
 -- what a session added to what was sent may come of the connection
-pub admitted_more : (admits : SchemaValue → Link → Type 0) (schema : SchemaValue) (asked : ℕ) (remaining : Option (List ℕ)) (old new : List Link) → AdmitsBytes admits asked remaining
-    → IfSome remaining (λ bytes. SendsFirst (opening schema asked) bytes old new) → AllOf (admits schema) old → AllOf (admits schema) new
-admitted_more admits schema asked None old new lawful sends was = AllOf-any (admits schema) (lawful schema) new
-admitted_more admits schema asked (Some bytes) old new lawful sends was =
-    let links = lawful schema sends.links sends.derived in
+pub admitted_more : (most : ℕ) (admits : SchemaValue → Link → Type 0) (schema : SchemaValue) (asked : ℕ) (remaining : Option (List ℕ)) (old new : List Link) → AdmitsBytes admits asked remaining
+    → IfSome remaining (λ bytes. SendsFirst most (opening schema asked) bytes old new) → AllOf (admits schema) old → AllOf (admits schema) new
+admitted_more most admits schema asked None old new lawful sends was = AllOf-any (admits schema) (lawful schema) new
+admitted_more most admits schema asked (Some bytes) old new lawful sends was =
+    let links = lawful most schema sends.links sends.derived in
     let first = AllOf-left (admits schema) sends.first sends.rest (subst (λ ls. AllOf (admits schema) ls) sends.whole links) in
     subst (λ ls. AllOf (admits schema) ls) (sym sends.sent) (AllOf-append (admits schema) old sends.first was first)

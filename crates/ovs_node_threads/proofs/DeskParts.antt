@@ -6,7 +6,7 @@ use denote.Param.SendFields.{declared_sync}
 use Rattle.std.proofs.Crossing as heap
 use Rattle.ovs_recorded_desk.specs.contracts.recorded_desk.RecordedDesk as recorded_desk
 use Rattle.ovs_recorded_desk.specs.declared.name.DeskName.{Ghosts}
-use Rattle.ovs_node_threads.specs.contracts.shared_authority.LockedDesk as locked_desk
+use Rattle.ovs_node_threads.specs.contracts.shared_authority.LockedForwarder as locked_desk
 
 pub relay_lock_shares : (ℓ : NamedLft) (N : RattleType) (name : Ghosts N.Denot) (R : RattleType) → IsSend (recorded_desk.the_row N name) → IsSync R
     → IsSync (locked_desk.the_row ℓ N R name)

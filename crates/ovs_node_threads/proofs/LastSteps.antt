@@ -22,18 +22,18 @@ replies_to old new id (Some (Request method params asked)) h = h
 replies_to old new id (Some (Notice method params)) h = h
 
 -- what replies to a session ends a run of the desk
-pub asked : (database : List ℕ) (who : ℕ) (ask : Ask) (before after : RecordedValue) (r : Result (Option Message) NoMemory)
-    → IfOk r (λ m. AsksTo (owing_of before.desk who) ask.id m (owing_of after.desk who)) → IfOk r (λ m. IsStep database (steps.Asked who ask m) before after)
-    → IfOk r (λ m. EndsRun database (steps.Asked who ask m) × RepliesTo ask.id m)
-asked database who ask before after (Ok m) replied is =
-    (ends_run database (steps.Asked who ask m) before after is, replies_to (owing_of before.desk who) (owing_of after.desk who) ask.id m replied)
-asked database who ask before after (Err x) replied is = tt
+pub asked : (database : List ℕ) (session_id : ℕ) (ask : Ask) (before after : RecordedValue) (r : Result (Option Message) NoMemory)
+    → IfOk r (λ m. AsksTo (owing_of before.desk session_id) ask.id m (owing_of after.desk session_id)) → IfOk r (λ m. IsStep database (steps.Asked session_id ask m) before after)
+    → IfOk r (λ m. EndsRun database (steps.Asked session_id ask m) × RepliesTo ask.id m)
+asked database session_id ask before after (Ok m) replied is =
+    (ends_run database (steps.Asked session_id ask m) before after is, replies_to (owing_of before.desk session_id) (owing_of after.desk session_id) ask.id m replied)
+asked database session_id ask before after (Err x) replied is = tt
 
 -- a message that is given is
-pub given : (who : ℕ) (known now : List DeskStep) (o : Option Message) → EndsWith (steps.Collected who o) known now
-    → IfSome o (λ m. EndsWith (steps.Collected who (Some m)) known now)
-given who known now None ends = tt
-given who known now (Some m) ends = ends
+pub given : (session_id : ℕ) (known now : List DeskStep) (o : Option Message) → EndsWith (steps.Collected session_id o) known now
+    → IfSome o (λ m. EndsWith (steps.Collected session_id (Some m)) known now)
+given session_id known now None ends = tt
+given session_id known now (Some m) ends = ends
 
 -- a step that stands last behind what was known later does so behind what was known before
 pub ends_behind : (s : DeskStep) (known then now : List DeskStep) → IsPrefix known then → EndsWith s then now → EndsWith s known now

@@ -8,10 +8,10 @@ use Rattle.ovs_upstream.specs.Hearing.{opening}
 use Rattle.ovs_follow.specs.Deriving.{AreDerived}
 
 -- the bytes of a connection that was asked for what comes after an id stand, read with a schema, for links alone that are admitted
--- with it; where the bytes aren't told, any link is admitted
+-- with it, however many bytes a message may have there; where the bytes aren't told, any link is admitted
 abbrev pub AdmitsBytes : (SchemaValue → Link → Type 0) → ℕ → Option (List ℕ) → Type 0
 AdmitsBytes admits asked None = (schema : SchemaValue) (l : Link) → admits schema l
-AdmitsBytes admits asked (Some bytes) = (schema : SchemaValue) (links : List Link) → AreDerived (opening schema asked) bytes links → AllOf (admits schema) links
+AdmitsBytes admits asked (Some bytes) = (most : ℕ) (schema : SchemaValue) (links : List Link) → AreDerived most (opening schema asked) bytes links → AllOf (admits schema) links
 
 -- read with its schema, a link of this history
 abbrev pub AmongHistory : SchemaValue → EpochHistory → SchemaValue → Link → Type 0

@@ -21,6 +21,9 @@ pub trait Connector {
     // The links that may come of its connections, where these are read with a schema.
     ghost admits: { SchemaValue → Link → Type 0 };
 
+    /// How many bytes a message may have that comes over one of them.
+    fn most_bytes(&self) -> usize;
+
     /// Whether there is to be another connection; it may wait until there is.
     fn next(&mut self) -> bool;
 

@@ -1,4 +1,4 @@
-//! The sides of a node's desk.
+//! What the threads of a node call its desk by.
 
 ghost use Rattle.std.specs.Prelude.{◌≡◌, [], Some, None, IfSome, option_map};
 ghost use Rattle.ovs_authority.specs.declared.ask.Ask.{Ask};
@@ -6,14 +6,14 @@ ghost use Rattle.ovs_service.specs.Replies.{seen_ask};
 
 use crate::folding::wake_all;
 use crate::progress::Progress;
-use crate::shared_authority::{KnownDesk, SharedAuthority, UpwardDesk};
+use crate::shared_authority::{KnownDesk, SharedAuthority, SharedForwarder};
 use crate::workers::worker_of;
 use ovs_authority::{Ask, Verb};
 use ovs_desk::{BadReply, SourceMessage};
-use ovs_follow::{SideCall, SourceSide, note_found, note_heard, note_taken};
+use ovs_follow::{HandlerCall, UpstreamHandler, note_found, note_heard, note_taken};
 use ovs_history::GhostList;
-use ovs_json::NoMemory;
-use ovs_service::{Asker, Desk, copy_ask};
+use ovs_json::{NoMemory, SessionId};
+use ovs_service::{ServiceAuthority, SessionToken, copy_ask};
 use ovs_types::TxnId;
 use ovs_views::{NodeName, View, ViewError, ViewSession};
 use ovs_wire::Message;
@@ -23,7 +23,7 @@ use std::snapshot::Snapshot;
 
 /// The desk that passes requests on to the source, with what wakes the workers whose sessions are owed something.
 #[derive(Drop)]
-pub struct ForwardingDesk<'a, L: UpwardDesk, B: Wake> {
+pub struct ForwardingDesk<'a, L: SharedForwarder, B: Wake> {
     /// The desk.
     pub desk: &'a L,
     /// What wakes the workers.
@@ -37,20 +37,20 @@ pub struct ForwardingDesk<'a, L: UpwardDesk, B: Wake> {
 #[derive(Drop)]
 pub(crate) struct SharedDesk<'a, L: KnownDesk, U: Wake, B: Wake> {
     desk: &'a L,
-    upward: &'a U,
+    uplink_waker: &'a U,
     wakers: &'a [B],
     progress: &'a Progress,
     // Of the calls on the desk, those up to the last one of this worker.
     known: L::Known,
     // The sessions that it ended.
-    ended: GhostList<u64>,
+    ended: GhostList<SessionId>,
 }
 
 impl<'a, L: KnownDesk, U: Wake, B: Wake> SharedDesk<'a, L, U, B> {
     /// Nobody asked yet.
     pub(crate) fn new(
         desk: &'a L,
-        upward: &'a U,
+        uplink_waker: &'a U,
         wakers: &'a [B],
         progress: &'a Progress,
     ) -> SharedDesk<'a, L, U, B>
@@ -58,7 +58,7 @@ impl<'a, L: KnownDesk, U: Wake, B: Wake> SharedDesk<'a, L, U, B> {
     {
         SharedDesk {
             desk,
-            upward,
+            uplink_waker,
             wakers,
             progress,
             known: desk.known(),
@@ -67,24 +67,27 @@ impl<'a, L: KnownDesk, U: Wake, B: Wake> SharedDesk<'a, L, U, B> {
     }
 }
 
-impl<'a, K: NodeName, L: SharedAuthority<K>, U: Wake, B: Wake> Desk<K> for SharedDesk<'a, L, U, B> {
+impl<'a, K: NodeName, L: SharedAuthority<K>, U: Wake, B: Wake> ServiceAuthority<K>
+    for SharedDesk<'a, L, U, B> {
     // What is asked is an equal copy.
-    ghost replies = { λ who ask r. (copy : Ask) × (seen_ask copy ≡ seen_ask ask) × L.replies who copy r };
+    ghost replies = { λ session_id ask r. (copy : Ask) × (seen_ask copy ≡ seen_ask ask) × L.replies session_id copy r };
 
-    ghost owes = { λ held who steps m. L.owes held who steps m };
+    ghost owes = { λ held session_id steps m. L.owes held session_id steps m };
 
     ghost ended = { λ desk. desk.ended };
 
     fn ask(
         &mut self,
         alloc: Global,
-        asker: &mut Asker,
+        token: &mut SessionToken,
         ask: &Ask,
     ) -> Result<Option<Message>, NoMemory> {
         let copy = copy_ask(ask)?;
-        let reply = self.desk.ask(alloc, asker.who(), copy, &mut self.known)?;
-        asker.note_asked(ask, &reply);
-        self.upward.wake();
+        let reply = self
+            .desk
+            .ask(alloc, token.session_id(), copy, &mut self.known)?;
+        token.note_asked(ask, &reply);
+        self.uplink_waker.wake();
         // The lock has another owner then.
         if matches!(ask.verb, Verb::Steal(_) | Verb::Unlock(_)) {
             wake_all(self.wakers);
@@ -99,26 +102,31 @@ impl<'a, K: NodeName, L: SharedAuthority<K>, U: Wake, B: Wake> Desk<K> for Share
     fn collect(
         &mut self,
         alloc: Global,
-        asker: &mut Asker,
+        token: &mut SessionToken,
         is_held_back: bool,
         view: &mut View<K>,
         session: &ViewSession<K>,
     ) -> Result<Option<Message>, ViewError> {
-        let who = asker.who();
-        let message = self
-            .desk
-            .collect(alloc, who, is_held_back, view, session, &mut self.known)?;
-        asker.note_collected(is_held_back, &message);
+        let session_id = token.session_id();
+        let message = self.desk.collect(
+            alloc,
+            session_id,
+            is_held_back,
+            view,
+            session,
+            &mut self.known,
+        )?;
+        token.note_collected(is_held_back, &message);
         Ok(message)
     }
 
-    fn end_session(&mut self, asker: &Asker) {
-        let who = asker.who();
-        self.desk.end_session(who, &mut self.known);
-        self.ended.push(&who);
+    fn end_session(&mut self, token: &SessionToken) {
+        let session_id = token.session_id();
+        self.desk.end_session(session_id, &mut self.known);
+        self.ended.push(&session_id);
         // Others may wait for a lock that it had.
-        if asker.has_locks() {
-            self.upward.wake();
+        if token.has_locks() {
+            self.uplink_waker.wake();
             wake_all(self.wakers);
         }
     }
@@ -134,7 +142,7 @@ fn standing_of(message: &SourceMessage) -> Option<TxnId> {
 
 // The desk, and of the calls on it those up to the last one of this thread.
 #[derive(Drop)]
-pub(crate) struct Uplink<'a, L: UpwardDesk> {
+pub(crate) struct KnownForwarder<'a, L: SharedForwarder> {
     pub(crate) desk: &'a L,
     known: L::Known,
 }
@@ -142,18 +150,21 @@ pub(crate) struct Uplink<'a, L: UpwardDesk> {
 /// The desk as the thread of the upstream sees it that is the source. That of another upstream's thread has no desk: nothing is
 /// passed on, and what comes aside is let go.
 #[derive(Drop)]
-pub struct SharedSide<'a, L: UpwardDesk, B: Wake> {
+pub struct SharedUpstreamHandler<'a, L: SharedForwarder, B: Wake> {
     alloc: Global,
-    uplink: Option<Uplink<'a, L>>,
+    uplink: Option<KnownForwarder<'a, L>>,
     // What wakes the workers, whose sessions may be owed something then.
     wakers: &'a [B],
     // How far the folder has come, where no other upstream sends it links.
     progress: Option<&'a Progress>,
 }
 
-impl<'a, L: UpwardDesk, B: Wake> SharedSide<'a, L, B> {
-    /// The side of this desk, or that of an upstream that isn't the source.
-    pub fn new(alloc: Global, source: Option<ForwardingDesk<'a, L, B>>) -> SharedSide<'a, L, B>
+impl<'a, L: SharedForwarder, B: Wake> SharedUpstreamHandler<'a, L, B> {
+    /// The handler of this desk, or that of an upstream that isn't the source.
+    pub fn new(
+        alloc: Global,
+        source: Option<ForwardingDesk<'a, L, B>>,
+    ) -> SharedUpstreamHandler<'a, L, B>
         ensures desk { option_map (λ (up : _). up.desk) result.uplink ≡ option_map (λ (s : _). s.desk) source.entry }
         ensures wakers { IfSome source.entry (λ s. result.wakers ≡ s.wakers) }
     {
@@ -165,7 +176,7 @@ impl<'a, L: UpwardDesk, B: Wake> SharedSide<'a, L, B> {
             },
         ) = source
         else {
-            return SharedSide {
+            return SharedUpstreamHandler {
                 alloc,
                 uplink: None,
                 wakers: &[],
@@ -173,9 +184,9 @@ impl<'a, L: UpwardDesk, B: Wake> SharedSide<'a, L, B> {
             };
         };
         let known = desk.known();
-        SharedSide {
+        SharedUpstreamHandler {
             alloc,
-            uplink: Some(Uplink { desk, known }),
+            uplink: Some(KnownForwarder { desk, known }),
             wakers,
             progress,
         }
@@ -194,10 +205,10 @@ impl<'a, L: UpwardDesk, B: Wake> SharedSide<'a, L, B> {
 
     // Wakes the worker whose session is owed an answer, or all where it isn't known whose it is. It is called once the desk has
     // the answer: so where the commit is published only then, its worker finds the answer when all are woken for the commit.
-    fn wake_for(&self, asker: Option<u64>, standing: Option<TxnId>) {
+    fn wake_for(&self, asker: Option<SessionId>, standing: Option<TxnId>) {
         match asker {
             Some(_) if self.is_to_be_published(standing) => {}
-            Some(who) => match self.wakers.get(worker_of(who)) {
+            Some(session_id) => match self.wakers.get(worker_of(session_id)) {
                 Some(waker) => waker.wake(),
                 None => wake_all(self.wakers),
             },
@@ -206,7 +217,7 @@ impl<'a, L: UpwardDesk, B: Wake> SharedSide<'a, L, B> {
     }
 }
 
-impl<'a, L: UpwardDesk, B: Wake> SourceSide for SharedSide<'a, L, B> {
+impl<'a, L: SharedForwarder, B: Wake> UpstreamHandler for SharedUpstreamHandler<'a, L, B> {
     ghost hears = { λ _ _ _. Unit {0} };
 
     ghost refuses = { λ message. L.refuses message };
@@ -215,7 +226,10 @@ impl<'a, L: UpwardDesk, B: Wake> SourceSide for SharedSide<'a, L, B> {
 
     ghost loses = { λ _ _. Unit {0} };
 
-    fn take_up(&mut self, made: &mut GhostList<SideCall>) -> Result<Option<Message>, NoMemory> {
+    fn next_request(
+        &mut self,
+        made: &mut GhostList<HandlerCall>,
+    ) -> Result<Option<Message>, NoMemory> {
         let taken = match &mut self.uplink {
             Some(up) => up.desk.take_up(self.alloc, &mut up.known)?,
             None => None,
@@ -223,10 +237,10 @@ impl<'a, L: UpwardDesk, B: Wake> SourceSide for SharedSide<'a, L, B> {
         Ok(note_taken(taken, made))
     }
 
-    fn heard(
+    fn on_message(
         &mut self,
         message: SourceMessage,
-        made: &mut GhostList<SideCall>,
+        made: &mut GhostList<HandlerCall>,
     ) -> Result<(), BadReply> {
         let said = Snapshot::of(&message);
         if let Some(up) = &mut self.uplink {
@@ -238,14 +252,14 @@ impl<'a, L: UpwardDesk, B: Wake> SourceSide for SharedSide<'a, L, B> {
         Ok(())
     }
 
-    fn found_source(&mut self, from: TxnId, made: &mut GhostList<SideCall>) {
+    fn on_connected(&mut self, from: TxnId, made: &mut GhostList<HandlerCall>) {
         if let Some(up) = &mut self.uplink {
             up.desk.found_source(&mut up.known);
         }
         note_found(from, made);
     }
 
-    fn lost_source(&mut self) {
+    fn on_disconnected(&mut self) {
         if let Some(up) = &mut self.uplink {
             up.desk.lost_source(&mut up.known);
             wake_all(self.wakers);

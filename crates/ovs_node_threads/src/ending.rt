@@ -8,8 +8,8 @@ ghost use Rattle.ovs_node.specs.Ledger.{steps_in};
 ghost use Rattle.ovs_links.specs.Absorbing.{last_chain};
 ghost use Rattle.ovs_node_threads.specs.Reporting.{AreSent, HasAccount, IsReport, KeepsEnds};
 
-use crate::not_run::NotRun;
 use crate::role::ThreadRole;
+use crate::run_error::RunError;
 use crate::sender::Sender;
 use crate::serving::ThreadResult;
 use ovs_feed::{FeedName, FeedQueue};
@@ -24,7 +24,7 @@ fn take_back<K: NodeName, Q: FeedName, F: Sender<K, Q>, V: Drop, H: Wait + Drop>
     queue: &FeedQueue<NodeLink<K>, Q>,
     node: &mut Node<K, Q, Handle<K, H>>,
     role: ThreadRole<F, V>,
-) -> Result<(), NotRun>
+) -> Result<(), RunError>
     requires in_step { NodeInStep node.old }
     requires sent { ∥ AreSent F.sends node.old.intake.feed.returned ∥₁ }
     ensures in_step { NodeInStep node.new }
@@ -36,7 +36,7 @@ fn take_back<K: NodeName, Q: FeedName, F: Sender<K, Q>, V: Drop, H: Wait + Drop>
     };
     match node.join(queue, sender.take_end()?) {
         Ok(()) => Ok(()),
-        Err(_) => Err(NotRun::NotBack),
+        Err(_) => Err(RunError::NotBack),
     }
 }
 
@@ -51,7 +51,7 @@ fn take_all_back<
     queue: &FeedQueue<NodeLink<K>, Q>,
     node: &mut Node<K, Q, Handle<K, H>>,
     backs: Vec<ThreadResult<K, F, D>>,
-) -> Result<(), NotRun>
+) -> Result<(), RunError>
     requires in_step { NodeInStep node.old }
     requires sent { ∥ AreSent F.sends node.old.intake.feed.returned ∥₁ }
     ensures in_step { NodeInStep node.new }
@@ -104,7 +104,7 @@ pub(crate) fn report_of<
     board: &Mutex<Board<K>>,
     node: Node<K, Q, Handle<K, H>>,
     backs: Vec<ThreadResult<K, F, D>>,
-) -> Result<Report<K, Q, Handle<K, H>>, NotRun>
+) -> Result<Report<K, Q, Handle<K, H>>, RunError>
     requires in_step { NodeInStep node }
     requires none { node.intake.feed.returned ≡ [] }
     ensures report { IfOk result (λ r. IsReport F.sends node.intake.feed.ends r.feed r.store r.settled r.forks r.short r.dropped) }
@@ -117,7 +117,7 @@ pub(crate) fn report_of<
     take_all_back(queue, &mut node, backs)?;
     fold_rest(rt, queue, board, &mut node);
     if !node.is_back() {
-        return Err(NotRun::NotBack);
+        return Err(RunError::NotBack);
     }
     let report = node.finish();
     // That its store has the node's schema is said with the store's chain.

@@ -7,13 +7,13 @@ ghost use Rattle.ovs_node_threads.specs.Reporting.{KeepsEnds};
 
 use crate::counters::Counters;
 use crate::observer::FoldObserver;
-use crate::role::beside_with_views;
+use crate::role::run_scoped_with_views;
 use left_right::ReadHandle;
 use ovs_feed::{FeedName, FeedQueue};
 use ovs_json::NoMemory;
 use ovs_node::{Node, NodeLink, RefusedLink};
 use ovs_threads::Work;
-use ovs_views::{Board, Front, Handle, NodeName, Shown};
+use ovs_views::{Board, Handle, NodeName, PublishedCopy, StepPrefix};
 use ovs_worker::Wake;
 use std::alloc::Global;
 use std::sync::atomic::Ordering;
@@ -164,12 +164,16 @@ impl<'a, K: NodeName, Q: FeedName, B: Wake, O: FoldObserver, R: Wait> Folding<'a
 ///
 /// # Errors
 /// Memory ran out before a thread was started.
-pub(crate) fn fold_beside<
+pub(crate) fn fold_with_threads<
     K: NodeName + Send + Sync,
     Q: FeedName,
     E: Send + Drop,
     F: Send + Drop,
-    W: Work<(E, ReadHandle<Shown<K>>, Front<K>), (F, ReadHandle<Shown<K>>, Front<K>)> + Sync,
+    W: Work<
+        (E, ReadHandle<PublishedCopy<K>>, StepPrefix<K>),
+        (F, ReadHandle<PublishedCopy<K>>, StepPrefix<K>),
+    >
+        + Sync,
     B: Wake,
     O: FoldObserver,
     H: Wait + Drop,
@@ -177,12 +181,12 @@ pub(crate) fn fold_beside<
 >(
     alloc: Global,
     folding: &Folding<K, Q, B, O, R>,
-    jobs: Vec<(E, ReadHandle<Shown<K>>, Front<K>)>,
+    jobs: Vec<(E, ReadHandle<PublishedCopy<K>>, StepPrefix<K>)>,
     work: &W,
     node: Node<K, Q, Handle<K, H>>,
 ) -> Result<
     (
-        Vec<(F, ReadHandle<Shown<K>>, Front<K>)>,
+        Vec<(F, ReadHandle<PublishedCopy<K>>, StepPrefix<K>)>,
         Node<K, Q, Handle<K, H>>,
     ),
     NoMemory,
@@ -207,7 +211,7 @@ pub(crate) fn fold_beside<
         folding.fold_all(&mut node);
         node
     };
-    match beside_with_views(folding.rt, alloc, jobs, work, folds) {
+    match run_scoped_with_views(folding.rt, alloc, jobs, work, folds) {
         Ok(done) => Ok(done),
         Err(_not_begun) => Err(NoMemory),
     }

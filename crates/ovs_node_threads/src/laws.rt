@@ -15,12 +15,12 @@ ghost use Rattle.ovs_node_threads.specs.Lines.{AdmitsBytes, AmongHistory};
 ghost use Rattle.ovs_node_threads.specs.Reporting.{IsReportOf};
 
 /// A connection whose bytes are what an upstream with a history may say, in whatever spelling, and wherever they are broken off, admits
-/// links of that history alone.
+/// links of that history alone, however many bytes a message of the session with it may have.
 pub fn lawful_streams_are_admitted()
-    ensures admitted { (schema : Schema) (h : EpochHistory) (asked : ℕ) (said : List Message) (stream : List ℕ)
+    ensures admitted { (schema : Schema) (h : EpochHistory) (most asked : ℕ) (said : List Message) (stream : List ℕ)
         → IsEpochHistory schema.description.tables h
         → IsLawfulOf schema.description (epochs_of h) asked said
-        → IsStreamOf said stream
+        → IsStreamOf most said stream
         → AdmitsBytes (AmongHistory schema h) asked (Some stream) }
 {}
 

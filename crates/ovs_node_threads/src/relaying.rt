@@ -11,12 +11,12 @@ ghost use Rattle.ovs_links.specs.declared.link.Link.{Link};
 ghost use Rattle.ovs_node_threads.specs.Reporting.{HasAccount, IsReport};
 
 use crate::connector::Connector;
-use crate::desks::SharedSide;
+use crate::desks::SharedUpstreamHandler;
 use crate::node_threads::NodeThreads;
-use crate::not_run::NotRun;
 use crate::observer::FoldObserver;
+use crate::run_error::RunError;
 use crate::running::{Shared, run_node};
-use crate::shared_authority::{KnownDesk, SharedAuthority, UpwardDesk};
+use crate::shared_authority::{KnownDesk, SharedAuthority, SharedForwarder};
 use crate::upstreams::{Upstream, UpstreamFeeds};
 use ovs_feed::FeedName;
 use ovs_node::{Node, Report};
@@ -30,7 +30,7 @@ use std::thread::Threads;
 /// The threads of a relay: one for each upstream, and workers.
 pub type RelayThreads<'a, K, Q, C, D, L, B> = NodeThreads<
     K,
-    Upstream<K, Q, C, SharedSide<'a, L, B>>,
+    Upstream<K, Q, C, SharedUpstreamHandler<'a, L, B>>,
     D,
 >;
 
@@ -45,7 +45,7 @@ pub fn run_relay<
     Q: FeedName + Send + Sync,
     C: Connector<In: Send, Out: Send> + Drop + Send,
     D: Poller<In: Send, Out: Send> + Drop + Send,
-    L: KnownDesk<Known: Send> + UpwardDesk + SharedAuthority<K> + Sync,
+    L: KnownDesk<Known: Send> + SharedForwarder + SharedAuthority<K> + Sync,
     B: Wake + Sync,
     O: FoldObserver,
     H: Wait + Drop,
@@ -56,7 +56,7 @@ pub fn run_relay<
     schema: &'a Schema,
     node: Node<K, Q, Handle<K, H>>,
     threads: RelayThreads<'a, K, Q, C, D, L, B>,
-) -> Result<Report<K, Q, Handle<K, H>>, NotRun>
+) -> Result<Report<K, Q, Handle<K, H>>, RunError>
     requires schema { schema.now ≡ K.schema }
     requires in_step { NodeInStep node }
     requires none { node.intake.feed.returned ≡ [] }

@@ -3,8 +3,8 @@
 ghost use Rattle.std.specs.Prelude.{◌≡◌, IfOk, IfErr, vec_len};
 
 use left_right::ReadHandle;
-use ovs_threads::{NotBegun, Work, beside};
-use ovs_views::{Front, NodeName, Shown};
+use ovs_threads::{SpawnError, Work, run_scoped};
+use ovs_views::{NodeName, PublishedCopy, StepPrefix};
 use std::alloc::Global;
 use std::sync::Wait;
 use std::thread::Threads;
@@ -26,28 +26,32 @@ impl<U, W> ThreadRole<U, W> {
 }
 
 /// Does each job that has a view in a thread of its own, beside what is to be done here.
-pub(crate) fn beside_with_views<
+pub(crate) fn run_scoped_with_views<
     K: NodeName + Send + Sync,
     E: Send + Drop,
     F: Send + Drop,
-    W: Work<(E, ReadHandle<Shown<K>>, Front<K>), (F, ReadHandle<Shown<K>>, Front<K>)> + Sync,
+    W: Work<
+        (E, ReadHandle<PublishedCopy<K>>, StepPrefix<K>),
+        (F, ReadHandle<PublishedCopy<K>>, StepPrefix<K>),
+    >
+        + Sync,
     R: Threads + Wait + Sync,
     S: FnOnce() -> Z,
     Z,
 >(
     rt: &R,
     alloc: Global,
-    jobs: Vec<(E, ReadHandle<Shown<K>>, Front<K>)>,
+    jobs: Vec<(E, ReadHandle<PublishedCopy<K>>, StepPrefix<K>)>,
     work: &W,
     here: S,
 ) -> Result<
-    (Vec<(F, ReadHandle<Shown<K>>, Front<K>)>, Z),
-    NotBegun<(E, ReadHandle<Shown<K>>, Front<K>), S>,
+    (Vec<(F, ReadHandle<PublishedCopy<K>>, StepPrefix<K>)>, Z),
+    SpawnError<(E, ReadHandle<PublishedCopy<K>>, StepPrefix<K>), S>,
 >
     requires here { S.pre here }
     ensures all { IfOk result (λ r. vec_len r.0 ≡ vec_len jobs) }
     ensures here { IfOk result (λ r. S.post here r.1) }
     ensures handed_back { IfErr result (λ n. (n.jobs ≡ jobs) × (n.here ≡ here)) }
 {
-    beside(rt, alloc, jobs, work, here)
+    run_scoped(rt, alloc, jobs, work, here)
 }

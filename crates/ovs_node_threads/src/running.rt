@@ -9,10 +9,10 @@ ghost use Rattle.ovs_node_threads.specs.Reporting.{HasAccount, IsReport};
 
 use crate::counters::Counters;
 use crate::ending::report_of;
-use crate::folding::{Folding, fold_beside};
+use crate::folding::{Folding, fold_with_threads};
 use crate::node_threads::NodeThreads;
-use crate::not_run::NotRun;
 use crate::observer::FoldObserver;
+use crate::run_error::RunError;
 use crate::sender::Sender;
 use crate::serving::{Feeds, Serving, feeds_among};
 use crate::shared_authority::{KnownDesk, SharedAuthority};
@@ -46,7 +46,7 @@ pub struct Shared<
     /// Where what only the source can answer is asked.
     pub desk: &'a L,
     /// What wakes the thread that does what comes of that: passes it on to the source, or sends the links that a commit made.
-    pub upward: &'a U,
+    pub uplink_waker: &'a U,
     /// What wakes the workers.
     pub wakers: &'a [B],
     /// What they count.
@@ -85,7 +85,7 @@ pub fn run_node<
     feeds: T,
     node: Node<K, Q, Handle<K, H>>,
     threads: NodeThreads<K, E, D>,
-) -> Result<Report<K, Q, Handle<K, H>>, NotRun>
+) -> Result<Report<K, Q, Handle<K, H>>, RunError>
     requires in_step { NodeInStep node }
     requires none { node.intake.feed.returned ≡ [] }
     ensures report { IfOk result (λ r. IsReport F.sends node.intake.feed.ends r.feed r.store r.settled r.forks r.short r.dropped) }
@@ -108,12 +108,12 @@ pub fn run_node<
         alloc,
         queue: shared.queue,
         desk: shared.desk,
-        upward: shared.upward,
+        uplink_waker: shared.uplink_waker,
         wakers: shared.wakers,
         counters: shared.counters,
         limits: shared.limits,
     };
     shared.counters.note_feeding(feeds_among(&threads.jobs));
-    let (backs, node) = fold_beside(alloc, &folding, threads.jobs, &serving, node)?;
+    let (backs, node) = fold_with_threads(alloc, &folding, threads.jobs, &serving, node)?;
     report_of(shared.rt, shared.queue, shared.board, node, backs)
 }

@@ -3,7 +3,7 @@
 ghost use Rattle.std.specs.Prelude.{List, IfOk};
 ghost use Rattle.ovs_links.specs.declared.link.Link.{Link};
 
-use crate::not_run::NotRun;
+use crate::run_error::RunError;
 use ovs_feed::{FeedEnd, FeedName};
 use ovs_node::NodeLink;
 use ovs_views::NodeName;
@@ -17,6 +17,6 @@ pub trait Sender<K: NodeName, Q: FeedName> {
     ///
     /// # Errors
     /// Why the links that were to come didn't.
-    fn take_end(self) -> Result<FeedEnd<NodeLink<K>, Q>, NotRun>
+    fn take_end(self) -> Result<FeedEnd<NodeLink<K>, Q>, RunError>
         ensures sent { IfOk result (λ end. ∥ sends end.1 ∥₁) };
 }

@@ -11,7 +11,7 @@ use ovs_feed::{FeedName, FeedQueue};
 use ovs_node::NodeLink;
 use ovs_session::Limits;
 use ovs_threads::Work;
-use ovs_views::{Front, NodeName, Shown, View};
+use ovs_views::{NodeName, PublishedCopy, StepPrefix, View};
 use ovs_worker::{Poller, Wake};
 use std::alloc::Global;
 use std::sync::Wait;
@@ -19,15 +19,15 @@ use std::sync::Wait;
 /// What each thread has: what it sends links with, or a worker's poller, and the parts of its view.
 pub(crate) type ThreadJob<K, E, D> = (
     ThreadRole<E, UnusedPoller<D>>,
-    ReadHandle<Shown<K>>,
-    Front<K>,
+    ReadHandle<PublishedCopy<K>>,
+    StepPrefix<K>,
 );
 
 /// What comes back of each.
 pub(crate) type ThreadResult<K, F, D> = (
     ThreadRole<F, IdlePoller<D>>,
-    ReadHandle<Shown<K>>,
-    Front<K>,
+    ReadHandle<PublishedCopy<K>>,
+    StepPrefix<K>,
 );
 
 /// What those threads of a node do that send links to its feed. A fact about what is left of one is a fact of its type.
@@ -62,7 +62,7 @@ pub(crate) struct Serving<
     /// Where what only the source can answer is asked.
     pub(crate) desk: &'a L,
     /// What wakes the thread that does what comes of that.
-    pub(crate) upward: &'a U,
+    pub(crate) uplink_waker: &'a U,
     /// What wakes the workers.
     pub(crate) wakers: &'a [B],
     /// What the threads count.
@@ -85,7 +85,7 @@ impl<
     fn leave(&self, has_fed: bool) {
         self.counters.note_end(has_fed);
         self.queue.wake();
-        self.upward.wake();
+        self.uplink_waker.wake();
     }
 
     // Serves the readers that this poller accepts.
@@ -94,7 +94,7 @@ impl<
     {
         let desk = SharedDesk::new(
             self.desk,
-            self.upward,
+            self.uplink_waker,
             self.wakers,
             self.counters.progress(),
         );

@@ -17,7 +17,7 @@ ghost use Rattle.ovs_node_threads.specs.Refusing.{IsBadReply};
 
 use ovs_authority::Ask;
 use ovs_desk::{BadReply, SourceMessage};
-use ovs_json::NoMemory;
+use ovs_json::{NoMemory, SessionId};
 use ovs_recorded_desk::{DeskFront, DeskName, RecordedDesk};
 use ovs_views::{Gone, NodeName, View, ViewError, ViewSession};
 use ovs_wire::Message;
@@ -50,11 +50,11 @@ pub trait SharedAuthority<K: NodeName>: KnownDesk {
     fn ask(
         &self,
         alloc: Global,
-        who: u64,
+        session_id: SessionId,
         ask: Ask,
         known: &mut Self::Known,
     ) -> Result<Option<Message>, NoMemory>
-        ensures replied { IfOk result (λ r. replies who ask r × RepliesTo ask.id r) };
+        ensures replied { IfOk result (λ r. replies session_id ask r × RepliesTo ask.id r) };
 
     /// The next message for a session, where one is owed. Where answers are held back it is none while the first answer stands
     /// where the session wasn't shown the chain yet.
@@ -64,21 +64,21 @@ pub trait SharedAuthority<K: NodeName>: KnownDesk {
     fn collect(
         &self,
         alloc: Global,
-        who: u64,
+        session_id: SessionId,
         is_held_back: bool,
         view: &mut View<K>,
         session: &ViewSession<K>,
         known: &mut Self::Known,
     ) -> Result<Option<Message>, ViewError>
-        ensures given { IfOk result (λ r. IfSome r (λ m. owes is_held_back who session.now.last m × IsAnswer m)) }
+        ensures given { IfOk result (λ r. IfSome r (λ m. owes is_held_back session_id session.now.last m × IsAnswer m)) }
         ensures view { view.new ≡ view.old };
 
     /// Ends a session.
-    fn end_session(&self, who: u64, known: &mut Self::Known);
+    fn end_session(&self, session_id: SessionId, known: &mut Self::Known);
 }
 
 /// A relay's desk, as the thread of the upstream shares it that is the source.
-pub trait UpwardDesk: KnownDesk {
+pub trait SharedForwarder: KnownDesk {
     // The source may not say this.
     ghost refuses: { SourceMessage → Type 0 };
 
@@ -97,7 +97,7 @@ pub trait UpwardDesk: KnownDesk {
         &self,
         message: SourceMessage,
         known: &mut Self::Known,
-    ) -> Result<Option<u64>, BadReply>
+    ) -> Result<Option<SessionId>, BadReply>
         ensures refused { OnErr result (refuses message) };
 
     /// There is a source.
@@ -112,22 +112,22 @@ pub trait UpwardDesk: KnownDesk {
 fn may_be_given<K: NodeName, N: DeskName, R: Wait>(
     rt: &R,
     desk: &RecordedDesk<N>,
-    who: u64,
+    session_id: SessionId,
     is_held_back: bool,
     view: &mut View<K>,
     session: &ViewSession<K>,
     known: &mut DeskFront<N>,
 ) -> Result<bool, Gone>
     ensures shown { result ≡ Ok true → is_held_back ≡ true
-        → ForSome (next_standing who desk.now.desk.forwards.ledger) (λ id. is_shown session.now.last id ≡ true) }
-    ensures unshown { result ≡ Ok false → (is_held_back ≡ true) × IsHeldBack N.database who session.now.last known.old known.new }
+        → ForSome (next_standing session_id desk.now.desk.forwards.ledger) (λ id. is_shown session.now.last id ≡ true) }
+    ensures unshown { result ≡ Ok false → (is_held_back ≡ true) × IsHeldBack N.database session_id session.now.last known.old known.new }
     ensures learnt { IsPrefix known.old known.new }
     ensures view { view.new ≡ view.old }
 {
     if !is_held_back {
         return Ok(true);
     }
-    match desk.standing(rt, who, known) {
+    match desk.standing(rt, session_id, known) {
         Some(id) => view.has_shown(session, id),
         None => Ok(true),
     }
@@ -138,25 +138,25 @@ fn collect_shown<K: NodeName, N: DeskName, R: Wait>(
     rt: &R,
     alloc: Global,
     desk: &mut RecordedDesk<N>,
-    who: u64,
+    session_id: SessionId,
     is_held_back: bool,
     view: &mut View<K>,
     session: &ViewSession<K>,
     known: &mut DeskFront<N>,
 ) -> Result<Option<Message>, ViewError>
-    ensures given { IfOk result (λ r. IfSome r (λ m. IsCollected N.database is_held_back who session.now.last m × IsAnswer m)) }
-    ensures ends { IfOk result (λ r. IfSome r (λ m. EndsWith (steps.Collected who (Some m)) known.old known.new)) }
-    ensures none { result ≡ Ok None → HasNone N.database is_held_back who session.now.last known.old known.new }
+    ensures given { IfOk result (λ r. IfSome r (λ m. IsCollected N.database is_held_back session_id session.now.last m × IsAnswer m)) }
+    ensures ends { IfOk result (λ r. IfSome r (λ m. EndsWith (steps.Collected session_id (Some m)) known.old known.new)) }
+    ensures none { result ≡ Ok None → HasNone N.database is_held_back session_id session.now.last known.old known.new }
     ensures view { view.new ≡ view.old }
 {
-    if !may_be_given(rt, &*desk, who, is_held_back, view, session, known)? {
+    if !may_be_given(rt, &*desk, session_id, is_held_back, view, session, known)? {
         return Ok(None);
     }
-    Ok(desk.collect(rt, alloc, who, known)?)
+    Ok(desk.collect(rt, alloc, session_id, known)?)
 }
 
 // Whose transaction it answers, if it does.
-fn asker_of<N: DeskName>(desk: &RecordedDesk<N>, message: &SourceMessage) -> Option<u64> {
+fn asker_of<N: DeskName>(desk: &RecordedDesk<N>, message: &SourceMessage) -> Option<SessionId> {
     match message {
         SourceMessage::ReplyFor { number, .. } => desk.asker_of(*number),
         _ => None,
@@ -166,22 +166,22 @@ fn asker_of<N: DeskName>(desk: &RecordedDesk<N>, message: &SourceMessage) -> Opt
 /// A relay's desk behind a lock, which is taken for one call at a time. All calls on it are steps of one run, of which each caller
 /// knows those that were made up to its last.
 #[derive(Drop)]
-pub struct LockedDesk<'a, N: DeskName, R: Wait> {
+pub struct LockedForwarder<'a, N: DeskName, R: Wait> {
     rt: &'a R,
     desk: Mutex<RecordedDesk<N>>,
 }
 
-impl<'a, N: DeskName, R: Wait> LockedDesk<'a, N, R> {
+impl<'a, N: DeskName, R: Wait> LockedForwarder<'a, N, R> {
     /// This desk.
-    pub fn new(rt: &'a R, desk: RecordedDesk<N>) -> LockedDesk<'a, N, R> {
-        LockedDesk {
+    pub fn new(rt: &'a R, desk: RecordedDesk<N>) -> LockedForwarder<'a, N, R> {
+        LockedForwarder {
             rt,
             desk: Mutex::new(desk),
         }
     }
 }
 
-impl<'a, N: DeskName, R: Wait> KnownDesk for LockedDesk<'a, N, R> {
+impl<'a, N: DeskName, R: Wait> KnownDesk for LockedForwarder<'a, N, R> {
     type Known = DeskFront<N>;
 
     fn known(&self) -> DeskFront<N> {
@@ -189,44 +189,46 @@ impl<'a, N: DeskName, R: Wait> KnownDesk for LockedDesk<'a, N, R> {
     }
 }
 
-impl<'a, K: NodeName, N: DeskName, R: Wait> SharedAuthority<K> for LockedDesk<'a, N, R> {
-    ghost replies = { λ who ask r. EndsRun N.database (steps.Asked who ask r) };
+impl<'a, K: NodeName, N: DeskName, R: Wait> SharedAuthority<K> for LockedForwarder<'a, N, R> {
+    ghost replies = { λ session_id ask r. EndsRun N.database (steps.Asked session_id ask r) };
 
-    ghost owes = { λ held who steps m. IsCollected N.database held who steps m };
+    ghost owes = { λ held session_id steps m. IsCollected N.database held session_id steps m };
 
     fn ask(
         &self,
         alloc: Global,
-        who: u64,
+        session_id: SessionId,
         ask: Ask,
         known: &mut DeskFront<N>,
     ) -> Result<Option<Message>, NoMemory>
-        ensures replied { IfOk result (λ r. EndsRun N.database (steps.Asked who ask r) × RepliesTo ask.id r) }
-        ensures ends { IfOk result (λ r. EndsWith (steps.Asked who ask r) known.old known.new) }
+        ensures replied { IfOk result (λ r. EndsRun N.database (steps.Asked session_id ask r) × RepliesTo ask.id r) }
+        ensures ends { IfOk result (λ r. EndsWith (steps.Asked session_id ask r) known.old known.new) }
     {
-        self.desk.lock(self.rt).ask(self.rt, alloc, who, ask, known)
+        self.desk
+            .lock(self.rt)
+            .ask(self.rt, alloc, session_id, ask, known)
     }
 
     fn collect(
         &self,
         alloc: Global,
-        who: u64,
+        session_id: SessionId,
         is_held_back: bool,
         view: &mut View<K>,
         session: &ViewSession<K>,
         known: &mut DeskFront<N>,
     ) -> Result<Option<Message>, ViewError>
-        ensures given { IfOk result (λ r. IfSome r (λ m. IsCollected N.database is_held_back who session.now.last m × IsAnswer m)) }
+        ensures given { IfOk result (λ r. IfSome r (λ m. IsCollected N.database is_held_back session_id session.now.last m × IsAnswer m)) }
         ensures view { view.new ≡ view.old }
-        ensures ends { IfOk result (λ r. IfSome r (λ m. EndsWith (steps.Collected who (Some m)) known.old known.new)) }
-        ensures none { result ≡ Ok None → HasNone N.database is_held_back who session.now.last known.old known.new }
+        ensures ends { IfOk result (λ r. IfSome r (λ m. EndsWith (steps.Collected session_id (Some m)) known.old known.new)) }
+        ensures none { result ≡ Ok None → HasNone N.database is_held_back session_id session.now.last known.old known.new }
     {
         let mut desk = self.desk.lock(self.rt);
         collect_shown(
             self.rt,
             alloc,
             &mut *desk,
-            who,
+            session_id,
             is_held_back,
             view,
             session,
@@ -234,14 +236,16 @@ impl<'a, K: NodeName, N: DeskName, R: Wait> SharedAuthority<K> for LockedDesk<'a
         )
     }
 
-    fn end_session(&self, who: u64, known: &mut DeskFront<N>)
-        ensures ends { EndsWith (steps.Ended who) known.old known.new }
+    fn end_session(&self, session_id: SessionId, known: &mut DeskFront<N>)
+        ensures ends { EndsWith (steps.Ended session_id) known.old known.new }
     {
-        self.desk.lock(self.rt).end_session(self.rt, who, known);
+        self.desk
+            .lock(self.rt)
+            .end_session(self.rt, session_id, known);
     }
 }
 
-impl<'a, N: DeskName, R: Wait> UpwardDesk for LockedDesk<'a, N, R> {
+impl<'a, N: DeskName, R: Wait> SharedForwarder for LockedForwarder<'a, N, R> {
     ghost refuses = { λ message. IsBadReply message };
 
     fn take_up(&self, alloc: Global, known: &mut DeskFront<N>) -> Result<Option<Message>, NoMemory>
@@ -254,7 +258,7 @@ impl<'a, N: DeskName, R: Wait> UpwardDesk for LockedDesk<'a, N, R> {
         &self,
         message: SourceMessage,
         known: &mut DeskFront<N>,
-    ) -> Result<Option<u64>, BadReply>
+    ) -> Result<Option<SessionId>, BadReply>
         ensures refused { OnErr result (IsBadReply message) }
         ensures ends { OnOk result (EndsWith (steps.Heard message (Ok tt)) known.old known.new) }
     {

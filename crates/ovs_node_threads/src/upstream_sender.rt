@@ -4,7 +4,7 @@ ghost use Rattle.std.specs.Prelude.{◌≡◌, []};
 ghost use Rattle.ovs_links.specs.Sets.{AllOf};
 
 use crate::connector::Connector;
-use crate::not_run::NotRun;
+use crate::run_error::RunError;
 use crate::sender::Sender;
 use ovs_feed::{FeedEnd, FeedName};
 use ovs_node::NodeLink;
@@ -55,7 +55,7 @@ impl<K: NodeName, Q: FeedName, C: Connector> UpstreamSender<K, Q, C> {
 impl<K: NodeName, Q: FeedName, C: Connector> Sender<K, Q> for UpstreamSender<K, Q, C> {
     ghost sends = { λ ls. AllOf (C.admits K.schema) ls };
 
-    fn take_end(self) -> Result<FeedEnd<NodeLink<K>, Q>, NotRun> {
+    fn take_end(self) -> Result<FeedEnd<NodeLink<K>, Q>, RunError> {
         Ok(self.into_end())
     }
 }

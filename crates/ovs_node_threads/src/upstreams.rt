@@ -4,13 +4,13 @@ ghost use Rattle.std.specs.Prelude.{◌≡◌};
 ghost use Rattle.ovs_node_threads.specs.Lines.{AdmitsBytes};
 
 use crate::connector::Connector;
-use crate::epoch_side::EpochSide;
+use crate::epoch_handler::EpochHandler;
 use crate::feed_sink::FeedSink;
 use crate::folded_count::FoldedCount;
 use crate::serving::Feeds;
 use crate::upstream_sender::UpstreamSender;
 use ovs_feed::{FeedName, FeedQueue};
-use ovs_follow::{Followed, InputFault, SourceSide, follow_upstream};
+use ovs_follow::{InputFault, UpstreamEnd, UpstreamHandler, follow_upstream};
 use ovs_node::NodeLink;
 use ovs_session::{Ended, Limits};
 use ovs_types::{Schema, TxnId};
@@ -23,15 +23,15 @@ use std::sync::{Mutex, Wait};
 // and a busy one would come to the end of fewer.
 const TURNS: u32 = u32::MAX;
 
-/// What follows an upstream: what it sends with, where its connections come from, and the desk's side, which has a desk where the
+/// What follows an upstream: what it sends with, where its connections come from, and the desk's handler, which has a desk where the
 /// upstream is the source.
 #[derive(Drop)]
-pub struct Upstream<K: NodeName, Q: FeedName, C: Connector + Drop, D: SourceSide + Drop> {
+pub struct Upstream<K: NodeName, Q: FeedName, C: Connector + Drop, D: UpstreamHandler + Drop> {
     /// What it sends with.
     pub sender: UpstreamSender<K, Q, C>,
     /// Where its connections come from.
     pub connector: C,
-    /// The desk's side.
+    /// The desk's handler.
     pub source: D,
 }
 
@@ -50,7 +50,7 @@ pub(crate) struct UpstreamFeeds<'a, K: NodeName, Q: FeedName, R: Wait> {
 
 // What is left of one session.
 #[derive(Drop)]
-struct SessionEnd<K: NodeName, Q: FeedName, C: Connector, D: SourceSide + Drop> {
+struct SessionEnd<K: NodeName, Q: FeedName, C: Connector, D: UpstreamHandler + Drop> {
     sender: UpstreamSender<K, Q, C>,
     // How it ended, if there was one, and what was wrong with what the upstream said.
     ended: Option<(Ended, Option<InputFault>)>,
@@ -58,13 +58,14 @@ struct SessionEnd<K: NodeName, Q: FeedName, C: Connector, D: SourceSide + Drop> 
 }
 
 impl<'a, K: NodeName, Q: FeedName, R: Wait> UpstreamFeeds<'a, K, Q, R> {
-    // Follows one connection, which was asked for what comes after this id.
-    fn follow<C: Connector, D: SourceSide + Drop>(
+    // Follows one connection, which was asked for what comes after this id, and of which a message may have so many bytes.
+    fn follow<C: Connector, D: UpstreamHandler + Drop>(
         &self,
         asked: TxnId,
+        most_bytes: usize,
         connection: (C::In, C::Out),
         sender: UpstreamSender<K, Q, C>,
-        source: EpochSide<'_, K, D>,
+        source: EpochHandler<'_, K, D>,
     ) -> SessionEnd<K, Q, C, D>
         requires lawful { AdmitsBytes C.admits asked (C.In.remaining connection.0) }
     {
@@ -79,10 +80,11 @@ impl<'a, K: NodeName, Q: FeedName, R: Wait> UpstreamFeeds<'a, K, Q, R> {
             source,
             &mut reader,
             &mut writer,
+            most_bytes,
             self.limits,
             TURNS,
         );
-        let Followed {
+        let UpstreamEnd {
             sink,
             source,
             counts: _,
@@ -93,13 +95,13 @@ impl<'a, K: NodeName, Q: FeedName, R: Wait> UpstreamFeeds<'a, K, Q, R> {
         SessionEnd {
             sender: UpstreamSender::again(sink.into_end()),
             ended: Some((ended, fault)),
-            source: source.into_side(),
+            source: source.into_handler(),
         }
     }
 
     // The next connection, if it can be had, which is asked for what comes after what the node has folded, once the folder is done
     // with all that those before sent.
-    fn follow_next<C: Connector, D: SourceSide + Drop>(
+    fn follow_next<C: Connector, D: UpstreamHandler + Drop>(
         &self,
         connector: &mut C,
         view: &mut View<K>,
@@ -113,8 +115,9 @@ impl<'a, K: NodeName, Q: FeedName, R: Wait> UpstreamFeeds<'a, K, Q, R> {
         let Some(connection) = connector.open(asked) else {
             return back;
         };
-        let side = EpochSide::new(back.source, view, start);
-        let back = self.follow(asked, connection, back.sender, side);
+        let side = EpochHandler::new(back.source, view, start);
+        let most_bytes = connector.most_bytes();
+        let back = self.follow(asked, most_bytes, connection, back.sender, side);
         if let Some((ended, fault)) = back.ended {
             connector.lost(ended, fault);
         }
@@ -122,7 +125,7 @@ impl<'a, K: NodeName, Q: FeedName, R: Wait> UpstreamFeeds<'a, K, Q, R> {
     }
 }
 
-impl<'a, K: NodeName, Q: FeedName, R: Wait, C: Connector + Drop, D: SourceSide + Drop> Feeds<
+impl<'a, K: NodeName, Q: FeedName, R: Wait, C: Connector + Drop, D: UpstreamHandler + Drop> Feeds<
     K,
     Upstream<K, Q, C, D>,
     UpstreamSender<K, Q, C>,

@@ -9,16 +9,17 @@ ghost use Rattle.ovs_service.specs.Kept.{Kept};
 
 use crate::worker_poller::{IdlePoller, UnusedPoller};
 use ovs_history::GhostList;
-use ovs_service::{Client, Desk, NodeService};
-use ovs_session::{Limits, Outbox, Pace, Refusal, Service};
+use ovs_json::SessionId;
+use ovs_service::{Client, NodeService, ServiceAuthority};
+use ovs_session::{Limits, Outbox, Service, ServiceError, TurnProgress};
 use ovs_views::{NodeName, View};
-use ovs_worker::{AcceptingHost, Poller, Served, SessionHost, serve_many};
+use ovs_worker::{AcceptingHost, Poller, SessionHost, SessionResult, serve_many};
 use std::alloc::Global;
 use std::io::{Read, Write};
 use std::sync::Wait;
 
 /// A node's service, which gives each new session a number of its own.
-pub(crate) struct NodeHost<K: NodeName, D: Desk<K>> {
+pub(crate) struct NodeHost<K: NodeName, D: ServiceAuthority<K>> {
     service: NodeService<K, D>,
     // How many sessions it has begun.
     next: u64,
@@ -30,11 +31,11 @@ pub(crate) struct NodeHost<K: NodeName, D: Desk<K>> {
 const WORKERS: u64 = 64;
 
 /// The worker that gave a session this number.
-pub(crate) fn worker_of(who: u64) -> usize {
-    (who % WORKERS) as usize
+pub(crate) fn worker_of(session_id: SessionId) -> usize {
+    (session_id % WORKERS) as usize
 }
 
-impl<K: NodeName, D: Desk<K>> Service for NodeHost<K, D> {
+impl<K: NodeName, D: ServiceAuthority<K>> Service for NodeHost<K, D> {
     type Session = Client<K>;
 
     ghost answers = { λ old text said new. AnswersTo K.schema D.replies D.owes old text said new };
@@ -68,26 +69,30 @@ impl<K: NodeName, D: Desk<K>> Service for NodeHost<K, D> {
         client: &mut Client<K>,
         text: &[u8],
         out: &mut Outbox,
-    ) -> Result<(), Refusal> {
+    ) -> Result<(), ServiceError> {
         self.service.answer(client, text, out)
     }
 
-    fn tell(&mut self, client: &mut Client<K>, out: &mut Outbox) -> Result<Pace, Refusal> {
+    fn tell(
+        &mut self,
+        client: &mut Client<K>,
+        out: &mut Outbox,
+    ) -> Result<TurnProgress, ServiceError> {
         self.service.tell(client, out)
     }
 }
 
-impl<K: NodeName, D: Desk<K>> SessionHost for NodeHost<K, D> {
-    ghost begins = { λ client. (who : ℕ) × (last : List Step) × (client ≡ new_client who last) };
+impl<K: NodeName, D: ServiceAuthority<K>> SessionHost for NodeHost<K, D> {
+    ghost begins = { λ client. (session_id : ℕ) × (last : List Step) × (client ≡ new_client session_id last) };
 
-    ghost is_silent = { λ host client. Contains (D.ended host.service.desk) client.who };
+    ghost is_silent = { λ host client. Contains (D.ended host.service.desk) client.session_id };
 
     fn end(&mut self, client: &Client<K>) {
         self.service.end(client);
     }
 }
 
-impl<K: NodeName, D: Desk<K>> AcceptingHost for NodeHost<K, D> {
+impl<K: NodeName, D: ServiceAuthority<K>> AcceptingHost for NodeHost<K, D> {
     // The number is the worker's, and how many sessions it began before: so no two sessions of a worker have one.
     fn begin(&mut self) -> Option<Client<K>>
         ensures begins { IfSome result (λ client. (last : List Step) × (client ≡ new_client (self.old.next * 64 + self.old.worker) last)) }
@@ -95,9 +100,9 @@ impl<K: NodeName, D: Desk<K>> AcceptingHost for NodeHost<K, D> {
         ensures worker { self.new.worker ≡ self.old.worker }
     {
         let next = self.next.checked_add(1)?;
-        let who = self.next.checked_mul(WORKERS)?.checked_add(self.worker)?;
+        let session_id = self.next.checked_mul(WORKERS)?.checked_add(self.worker)?;
         self.next = next;
-        Some(self.service.client(who))
+        Some(self.service.client(session_id))
     }
 
     // What is published is seen at the next entry, so that there is nothing to note.
@@ -112,19 +117,19 @@ pub(crate) struct WorkerResult<K: NodeName, D: Poller + Drop> {
 }
 
 // What became of the sessions that a worker served: each ended so, and did what users are promised of it (`Kept` of `ovs_service`).
-fn served_sessions_keep<K: NodeName, D: Desk<K>, I: Read + Drop, O: Write + Drop>(
-    served: &GhostList<Served<NodeHost<K, D>, I, O>>,
+fn served_sessions_keep<K: NodeName, D: ServiceAuthority<K>, I: Read + Drop, O: Write + Drop>(
+    served: &GhostList<SessionResult<NodeHost<K, D>, I, O>>,
 )
     requires told { ∥ AllByRecursion (λ s. EndsSo s.ended s.slot.session.ended) served.now ∥₁ }
-    ensures kept { ∥ AllByRecursion (λ s. (who : ℕ) × (last : List Step) × Kept K.schema (D.replies who) (λ held. D.owes held who) (new_view last)
+    ensures kept { ∥ AllByRecursion (λ s. (session_id : ℕ) × (last : List Step) × Kept K.schema (D.replies session_id) (λ held. D.owes held session_id) (new_view last)
         (I.remaining s.slot.read_from.value) (I.remaining s.slot.reader.device) (O.contents s.slot.write_to.value) (O.contents s.slot.writer.device)
-        s.slot.session.counts s.ended s.slot.session.core) served.now ∥₁ }
+        s.slot.session.counts s.ended s.slot.session.state) served.now ∥₁ }
 {
     let _ = served;
 }
 
 /// Serves the readers that this poller accepts, until no more come and all have ended.
-pub(crate) fn serve_readers<K: NodeName, D: Desk<K> + Drop, O: Poller + Drop, R: Wait>(
+pub(crate) fn serve_readers<K: NodeName, D: ServiceAuthority<K> + Drop, O: Poller + Drop, R: Wait>(
     rt: &R,
     alloc: Global,
     view: View<K>,

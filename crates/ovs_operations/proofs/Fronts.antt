@@ -8,9 +8,9 @@ use Rattle.ovs_rows.specs.DatabaseDifference.{IsVersioned, IsCommit, database_di
 use Rattle.ovs_rows.specs.Row.{Rows, AreRowsOf}
 use Rattle.ovs_rows.specs.Change.{Actions}
 use Rattle.ovs_rows.specs.Database.{DatabaseValue}
-use Rattle.ovs_operations.specs.declared.setting.Setting.{Setting as Lent}
+use Rattle.ovs_operations.specs.declared.transaction_context.TransactionContext.{TransactionContext as Lent}
 use Rattle.ovs_operations.specs.Effect.{Effect}
-use Rattle.ovs_operations.specs.Given.{setting_of, MayCommit, ComesTo}
+use Rattle.ovs_operations.specs.Given.{context_of, MayCommit, ComesTo}
 
 -- more answers before it
 abbrev pub with_front : List Data → Effect → Effect
@@ -27,7 +27,7 @@ may_stay tables rows id are = record { before = are; after = are; versions = λ 
 -- ---- what is to be committed
 
 pub comes_to : (s : Lent) (rows : Option Rows) (fine : Bool) (before : DatabaseValue) (work : Rows) (change : Option Actions) → before ≡ s.before.now → rows ≡ cond fine (Some work) None
-    → (fine ≡ true → MayCommit s work) → change ≡ cond fine (Some (database_difference before.schema.description.tables before.rows work)) None → ComesTo (setting_of s) rows change
+    → (fine ≡ true → MayCommit s work) → change ≡ cond fine (Some (database_difference before.schema.description.tables before.rows work)) None → ComesTo (context_of s) rows change
 comes_to s rows true before work change same is may made =
-    subst (λ (o : Option Rows). ComesTo (setting_of s) o change) (sym is) (made ∙ ap (λ (d : DatabaseValue). Some (database_difference d.schema.description.tables d.rows work)) same, may refl)
-comes_to s rows false before work change same is may made = subst (λ (o : Option Rows). ComesTo (setting_of s) o change) (sym is) made
+    subst (λ (o : Option Rows). ComesTo (context_of s) o change) (sym is) (made ∙ ap (λ (d : DatabaseValue). Some (database_difference d.schema.description.tables d.rows work)) same, may refl)
+comes_to s rows false before work change same is may made = subst (λ (o : Option Rows). ComesTo (context_of s) o change) (sym is) made

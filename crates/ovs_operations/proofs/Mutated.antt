@@ -19,12 +19,12 @@ use Rattle.ovs_data.proofs.Mutations.{inserted_stays, deleted_stays}
 use Rattle.ovs_types.specs.declared.schema.NamedColumn.{NamedColumn}
 use Rattle.ovs_rows.specs.Row.{AreDataOf}
 use Rattle.ovs_json.specs.Results.{◌>>=◌}
-use Rattle.ovs_operations.specs.declared.fault.Fault.{Fault}
-use Rattle.ovs_operations.specs.declared.fault.Fault.TheVariants.{Constraint}
+use Rattle.ovs_operations.specs.declared.operation_error.OperationError.{OperationError}
+use Rattle.ovs_operations.specs.declared.operation_error.OperationError.TheVariants.{Constraint}
 use Rattle.ovs_operations.specs.declared.operation.Mutation.{Mutation}
 use Rattle.ovs_operations.specs.declared.operation.Mutator.{Mutator}
 use Rattle.ovs_operations.specs.declared.operation.Mutator.TheVariants.{Set, Add, Subtract, Insert, Delete}
-use Rattle.ovs_operations.specs.Fault.{Read}
+use Rattle.ovs_operations.specs.OperationError.{Read}
 use Rattle.ovs_operations.specs.Operation.{IsValueOf, IsMutationOf}
 use Rattle.ovs_operations.specs.Mutating.{integer_in, in_range, computed, one_integer, counted, mutated, write_one, default_row}
 
@@ -85,8 +85,8 @@ pub mutated_kept : (c : Column) (m : Mutator) (old value d : Datum) → IsDatumO
 mutated_kept c Set old value d of is e = let same : value ≡ d = cc in subst (IsDatumOf c) same is
 mutated_kept c Add old value d of is e = computed_kept c ◌+ℤ◌ old value d of e
 mutated_kept c Subtract old value d of is e = computed_kept c ◌-ℤ◌ old value d of e
-mutated_kept c Insert old value d of is e = counted_kept c (inserted old value) d (inserted_stays {F = Fault} old value (Ok (inserted old value)) (alike c old value of is) refl c of is) e
-mutated_kept c Delete old value d of is e = counted_kept c (deleted old value) d (deleted_stays {F = Fault} old value (Ok (deleted old value)) refl c of) e
+mutated_kept c Insert old value d of is e = counted_kept c (inserted old value) d (inserted_stays {F = OperationError} old value (Ok (inserted old value)) (alike c old value of is) refl c of is) e
+mutated_kept c Delete old value d of is e = counted_kept c (deleted old value) d (deleted_stays {F = OperationError} old value (Ok (deleted old value)) refl c of) e
 
 -- ---- the data of a row
 

@@ -26,8 +26,8 @@ use Rattle.ovs_types.proofs.Finders.{column_at, table_at}
 use Rattle.ovs_rows.specs.Row.{columns_at, columns_in}
 use Rattle.ovs_query.specs.ConditionReading.{named, is_integer}
 use Rattle.ovs_query.specs.SelectReading.{read_select}
-use Rattle.ovs_operations.specs.declared.fault.Fault.{Fault}
-use Rattle.ovs_operations.specs.declared.fault.Fault.TheVariants.{UnknownTable, UnknownColumn, NotSupported, Aborted, NotOwner, BadOperation}
+use Rattle.ovs_operations.specs.declared.operation_error.OperationError.{OperationError}
+use Rattle.ovs_operations.specs.declared.operation_error.OperationError.TheVariants.{UnknownTable, UnknownColumn, NotSupported, Aborted, NotOwner, BadOperation}
 use Rattle.ovs_operations.specs.declared.operation.Mutator.{Mutator}
 use Rattle.ovs_operations.specs.declared.operation.Mutator.TheVariants.{Set, Add, Subtract, Insert, Delete}
 use Rattle.ovs_operations.specs.declared.operation.Mutation.{Mutation}
@@ -35,7 +35,7 @@ use Rattle.ovs_operations.specs.declared.operation.Alteration.{Alteration}
 use Rattle.ovs_operations.specs.declared.operation.Alteration.TheVariants as alters
 use Rattle.ovs_operations.specs.declared.operation.Operation.{Operation}
 use Rattle.ovs_operations.specs.declared.operation.Operation.TheVariants as does
-use Rattle.ovs_operations.specs.Fault.{Read, rank, in_value, in_query}
+use Rattle.ovs_operations.specs.OperationError.{Read, rank, in_value, in_query}
 use Rattle.ovs_operations.specs.Operation.{IsValueOf, IsMutationOf, AreMutationsOf, IsOperationOf}
 use Rattle.ovs_operations.specs.Reading.{is, is_scalar, summed_column, value_column, read_column, read_mutator, read_items, read_members, read_mutation_of, read_mutation, read_mutations, read_cell, read_row, read_conditions, read_own_name, read_table, read_updated, read_mutated, read_deleted, read_inserted, read_insert, read_alteration, read_comment, read_commit, read_assert, read_named_operation, read_operation}
 
@@ -92,11 +92,11 @@ first_so true b e = refl
 first_so false b e = absurd cc
 
 -- a test that lets a column pass
-passed : {X : Type 0} (test : Bool) (r : Read X) (fault : Fault) (x : X) → cond test r (Err fault) ≡ Ok x → (test ≡ true) × (r ≡ Ok x)
+passed : {X : Type 0} (test : Bool) (r : Read X) (fault : OperationError) (x : X) → cond test r (Err fault) ≡ Ok x → (test ≡ true) × (r ≡ Ok x)
 passed true r fault x e = (refl, e)
 passed false r fault x e = absurd cc
 
-kept : {X : Type 0} (test : Bool) (r : Read X) (fault : Fault) (x : X) → cond test (Err fault) r ≡ Ok x → r ≡ Ok x
+kept : {X : Type 0} (test : Bool) (r : Read X) (fault : OperationError) (x : X) → cond test (Err fault) r ≡ Ok x → r ≡ Ok x
 kept true r fault x e = absurd cc
 kept false r fault x e = e
 
@@ -212,7 +212,7 @@ module _ (names : NamedIds) (tables : List Table) where
   branch true r s good other = good
   branch false r s good other = other
 
-  refused : (fault : Fault) → IsGood (Err fault)
+  refused : (fault : OperationError) → IsGood (Err fault)
   refused fault op e = absurd cc
 
   nothing : (op : Operation) → ◌≡◌ {A = Read Operation} (Ok does.Nothing) (Ok op) → IsOperationOf tables op

@@ -6,7 +6,7 @@ use Rattle.ovs_json.specs.Results.{◌>>=◌, result_map}
 use Rattle.ovs_data.specs.declared.datum.Datum.{Datum}
 use Rattle.ovs_types.specs.declared.schema.NamedColumn.{NamedColumn}
 use Rattle.ovs_types.specs.Equality.{datum_eq}
-use Rattle.ovs_rows.specs.declared.place.Place.{Place}
+use Rattle.ovs_rows.specs.declared.row_key.RowKey.{RowKey}
 use Rattle.ovs_rows.specs.declared.row.Row.{Row}
 use Rattle.ovs_rows.specs.Row.{Rows}
 use Rattle.ovs_rows.specs.After.{put_at}
@@ -15,7 +15,7 @@ use Rattle.ovs_query.specs.declared.conditions.Condition.{Condition}
 use Rattle.ovs_query.specs.Conditions.{all_hold}
 use Rattle.ovs_operations.specs.declared.operation.Alteration.{Alteration}
 use Rattle.ovs_operations.specs.declared.operation.Alteration.TheVariants.{Write, Delete}
-use Rattle.ovs_operations.specs.Fault.{Read}
+use Rattle.ovs_operations.specs.OperationError.{Read}
 use Rattle.ovs_operations.specs.Operation.{AreMutationsOf}
 use Rattle.ovs_operations.specs.Mutating.{write_all}
 
@@ -42,38 +42,38 @@ abbrev pub altered : List NamedColumn → Alteration → List Datum → Read (Op
 altered columns (Write mutations) old = result_map Some (write_all columns old mutations)
 altered columns Delete old = Ok None
 
-abbrev pub matches : List Condition → Place × Row → Bool
+abbrev pub matches : List Condition → RowKey × Row → Bool
 matches conditions e = all_hold conditions e.0.id e.1
 
 -- ---- all rows that match
 
 -- the rows, and how many of them have matched
-pub record Course : Type 0 where
+pub record RunResult : Type 0 where
   pub rows : Rows
   pub count : ℕ
 
 -- the commit's id, and the rows before the transaction
 module _ (id : ℕ) (before : Rows) where
   -- the row of these columns at a place, or none
-  abbrev pub put_altered : Course → Place → Option (List Datum) → Course
+  abbrev pub put_altered : RunResult → RowKey → Option (List Datum) → RunResult
   put_altered c p columns = record { rows = put_at c.rows p (option_map (row_of id (get before p)) columns); count = c.count + 1 }
 
-  module _ (columns : List NamedColumn) (matches : Place × Row → Bool) (alteration : Alteration) where
+  module _ (columns : List NamedColumn) (matches : RowKey × Row → Bool) (alteration : Alteration) where
     -- a row stays as it is where it doesn't match
-    abbrev pub alter_one : Course → Place × Row → Read Course
+    abbrev pub alter_one : RunResult → RowKey × Row → Read RunResult
     alter_one c e = if matches e then result_map (put_altered c e.0) (altered columns alteration e.1.columns) else Ok c
 
     -- row after row, up to the first fault
-    abbrev pub alter_each : Course → List (Place × Row) → Read Course
+    abbrev pub alter_each : RunResult → List (RowKey × Row) → Read RunResult
     alter_each c [] = Ok c
     alter_each c (e ∷ es) = alter_one c e >>= λ d. alter_each d es
 
     -- the rows of the table of this number, ascending by id
-    abbrev pub alter_all : ℕ → Rows → Read Course
+    abbrev pub alter_all : ℕ → Rows → Read RunResult
     alter_all table rows = alter_each (record { rows = rows; count = 0 }) (rows_past table None rows)
 
     -- what stands at a place
-    abbrev pub alter_at : Course → Place → Option Row → Read Course
+    abbrev pub alter_at : RunResult → RowKey → Option Row → Read RunResult
     alter_at c p None = Ok c
     alter_at c p (Some row) = alter_one c (p, row)
 
@@ -84,12 +84,12 @@ abbrev pub after_result : ℕ → Option Row → Row → Read (Option (List Datu
 after_result id old row (Ok columns) = option_map (row_of id old) columns
 after_result id old row (Err fault) = Some row
 
-module _ (id : ℕ) (before : Rows) (columns : List NamedColumn) (matches : Place × Row → Bool) (alteration : Alteration) where
+module _ (id : ℕ) (before : Rows) (columns : List NamedColumn) (matches : RowKey × Row → Bool) (alteration : Alteration) where
   -- what stands at a place of the table after an alteration that met no fault
-  abbrev pub altered_at : Place → Option Row → Option Row
+  abbrev pub altered_at : RowKey → Option Row → Option Row
   altered_at p None = None
   altered_at p (Some row) = if matches (p, row) then after_result id (get before p) row (altered columns alteration row.columns) else Some row
 
   -- rows of other tables stay
-  abbrev pub after_all : ℕ → Place → Option Row → Option Row
+  abbrev pub after_all : ℕ → RowKey → Option Row → Option Row
   after_all table p row = if p.table == table then altered_at p row else row

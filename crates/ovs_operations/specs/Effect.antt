@@ -6,14 +6,14 @@ use Rattle.ovs_json.specs.Results.{◌>>=◌}
 use Rattle.ovs_types.specs.declared.schema.Table.{Table}
 use Rattle.ovs_types.specs.NamedReading.{NamedIds}
 use Rattle.ovs_rows.specs.Row.{Rows}
-use Rattle.ovs_operations.specs.declared.fault.Fault.{Fault}
+use Rattle.ovs_operations.specs.declared.operation_error.OperationError.{OperationError}
 use Rattle.ovs_operations.specs.Carrying.{Done, carried_out}
-use Rattle.ovs_operations.specs.Fault.{Read, fault_text}
+use Rattle.ovs_operations.specs.OperationError.{Read, fault_text}
 use Rattle.ovs_operations.specs.Reading.{read_operation}
 
 -- what the operations of a transaction are carried out with: the tables, the ids of its names, the locks that its session owns, the id of
 -- the commit that it makes, and the rows before it
-pub record Setting : Type 0 where
+pub record TransactionContext : Type 0 where
   pub tables : List Table
   pub names : NamedIds
   pub owns : List ℕ → Bool
@@ -21,7 +21,7 @@ pub record Setting : Type 0 where
   pub before : Rows
 
 -- one operation on the rows that those before it left; an insert is given an id
-abbrev pub outcome_of : Setting → Option ℕ → Data → Rows → Read Done
+abbrev pub outcome_of : TransactionContext → Option ℕ → Data → Rows → Read Done
 outcome_of s id d rows = read_operation s.names s.tables s.owns id d >>= λ operation. carried_out s.tables s.commit s.before operation rows
 
 -- an answer for each operation, and the rows after them, if none failed
@@ -47,6 +47,6 @@ later_given [] = []
 later_given (id ∷ ids) = ids
 
 -- the operations one after the other, each with the id that it is given
-abbrev pub effect : Setting → List Data → List (Option ℕ) → Rows → Effect
+abbrev pub effect : TransactionContext → List Data → List (Option ℕ) → Rows → Effect
 effect s [] ids rows = record { answers = []; rows = Some rows }
 effect s (d ∷ ds) ids rows = effect_after ds (outcome_of s (first_given ids) d rows) (effect s ds (later_given ids))

@@ -1,4 +1,4 @@
-pub mod Fault
+pub mod OperationError
 pub mod Reading
 pub mod Operation
 pub mod Owning

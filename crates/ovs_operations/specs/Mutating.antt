@@ -11,11 +11,11 @@ use Rattle.ovs_types.specs.declared.schema.NamedColumn.{NamedColumn}
 use Rattle.ovs_types.specs.Column.{may_count}
 use Rattle.ovs_types.specs.Datum.{datum_len}
 use Rattle.ovs_rows.specs.Cells.{data_of}
-use Rattle.ovs_operations.specs.declared.fault.Fault.TheVariants.{Constraint, RangeError, BadOperation}
+use Rattle.ovs_operations.specs.declared.operation_error.OperationError.TheVariants.{Constraint, RangeError, BadOperation}
 use Rattle.ovs_operations.specs.declared.operation.Mutator.{Mutator}
 use Rattle.ovs_operations.specs.declared.operation.Mutator.TheVariants.{Set, Add, Subtract, Insert, Delete}
 use Rattle.ovs_operations.specs.declared.operation.Mutation.{Mutation}
-use Rattle.ovs_operations.specs.Fault.{Read}
+use Rattle.ovs_operations.specs.OperationError.{Read}
 
 -- ---- sums
 

@@ -6,4 +6,4 @@ use Rattle.ovs_locks.specs.LockTable.{Locks, lock_at}
 
 -- whether it is the owner of the lock of this name
 abbrev pub owns : ℕ → Locks → List ℕ → Bool
-owns who locks name = option_eq nat_eq (owner (lock_at name locks)) (Some who)
+owns session locks name = option_eq nat_eq (owner (lock_at name locks)) (Some session)

@@ -18,7 +18,7 @@ use Rattle.ovs_types.specs.Names.{is_id}
 use Rattle.ovs_query.specs.declared.conditions.Condition.{Condition}
 use Rattle.ovs_query.specs.ConditionReading.{named, is_integer}
 use Rattle.ovs_query.specs.SelectReading.{read_where, read_select}
-use Rattle.ovs_operations.specs.declared.fault.Fault.TheVariants.{UnknownTable, UnknownColumn, DuplicateName, NotSupported, Aborted, NotOwner, BadOperation}
+use Rattle.ovs_operations.specs.declared.operation_error.OperationError.TheVariants.{UnknownTable, UnknownColumn, DuplicateName, NotSupported, Aborted, NotOwner, BadOperation}
 use Rattle.ovs_operations.specs.declared.operation.Mutator.{Mutator}
 use Rattle.ovs_operations.specs.declared.operation.Mutator.TheVariants.{Set, Add, Subtract, Insert, Delete}
 use Rattle.ovs_operations.specs.declared.operation.Mutation.{Mutation}
@@ -28,7 +28,7 @@ use Rattle.ovs_operations.specs.declared.operation.Altering.{Altering}
 use Rattle.ovs_operations.specs.declared.operation.Altering.TheVariants as ways
 use Rattle.ovs_operations.specs.declared.operation.Operation.{Operation}
 use Rattle.ovs_operations.specs.declared.operation.Operation.TheVariants as does
-use Rattle.ovs_operations.specs.Fault.{Read, rank, in_value, in_query}
+use Rattle.ovs_operations.specs.OperationError.{Read, rank, in_value, in_query}
 
 abbrev pub is : List ℕ → List ℕ → Bool
 is s w = pointwise nat_eq s w

@@ -5,14 +5,14 @@ ghost use Rattle.std.specs.Option.{option_copied};
 ghost use Rattle.ovs_rows.specs.Row.{AreDataOf, columns_at};
 ghost use Rattle.ovs_rows.specs.DatabaseDifference.{IsCommit};
 ghost use Rattle.ovs_rows.specs.Scanning.{row_in};
-ghost use Rattle.ovs_operations.specs.Altering.{IsAlterationOf, Course, row_of, altered, matches, alter_at, alter_all};
+ghost use Rattle.ovs_operations.specs.Altering.{IsAlterationOf, RunResult, row_of, altered, matches, alter_at, alter_all};
 
-use crate::fault::Fault;
 use crate::mutating::write_all;
 use crate::operation::Alteration;
+use crate::operation_error::OperationError;
 use ovs_json::NoMemory;
 use ovs_query::Conditions;
-use ovs_rows::{Columns, Draft, Place, Row, SharedRow};
+use ovs_rows::{Columns, Draft, Row, RowKey, SharedRow};
 use ovs_types::{NamedColumn, RowId, Table, TxnId};
 use std::alloc::Global;
 
@@ -68,7 +68,7 @@ fn altered(
     columns: &[NamedColumn],
     alteration: &Alteration,
     old: &Columns,
-) -> Result<Result<Option<Columns>, Fault>, NoMemory>
+) -> Result<Result<Option<Columns>, OperationError>, NoMemory>
     requires row { AreDataOf columns.now old.now }
     requires alteration { IsAlterationOf columns.now alteration.now }
     ensures exact { IfOk result (λ r. r ≡ altered columns.now alteration.now old.now) }
@@ -94,7 +94,7 @@ fn alter_row(
     id: RowId,
     conditions: &Conditions,
     alteration: &Alteration,
-) -> Result<Result<usize, Fault>, NoMemory>
+) -> Result<Result<usize, OperationError>, NoMemory>
     requires alteration { IsAlterationOf (columns_at work.old.before.schema.description.tables table) alteration.now }
     ensures done { IfOk result (λ r. IfOk r (λ n. (count : ℕ) →
         alter_at commit work.old.before.rows (columns_at work.old.before.schema.description.tables table) (matches conditions.now) alteration.now
@@ -109,7 +109,7 @@ fn alter_row(
         → IfOk result (λ r. IfOk r (λ n. IsCommit work.old.before.schema.description.tables work.old.before.rows work.new.rows commit)) }
 {
     let schema = work.schema();
-    let Some(row) = work.row(Place { table, id }) else {
+    let Some(row) = work.row(RowKey { table, id }) else {
         return Ok(Ok(0));
     };
     if !conditions.matches(id, row) {
@@ -118,9 +118,9 @@ fn alter_row(
     let columns = columns_at(schema.tables(), table);
     match altered(alloc, columns, alteration, &row.columns)? {
         Ok(columns) => {
-            let before = work.base().row(Place { table, id });
+            let before = work.base().row(RowKey { table, id });
             let row = row_or_none(alloc, commit, before, columns)?;
-            work.set_row(Place { table, id }, row)?;
+            work.set_row(RowKey { table, id }, row)?;
             Ok(Ok(1))
         }
         Err(fault) => Ok(Err(fault)),
@@ -135,7 +135,7 @@ fn alter_rows(
     table: usize,
     conditions: &Conditions,
     alteration: &Alteration,
-) -> Result<Result<usize, Fault>, NoMemory>
+) -> Result<Result<usize, OperationError>, NoMemory>
     requires alteration { IsAlterationOf (columns_at work.old.before.schema.description.tables table) alteration.now }
     ensures done { IfOk result (λ r. IfOk r (λ count.
         alter_all commit work.old.before.rows (columns_at work.old.before.schema.description.tables table) (matches conditions.now) alteration.now table work.old.rows
@@ -172,7 +172,7 @@ pub(crate) fn alter(
     table: usize,
     conditions: &Conditions,
     alteration: &Alteration,
-) -> Result<Result<usize, Fault>, NoMemory>
+) -> Result<Result<usize, OperationError>, NoMemory>
     requires alteration { IsAlterationOf (columns_at work.old.before.schema.description.tables table) alteration.now }
     ensures done { IfOk result (λ r. IfOk r (λ count.
         alter_all commit work.old.before.rows (columns_at work.old.before.schema.description.tables table) (matches conditions.now) alteration.now table work.old.rows

@@ -8,12 +8,12 @@ ghost use Rattle.ovs_operations.specs.Operation.{AreMutationsOf, IsOperationOf};
 ghost use Rattle.ovs_operations.specs.Carrying.{inserted_json, count_json, inserted_row, carried_out};
 
 use crate::altering::{alter, columns_at, row_or_none};
-use crate::fault::Fault;
 use crate::mutating::{default_row, write_all};
 use crate::operation::{Alteration, Mutation, Operation};
+use crate::operation_error::OperationError;
 use ovs_json::{NoMemory, under_name};
 use ovs_query::Conditions;
-use ovs_rows::{Columns, Draft, Place};
+use ovs_rows::{Columns, Draft, RowKey};
 use ovs_types::{Atom, RowId, Table, TxnId};
 use serde_json::{Map, Value};
 use std::alloc::Global;
@@ -36,9 +36,9 @@ fn count_json(alloc: Global, count: usize) -> Result<Value, NoMemory>
 fn inserted_row(
     alloc: Global,
     tables: &[Table],
-    place: Place,
+    place: RowKey,
     mutations: &[Mutation],
-) -> Result<Result<Columns, Fault>, NoMemory>
+) -> Result<Result<Columns, OperationError>, NoMemory>
     requires mutations { AreMutationsOf (columns_at tables.now place.table) mutations.now }
     ensures exact { IfOk result (λ r. r ≡ inserted_row tables.now place mutations.now) }
     ensures kept { IfOk result (λ r. IfOk r (AreDataOf (columns_at tables.now place.table))) }
@@ -51,9 +51,9 @@ fn insert(
     alloc: Global,
     work: &mut Draft<'_>,
     commit: TxnId,
-    place: Place,
+    place: RowKey,
     mutations: &[Mutation],
-) -> Result<Result<Value, Fault>, NoMemory>
+) -> Result<Result<Value, OperationError>, NoMemory>
     requires operation { IsOperationOf work.old.before.schema.description.tables (Operation.Insert place mutations.now) }
     ensures done { IfOk result (λ r. IfOk r (λ v.
         carried_out work.old.before.schema.description.tables commit work.old.before.rows (Operation.Insert place mutations.now) work.old.rows
@@ -82,7 +82,7 @@ fn alter_counted(
     table: usize,
     conditions: &Conditions,
     alteration: &Alteration,
-) -> Result<Result<Value, Fault>, NoMemory>
+) -> Result<Result<Value, OperationError>, NoMemory>
     requires operation { IsOperationOf work.old.before.schema.description.tables (Operation.Alter table conditions.now alteration.now) }
     ensures done { IfOk result (λ r. IfOk r (λ v.
         carried_out work.old.before.schema.description.tables commit work.old.before.rows (Operation.Alter table conditions.now alteration.now) work.old.rows
@@ -114,7 +114,7 @@ pub(crate) fn carried_out(
     work: &mut Draft<'_>,
     commit: TxnId,
     operation: &Operation,
-) -> Result<Result<Value, Fault>, NoMemory>
+) -> Result<Result<Value, OperationError>, NoMemory>
     requires operation { IsOperationOf work.old.before.schema.description.tables operation.now }
     ensures done { IfOk result (λ r. IfOk r (λ v.
         carried_out work.old.before.schema.description.tables commit work.old.before.rows operation.now work.old.rows

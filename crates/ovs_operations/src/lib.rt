@@ -3,15 +3,15 @@
 
 mod altering;
 mod carrying;
-mod fault;
 mod mutating;
 mod operation;
+mod operation_error;
 mod reading;
 mod running;
-mod setting;
 mod theorems;
+mod transaction_context;
 
-pub use fault::Fault;
-pub use running::{Course, run};
-pub use setting::Setting;
+pub use operation_error::OperationError;
+pub use running::{RunResult, run};
 pub use theorems::each_row_once;
+pub use transaction_context::TransactionContext;

@@ -8,8 +8,8 @@ ghost use Rattle.ovs_rows.specs.Row.{AreDataOf};
 ghost use Rattle.ovs_operations.specs.Operation.{IsValueOf, IsMutationOf, AreMutationsOf};
 ghost use Rattle.ovs_operations.specs.Mutating.{in_range, integer_in, one_integer, computed, counted, mutated, write_one, write_all, default_row};
 
-use crate::fault::Fault;
 use crate::operation::{Mutation, Mutator};
+use crate::operation_error::OperationError;
 use ovs_json::NoMemory;
 use ovs_rows::Columns;
 use ovs_types::{Atom, Column, Datum, NamedColumn};
@@ -18,41 +18,44 @@ use std::alloc::Global;
 // ---- sums
 
 // The one integer that a datum is.
-fn integer_in(datum: &Datum) -> Result<i64, Fault>
+fn integer_in(datum: &Datum) -> Result<i64, OperationError>
     ensures value { result ≡ integer_in datum.now }
 {
     match datum.atoms() {
         [Atom::Integer(number)] => Ok(*number),
-        _ => Err(Fault::BadOperation),
+        _ => Err(OperationError::BadOperation),
     }
 }
 
-fn added(left: i64, right: i64) -> Result<i64, Fault>
+fn added(left: i64, right: i64) -> Result<i64, OperationError>
     ensures value { result ≡ in_range (left +ℤ right) }
 {
-    left.checked_add(right).ok_or(Fault::RangeError)
+    left.checked_add(right).ok_or(OperationError::RangeError)
 }
 
-fn subtracted(left: i64, right: i64) -> Result<i64, Fault>
+fn subtracted(left: i64, right: i64) -> Result<i64, OperationError>
     ensures value { result ≡ in_range (left -ℤ right) }
 {
-    left.checked_sub(right).ok_or(Fault::RangeError)
+    left.checked_sub(right).ok_or(OperationError::RangeError)
 }
 
-fn sum(old: &Datum, value: &Datum) -> Result<i64, Fault>
+fn sum(old: &Datum, value: &Datum) -> Result<i64, OperationError>
     ensures value { result ≡ computed ◌+ℤ◌ old.now value.now }
 {
     added(integer_in(old)?, integer_in(value)?)
 }
 
-fn difference(old: &Datum, value: &Datum) -> Result<i64, Fault>
+fn difference(old: &Datum, value: &Datum) -> Result<i64, OperationError>
     ensures value { result ≡ computed ◌-ℤ◌ old.now value.now }
 {
     subtracted(integer_in(old)?, integer_in(value)?)
 }
 
 // The datum of one integer, if there is one.
-fn one_integer(alloc: Global, number: Result<i64, Fault>) -> Result<Result<Datum, Fault>, NoMemory>
+fn one_integer(
+    alloc: Global,
+    number: Result<i64, OperationError>,
+) -> Result<Result<Datum, OperationError>, NoMemory>
     ensures exact { IfOk result (λ r. r ≡ result_map one_integer number) }
 {
     match number {
@@ -74,13 +77,13 @@ fn may_count(column: &Column, count: usize) -> bool
     !column.is_single() || count == 1 || (column.may_be_empty && count == 0)
 }
 
-fn counted(column: &Column, datum: Datum) -> Result<Datum, Fault>
+fn counted(column: &Column, datum: Datum) -> Result<Datum, OperationError>
     ensures exact { result ≡ counted column.now datum }
 {
     if may_count(column, datum.len()) {
         Ok(datum)
     } else {
-        Err(Fault::Constraint)
+        Err(OperationError::Constraint)
     }
 }
 
@@ -91,7 +94,7 @@ fn mutated(
     mutator: Mutator,
     old: &Datum,
     value: &Datum,
-) -> Result<Result<Datum, Fault>, NoMemory>
+) -> Result<Result<Datum, OperationError>, NoMemory>
     requires old { IsDatumOf column.now old.now }
     requires value { IsValueOf column.now mutator value.now }
     ensures exact { IfOk result (λ r. r ≡ mutated column.now mutator old.now value.now) }
@@ -113,17 +116,17 @@ fn write_one(
     columns: &[NamedColumn],
     row: Columns,
     mutation: &Mutation,
-) -> Result<Result<Columns, Fault>, NoMemory>
+) -> Result<Result<Columns, OperationError>, NoMemory>
     requires row { AreDataOf columns.now row }
     requires mutation { IsMutationOf columns.now mutation.now }
     ensures exact { IfOk result (λ r. r ≡ write_one columns.now row mutation.now) }
     ensures kept { IfOk result (λ r. IfOk r (AreDataOf columns.now)) }
 {
     let Some(named) = columns.get(mutation.column) else {
-        return Ok(Err(Fault::BadOperation));
+        return Ok(Err(OperationError::BadOperation));
     };
     let Some(old) = row.as_slice().get(mutation.column) else {
-        return Ok(Err(Fault::BadOperation));
+        return Ok(Err(OperationError::BadOperation));
     };
     match mutated(alloc, &named.column, mutation.mutator, old, &mutation.value)? {
         Ok(new) => Ok(Ok(row.with(mutation.column, new))),
@@ -141,7 +144,7 @@ pub(crate) fn write_all(
     columns: &[NamedColumn],
     row: Columns,
     mutations: &[Mutation],
-) -> Result<Result<Columns, Fault>, NoMemory>
+) -> Result<Result<Columns, OperationError>, NoMemory>
     requires row { AreDataOf columns.now row }
     requires mutations { AreMutationsOf columns.now mutations.now }
     ensures exact { IfOk result (λ r. r ≡ write_all columns.now row mutations.now) }

@@ -3,7 +3,7 @@
 ghost use Rattle.std.specs.Prelude.{◌≡◌};
 
 use ovs_query::{Conditions, Select};
-use ovs_rows::Place;
+use ovs_rows::RowKey;
 use ovs_types::Datum;
 use std::marker::Model;
 
@@ -86,7 +86,7 @@ pub(crate) enum Altering {
 pub(crate) enum Operation {
     /// A row at this place, of the defaults of its columns and then these mutations.
     Insert {
-        place: Place,
+        place: RowKey,
         mutations: Mutations,
     },
     /// The rows of the table of this number of which all conditions hold are altered.

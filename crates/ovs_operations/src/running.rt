@@ -5,12 +5,12 @@ ghost use Rattle.serde_json.specs.Data.{null};
 ghost use Rattle.serde_json.specs.View.{view};
 ghost use Rattle.ovs_rows.specs.DatabaseDifference.{database_difference};
 ghost use Rattle.ovs_operations.specs.Effect.{outcome_of, first_given, later_given, effect};
-ghost use Rattle.ovs_operations.specs.Given.{setting_of, MayCommit, ComesTo};
+ghost use Rattle.ovs_operations.specs.Given.{context_of, MayCommit, ComesTo};
 
 use crate::carrying::carried_out;
-use crate::fault::Fault;
+use crate::operation_error::OperationError;
 use crate::reading::operation::read_operation;
-use crate::setting::Setting;
+use crate::transaction_context::TransactionContext;
 use ovs_json::error_json;
 use ovs_rows::{Change, Draft};
 use ovs_types::{NoMemory, RowId, Schema};
@@ -20,21 +20,21 @@ use std::alloc::Global;
 // Reads an operation, which is given an id if it inserts a row, and carries it out.
 fn outcome_of(
     alloc: Global,
-    setting: &Setting<'_>,
+    context: &TransactionContext<'_>,
     schema: &Schema,
     id: Option<RowId>,
     operation: &Value,
     work: &mut Draft<'_>,
-) -> Result<Result<Value, Fault>, NoMemory>
-    requires schema { schema.now ≡ setting.now.before.now.schema }
-    requires before { work.old.before ≡ setting.now.before.now }
-    ensures done { IfOk result (λ r. IfOk r (λ v. outcome_of (setting_of setting.now) id (view operation.now) work.old.rows ≡ Ok (record { rows = work.new.rows; answer = view v }))) }
-    ensures fault { IfOk result (λ r. IfErr r (λ e. outcome_of (setting_of setting.now) id (view operation.now) work.old.rows ≡ Err e)) }
+) -> Result<Result<Value, OperationError>, NoMemory>
+    requires schema { schema.now ≡ context.now.before.now.schema }
+    requires before { work.old.before ≡ context.now.before.now }
+    ensures done { IfOk result (λ r. IfOk r (λ v. outcome_of (context_of context.now) id (view operation.now) work.old.rows ≡ Ok (record { rows = work.new.rows; answer = view v }))) }
+    ensures fault { IfOk result (λ r. IfErr r (λ e. outcome_of (context_of context.now) id (view operation.now) work.old.rows ≡ Err e)) }
     ensures before { work.new.before ≡ work.old.before }
-    ensures commit { MayCommit setting.now work.old.rows → IfOk result (λ r. IfOk r (λ v. MayCommit setting.now work.new.rows)) }
+    ensures commit { MayCommit context.now work.old.rows → IfOk result (λ r. IfOk r (λ v. MayCommit context.now work.new.rows)) }
 {
-    match read_operation(alloc, setting, schema, id, operation)? {
-        Ok(operation) => carried_out(alloc, work, setting.commit, &operation),
+    match read_operation(alloc, context, schema, id, operation)? {
+        Ok(operation) => carried_out(alloc, work, context.commit, &operation),
         Err(fault) => Ok(Err(fault)),
     }
 }
@@ -64,25 +64,25 @@ fn next_given(ids: &[Option<RowId>]) -> (Option<RowId>, &[Option<RowId>])
 // All operations, up to the first that fails. Answers whether none did.
 fn run_all(
     alloc: Global,
-    setting: &Setting<'_>,
+    context: &TransactionContext<'_>,
     schema: &Schema,
-    given: &[Option<RowId>],
+    row_ids: &[Option<RowId>],
     operations: &[Value],
     work: &mut Draft<'_>,
     answers: &mut Vec<Value>,
 ) -> Result<bool, NoMemory>
-    requires schema { schema.now ≡ setting.now.before.now.schema }
-    requires before { work.old.before ≡ setting.now.before.now }
-    ensures answers { OnOk result (map view answers.new.items ≡ map view answers.old.items ++ (effect (setting_of setting.now) (map view operations.now) given.now work.old.rows).answers) }
-    ensures rows { IfOk result (λ fine. (effect (setting_of setting.now) (map view operations.now) given.now work.old.rows).rows ≡ (if fine then Some work.new.rows else None)) }
+    requires schema { schema.now ≡ context.now.before.now.schema }
+    requires before { work.old.before ≡ context.now.before.now }
+    ensures answers { OnOk result (map view answers.new.items ≡ map view answers.old.items ++ (effect (context_of context.now) (map view operations.now) row_ids.now work.old.rows).answers) }
+    ensures rows { IfOk result (λ fine. (effect (context_of context.now) (map view operations.now) row_ids.now work.old.rows).rows ≡ (if fine then Some work.new.rows else None)) }
     ensures before { work.new.before ≡ work.old.before }
-    ensures commit { MayCommit setting.now work.old.rows → IfOk result (λ fine. fine ≡ true → MayCommit setting.now work.new.rows) }
+    ensures commit { MayCommit context.now work.old.rows → IfOk result (λ fine. fine ≡ true → MayCommit context.now work.new.rows) }
 {
     let mut left = operations;
-    let mut ids = given;
+    let mut ids = row_ids;
     while let [operation, rest @ ..] = left {
         let (id, later) = next_given(ids);
-        match outcome_of(alloc, setting, schema, id, operation, work)? {
+        match outcome_of(alloc, context, schema, id, operation, work)? {
             Ok(answer) => answers.push(answer)?,
             Err(fault) => {
                 answers.push(error_json(alloc, fault.text())?)?;
@@ -109,7 +109,7 @@ fn change_where(alloc: Global, asked: bool, work: &Draft<'_>) -> Result<Option<C
 
 /// What the operations of a transaction came to.
 #[derive(Drop)]
-pub struct Course {
+pub struct RunResult {
     /// A result for each operation: its own up to the first that failed, `{"error": TEXT}` for that one, and null for those after it.
     pub answers: Vec<Value>,
     /// The change that leads from the database before the operations to the one after them, where none failed.
@@ -123,26 +123,26 @@ pub struct Course {
 /// `NoMemory` alone.
 pub fn run(
     alloc: Global,
-    setting: &Setting<'_>,
-    given: &[Option<RowId>],
+    context: &TransactionContext<'_>,
+    row_ids: &[Option<RowId>],
     operations: &[Value],
-) -> Result<Course, NoMemory>
-    ensures answers { IfOk result (λ c. map view c.answers.items ≡ (effect (setting_of setting.now) (map view operations.now) given.now setting.now.before.now.rows).answers) }
+) -> Result<RunResult, NoMemory>
+    ensures answers { IfOk result (λ c. map view c.answers.items ≡ (effect (context_of context.now) (map view operations.now) row_ids.now context.now.before.now.rows).answers) }
     // The rows after the operations may be committed, and the change leads to them.
-    ensures change { IfOk result (λ c. ComesTo (setting_of setting.now) (effect (setting_of setting.now) (map view operations.now) given.now setting.now.before.now.rows).rows c.change) }
+    ensures change { IfOk result (λ c. ComesTo (context_of context.now) (effect (context_of context.now) (map view operations.now) row_ids.now context.now.before.now.rows).rows c.change) }
 {
-    let mut work = Draft::new(alloc, setting.before);
+    let mut work = Draft::new(alloc, context.before);
     let mut answers = Vec::with_capacity(alloc, operations.len())?;
-    let schema = setting.before.schema();
+    let schema = context.before.schema();
     let fine = run_all(
         alloc,
-        setting,
+        context,
         schema,
-        given,
+        row_ids,
         operations,
         &mut work,
         &mut answers,
     )?;
     let change = change_where(alloc, fine, &work)?;
-    Ok(Course { answers, change })
+    Ok(RunResult { answers, change })
 }

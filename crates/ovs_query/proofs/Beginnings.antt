@@ -7,11 +7,11 @@ use Rattle.std.specs.Option.{option_and_then}
 use Rattle.std.specs.FinMap.{get, find, empty, entries, get-empty, get-entries}
 use Rattle.ovs_data.specs.declared.datum.Datum.{Datum}
 use Rattle.ovs_types.specs.declared.schema.Table.{Table}
-use Rattle.ovs_rows.specs.declared.place.Place.{Place}
+use Rattle.ovs_rows.specs.declared.row_key.RowKey.{RowKey}
 use Rattle.ovs_rows.specs.declared.row.Row.{Row}
 use Rattle.ovs_rows.specs.declared.change.Action.{Action}
 use Rattle.ovs_rows.specs.declared.change.Action.TheVariants.{Insert}
-use Rattle.ovs_rows.specs.Place.{place_cmp, place_total, place_exact}
+use Rattle.ovs_rows.specs.RowKey.{place_cmp, place_total, place_exact}
 use Rattle.ovs_rows.specs.Row.{Rows, columns_at, AreRowsOf}
 use Rattle.ovs_rows.specs.Change.{Actions, IsChangeOf}
 use Rattle.ovs_rows.specs.After.{row_after, after_action, after, touched_row, applied_of}
@@ -31,7 +31,7 @@ use Rattle.ovs_query.proofs.Mirroring.{carried_all}
 -- ---- the first rows
 
 module _ {U : Type 0} (made : List Datum → U) where
-  pub get-first_rows : (watches : List (Option Watched)) (rows : Rows) (p : Place) → get (first_rows made watches rows) p ≡ option_and_then (asked_first made (watched_at watches p.table)) (shown_at watches p (get rows p))
+  pub get-first_rows : (watches : List (Option Watched)) (rows : Rows) (p : RowKey) → get (first_rows made watches rows) p ≡ option_and_then (asked_first made (watched_at watches p.table)) (shown_at watches p (get rows p))
   unfolding first_rows
   get-first_rows watches rows p =
       get-combined place_total place_exact (λ p row nothing. option_and_then (asked_first made (watched_at watches p.table)) (shown_at watches p row)) (λ p. refl) rows (empty {X = Row}) p
@@ -48,7 +48,7 @@ module _ {U : Type 0} (made : List Datum → U) where
         by None = nothing
         by (Some xs) = ap (λ b. f None (cond b (Some (made xs)) None)) h ∙ makes xs
 
-  module _ (f : Place → Option (List Datum) → Option U → Option (Option (List Datum))) (nothing : (p : Place) → f p None None ≡ Some None) (makes : (p : Place) (xs : List Datum) → f p None (Some (made xs)) ≡ Some (Some xs)) where
+  module _ (f : RowKey → Option (List Datum) → Option U → Option (Option (List Datum))) (nothing : (p : RowKey) → f p None None ≡ Some None) (makes : (p : RowKey) (xs : List Datum) → f p None (Some (made xs)) ≡ Some (Some xs)) where
     -- a copy of nothing that gets the first rows is what is shown
     first_carried : (watches : List (Option Watched)) (rows : Rows) → AsksFirst watches → carry f empty (first_rows made watches rows) ≡ Some (view watches rows)
     first_carried watches rows all = carried_all f nothing empty (view watches rows) (first_rows made watches rows) (λ p.
@@ -65,11 +65,11 @@ first_replaced watches = first_carried New (λ p. replace_row) (λ p. refl) (λ 
 
 -- ---- applying a change is a step
 
-module _ (tables : List Table) (rows : Rows) (version : ℕ) (p : Place) where
+module _ (tables : List Table) (rows : Rows) (version : ℕ) (p : RowKey) where
   abbrev row_at : Option Action → Option Row
   row_at action = row_after (columns_at tables p.table) version action (get rows p)
 
-  touched : (es : List (Place × Action)) → IsStepAt (touched_at (map (touched_row tables rows version) es) p) (get rows p) (row_at (find place_cmp p es))
+  touched : (es : List (RowKey × Action)) → IsStepAt (touched_at (map (touched_row tables rows version) es) p) (get rows p) (row_at (find place_cmp p es))
   touched [] = refl
   touched (e ∷ es) = by (touched es) (eq_by_cmp place_cmp p e.0) refl
     where
@@ -89,16 +89,16 @@ applied_step tables rows change version p =
 
 -- and its rows are rows of the tables
 module _ (tables : List Table) (rows : Rows) (change : Actions) (version : ℕ) (h : AreRowsOf tables rows) (k : IsChangeOf tables change) where
-  abbrev AreOf : Place × Action → Type 0
+  abbrev AreOf : RowKey × Action → Type 0
   AreOf e = IsRowOf (columns_at tables e.0.table) (get rows e.0) × IsRowOf (columns_at tables e.0.table) (after_action (columns_at tables e.0.table) version e.1 (get rows e.0))
 
-  before_of : (p : Place) → IsRowOf (columns_at tables p.table) (get rows p)
+  before_of : (p : RowKey) → IsRowOf (columns_at tables p.table) (get rows p)
   before_of p = if_some (get rows p) _ (λ r e. (h p r e).1)
 
-  after_of : (p : Place) (a : Action) → get change p ≡ Some a → IsRowOf (columns_at tables p.table) (after_action (columns_at tables p.table) version a (get rows p))
+  after_of : (p : RowKey) (a : Action) → get change p ≡ Some a → IsRowOf (columns_at tables p.table) (after_action (columns_at tables p.table) version a (get rows p))
   after_of p a e = if_some (after_action (columns_at tables p.table) version a (get rows p)) _ (λ r is. row_after_kept (columns_at tables p.table) version (Some a) (get rows p) r (k p a e).1 (before_of p) is)
 
-  each_of : (es : List (Place × Action)) → AllByRecursion AreOf es → AreTouchedOf tables (map (touched_row tables rows version) es)
+  each_of : (es : List (RowKey × Action)) → AllByRecursion AreOf es → AreTouchedOf tables (map (touched_row tables rows version) es)
   each_of [] all = tt
   each_of (e ∷ es) all = (all.0, each_of es all.1)
 

@@ -9,7 +9,7 @@ use Rattle.ovs_data.specs.declared.datum.Datum.{Datum}
 use Rattle.ovs_types.specs.Equality.{datum_eq}
 use Rattle.ovs_types.specs.declared.schema.NamedColumn.{NamedColumn}
 use Rattle.ovs_types.specs.declared.schema.Table.{Table}
-use Rattle.ovs_rows.specs.declared.place.Place.{Place}
+use Rattle.ovs_rows.specs.declared.row_key.RowKey.{RowKey}
 use Rattle.ovs_rows.specs.declared.row.Row.{Row}
 use Rattle.ovs_rows.specs.declared.change.Action.{Action}
 use Rattle.ovs_rows.specs.declared.change.Action.TheVariants.{Insert, Delete, Modify}
@@ -80,9 +80,9 @@ no_row_update (Some xs) = refl
 
 -- ---- a step
 
-module _ {U : Type 0} (told : Option Watched → ℕ → Option Row → Option Row → Option U) (R : Place → Option (List Datum) → Option (List Datum) → Option U → Type 0) (same : (p : Place) (o : Option (List Datum)) → R p o o None)
+module _ {U : Type 0} (told : Option Watched → ℕ → Option Row → Option Row → Option U) (R : RowKey → Option (List Datum) → Option (List Datum) → Option U → Type 0) (same : (p : RowKey) (o : Option (List Datum)) → R p o o None)
     (watches : List (Option Watched)) (a b : Rows) (ts : List TouchedRow) (sorted : AscendByPlace ts) (step : IsStep ts a b) where
-  touched_related : (p : Place) → R p (shown_at watches p (get a p)) (shown_at watches p (get b p)) (told (watched_at watches p.table) p.id (get a p) (get b p))
+  touched_related : (p : RowKey) → R p (shown_at watches p (get a p)) (shown_at watches p (get b p)) (told (watched_at watches p.table) p.id (get a p) (get b p))
       → (o : Option TouchedRow) → touched_at ts p ≡ o → IsStepAt o (get a p) (get b p) → R p (shown_at watches p (get a p)) (shown_at watches p (get b p)) (option_and_then (told_of told watches) o)
   touched_related p each None is stays = subst (λ r. R p (shown_at watches p (get a p)) (shown_at watches p r) None) (sym stays) (same p (shown_at watches p (get a p)))
   touched_related p each (Some t) is goes =
@@ -90,8 +90,8 @@ module _ {U : Type 0} (told : Option Watched → ℕ → Option Row → Option R
       (ap (λ r. told (watched_at watches p.table) p.id r (get b p)) goes.0 ∙ ap (told (watched_at watches p.table) p.id t.before) goes.1 ∙ ap (λ q. told (watched_at watches q.table) q.id t.before t.after) (sym (touched_place ts p t is)))
       each
 
-  pub step_related : ((p : Place) → R p (shown_at watches p (get a p)) (shown_at watches p (get b p)) (told (watched_at watches p.table) p.id (get a p) (get b p)))
-      → (p : Place) → R p (get (view watches a) p) (get (view watches b) p) (get (told_by_place told watches ts) p)
+  pub step_related : ((p : RowKey) → R p (shown_at watches p (get a p)) (shown_at watches p (get b p)) (told (watched_at watches p.table) p.id (get a p) (get b p)))
+      → (p : RowKey) → R p (get (view watches a) p) (get (view watches b) p) (get (told_by_place told watches ts) p)
   step_related each p =
       subst (λ v. R p v (get (view watches b) p) (get (told_by_place told watches ts) p)) (sym (get-view watches a p))
       (subst (λ v. R p (shown_at watches p (get a p)) v (get (told_by_place told watches ts) p)) (sym (get-view watches b p))
@@ -138,7 +138,7 @@ asking_shows w id (Some row) = refl
 module _ {U : Type 0} (t : Kinds → U → Bool) (told : Option Watched → ℕ → Option Row → Option Row → Option U)
     (kept : (watched : Option Watched) (id : ℕ) (before after : Option Row) → told watched id before after ≡ option_and_then (asked t watched) (told (option_map asking_of watched) id before after)) where
   -- those that are told are those of the kinds that are asked for
-  left_out : (watches : List (Option Watched)) (ts : List TouchedRow) (p : Place) → AscendByPlace ts
+  left_out : (watches : List (Option Watched)) (ts : List TouchedRow) (p : RowKey) → AscendByPlace ts
       → get (told_by_place told watches ts) p ≡ option_and_then (asked t (watched_at watches p.table)) (get (told_by_place told (asking_all watches) ts) p)
   left_out watches ts p sorted =
       get-by_place (told_of told watches) ts p sorted
@@ -168,10 +168,10 @@ kept_row_update (Some w) id before after =
     ∙ ap (λ o. option_and_then (asked is_row_asked (Some w)) (option_and_then (asked is_row_asked (Some (asking_of w))) (row_update_between o (shown_by (Some w) id after)))) (asking_shows w id before)
     ∙ ap (λ o. option_and_then (asked is_row_asked (Some w)) (option_and_then (asked is_row_asked (Some (asking_of w))) (row_update_between (shown_by (Some (asking_of w)) id before) o))) (asking_shows w id after)
 
-pub updates_left_out : (watches : List (Option Watched)) (ts : List TouchedRow) (p : Place) → AscendByPlace ts
+pub updates_left_out : (watches : List (Option Watched)) (ts : List TouchedRow) (p : RowKey) → AscendByPlace ts
     → get (updates watches ts) p ≡ option_and_then (asked is_asked (watched_at watches p.table)) (get (updates (asking_all watches) ts) p)
 updates_left_out = left_out is_asked action_told kept_action
 
-pub row_updates_left_out : (watches : List (Option Watched)) (ts : List TouchedRow) (p : Place) → AscendByPlace ts
+pub row_updates_left_out : (watches : List (Option Watched)) (ts : List TouchedRow) (p : RowKey) → AscendByPlace ts
     → get (row_updates watches ts) p ≡ option_and_then (asked is_row_asked (watched_at watches p.table)) (get (row_updates (asking_all watches) ts) p)
 row_updates_left_out = left_out is_row_asked row_update_told kept_row_update

@@ -11,12 +11,12 @@ use Rattle.serde_json.specs.Data.{Data}
 use Rattle.ovs_data.specs.declared.datum.Datum.{Datum}
 use Rattle.ovs_types.specs.declared.schema.NamedColumn.{NamedColumn}
 use Rattle.ovs_types.specs.Id.{id_text}
-use Rattle.ovs_rows.specs.declared.place.Place.{Place}
+use Rattle.ovs_rows.specs.declared.row_key.RowKey.{RowKey}
 use Rattle.ovs_rows.specs.declared.row.Row.{Row}
 use Rattle.ovs_rows.specs.declared.change.Action.TheVariants.{Insert}
 use Rattle.ovs_rows.specs.After.{TouchedRow}
 use Rattle.ovs_rows.specs.Applied.{AscendByPlace}
-use Rattle.ovs_rows.specs.Place.{place_cmp, place_total, place_exact}
+use Rattle.ovs_rows.specs.RowKey.{place_cmp, place_total, place_exact}
 use Rattle.ovs_rows.specs.Row.{Rows}
 use Rattle.ovs_rows.specs.Writing.{rows_in}
 use Rattle.ovs_data.proofs.Maps.{entries_ascend}
@@ -24,7 +24,7 @@ use Rattle.ovs_query.specs.declared.monitor.Notation.{Notation}
 use Rattle.ovs_query.specs.declared.monitor.Notation.TheVariants.{Update, Update2, Update3}
 use Rattle.ovs_query.specs.declared.monitor.Watched.{Watched}
 use Rattle.ovs_query.specs.RowUpdates.{New}
-use Rattle.ovs_query.specs.Shown.{shown_columns}
+use Rattle.ovs_query.specs.Projected.{shown_columns}
 use Rattle.ovs_query.specs.View.{watched_at, shown_by, shown_at, presented}
 use Rattle.ovs_query.specs.Telling.{first_members, touched_in}
 use Rattle.ovs_query.specs.Updates.{touched_at, told_of, told_by_place, asked_first, first_rows}
@@ -35,13 +35,13 @@ use Rattle.ovs_query.proofs.Telling.{tables_alike, written, members_told}
 
 -- ---- a database as a step from none
 
-abbrev arrival : Place × Row → TouchedRow
+abbrev arrival : RowKey × Row → TouchedRow
 arrival e = record { place = e.0; before = None; after = Some e.1 }
 
 abbrev arrivals : Rows → List TouchedRow
 arrivals rows = map arrival (entries rows)
 
-arrival_places : (es : List (Place × Row)) → map (λ (t : TouchedRow). t.place) (map arrival es) ≡ keys_of es
+arrival_places : (es : List (RowKey × Row)) → map (λ (t : TouchedRow). t.place) (map arrival es) ≡ keys_of es
 arrival_places [] = refl
 arrival_places (e ∷ es) = ap (λ ps. e.0 ∷ ps) (arrival_places es)
 
@@ -54,7 +54,7 @@ module _ {U : Type 0} (made : List Datum → U) where
   begun watched id before after = option_and_then (asked_first made watched) (shown_by watched id after)
 
   module _ (watches : List (Option Watched)) where
-    arrived : (p : Place) (es : List (Place × Row)) → option_and_then (told_of begun watches) (touched_at (map arrival es) p) ≡ option_and_then (asked_first made (watched_at watches p.table)) (shown_at watches p (find place_cmp p es))
+    arrived : (p : RowKey) (es : List (RowKey × Row)) → option_and_then (told_of begun watches) (touched_at (map arrival es) p) ≡ option_and_then (asked_first made (watched_at watches p.table)) (shown_at watches p (find place_cmp p es))
     arrived p [] = refl
     arrived p (e ∷ es) = by (eq_by_cmp place_cmp p e.0) refl (arrived p es)
       where
@@ -73,16 +73,16 @@ module _ {U : Type 0} (made : List Datum → U) where
   -- ---- one table
 
   module _ (json : List NamedColumn → U → Data) (number : ℕ) (w : Watched) where
-    abbrev row_member : Place × Row → Option (List ℕ × Data)
+    abbrev row_member : RowKey × Row → Option (List ℕ × Data)
     row_member e = option_map (λ d. (id_text e.0.id, d)) (option_map (λ xs. json (shown_columns w.shown) (made xs)) (presented e.0.id e.1 w))
 
-    abbrev in_table : List (Place × Row) → List (Place × Row)
+    abbrev in_table : List (RowKey × Row) → List (RowKey × Row)
     in_table = filter (λ e. e.0.table == number)
 
-    abbrev first_written : Bool → Place × Row → Option (List ℕ × Data)
+    abbrev first_written : Bool → RowKey × Row → Option (List ℕ × Data)
     first_written k e = option_map (λ d. (id_text e.0.id, d)) (option_map (json (shown_columns w.shown)) (option_and_then (λ xs. cond k (Some (made xs)) None) (presented e.0.id e.1 w)))
 
-    asked_for : (es : List (Place × Row)) → filter_map (first_written true) es ≡ filter_map row_member es
+    asked_for : (es : List (RowKey × Row)) → filter_map (first_written true) es ≡ filter_map row_member es
     asked_for [] = refl
     asked_for (e ∷ es) = by (presented e.0.id e.1 w) ∙ ap (cons_option (row_member e)) (asked_for es)
       where
@@ -92,7 +92,7 @@ module _ {U : Type 0} (made : List Datum → U) where
         by None = refl
         by (Some xs) = refl
 
-    not_asked_for : (es : List (Place × Row)) → filter_map (first_written false) es ≡ []
+    not_asked_for : (es : List (RowKey × Row)) → filter_map (first_written false) es ≡ []
     not_asked_for [] = refl
     not_asked_for (e ∷ es) = by (presented e.0.id e.1 w) ∙ not_asked_for es
       where
@@ -101,11 +101,11 @@ module _ {U : Type 0} (made : List Datum → U) where
         by None = refl
         by (Some xs) = refl
 
-    by_rows : (k : Bool) (es : List (Place × Row)) → filter_map (first_written k) es ≡ cond k (filter_map row_member es) []
+    by_rows : (k : Bool) (es : List (RowKey × Row)) → filter_map (first_written k) es ≡ cond k (filter_map row_member es) []
     by_rows true es = asked_for es
     by_rows false es = not_asked_for es
 
-    arrivals_in : (es : List (Place × Row)) → touched_in number (map arrival es) ≡ map arrival (in_table es)
+    arrivals_in : (es : List (RowKey × Row)) → touched_in number (map arrival es) ≡ map arrival (in_table es)
     arrivals_in [] = refl
     arrivals_in (e ∷ es) = by (e.0.table == number) (arrivals_in es)
       where
@@ -113,7 +113,7 @@ module _ {U : Type 0} (made : List Datum → U) where
         by true rest = ap (λ ts. arrival e ∷ ts) rest
         by false rest = rest
 
-    arrivals_written : (watches : List (Option Watched)) (es : List (Place × Row)) → filter_map (written json begun watches number w) (map arrival es) ≡ filter_map (first_written w.kinds.initial) es
+    arrivals_written : (watches : List (Option Watched)) (es : List (RowKey × Row)) → filter_map (written json begun watches number w) (map arrival es) ≡ filter_map (first_written w.kinds.initial) es
     arrivals_written watches [] = refl
     arrivals_written watches (e ∷ es) = ap (cons_option (first_written w.kinds.initial e)) (arrivals_written watches es)
 

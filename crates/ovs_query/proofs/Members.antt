@@ -14,8 +14,8 @@ use Rattle.ovs_rows.proofs.Writings.{zip_empty}
 use Rattle.ovs_rows.specs.ChangeWriting.{cell_members, as_edited, with_some, AreSpelled}
 use Rattle.ovs_rows.proofs.ChangeWritingLemmas.{spelled_end}
 use Rattle.ovs_query.specs.declared.monitor.Watched.{Watched}
-use Rattle.ovs_query.specs.declared.shown.Shown.{Shown}
-use Rattle.ovs_query.specs.Shown.{shown_columns}
+use Rattle.ovs_query.specs.declared.projected.Projected.{Projected}
+use Rattle.ovs_query.specs.Projected.{shown_columns}
 use Rattle.ovs_query.specs.Telling.{some_object}
 use Rattle.ovs_query.specs.UpdateWriting.{rows_by_id, table_member}
 
@@ -24,14 +24,14 @@ pub members_end : {X : Type 0} (f : X → List ℕ × Data) (xs : List X) (i : �
 members_end f xs i ms all done whole = rw (drop_of_length-le xs done) at whole
 
 -- at the end of one of the two lists no cell is left
-pub edits_end : (shown : List Shown) (edits : List (Option Datum)) (ms all : Members) → (shown ≡ []) ⊎ (edits ≡ []) → fold with_member ms (cell_members as_edited (shown_columns shown) edits) ≡ all → ms ≡ all
+pub edits_end : (shown : List Projected) (edits : List (Option Datum)) (ms all : Members) → (shown ≡ []) ⊎ (edits ≡ []) → fold with_member ms (cell_members as_edited (shown_columns shown) edits) ≡ all → ms ≡ all
 edits_end shown edits ms all done whole = rw (zip_empty (shown_columns shown) edits (named done)) at whole
   where
     named : (shown ≡ []) ⊎ (edits ≡ []) → (shown_columns shown ≡ []) ⊎ (edits ≡ [])
     named (inl none) = inl (ap shown_columns none)
     named (inr none) = inr none
 
-pub edits_spelled_end : (shown : List Shown) (edits : List (Option Datum)) → (shown ≡ []) ⊎ (edits ≡ []) → AreSpelled as_edited (shown_columns shown) edits
+pub edits_spelled_end : (shown : List Projected) (edits : List (Option Datum)) → (shown ≡ []) ⊎ (edits ≡ []) → AreSpelled as_edited (shown_columns shown) edits
 edits_spelled_end shown edits (inl none) = spelled_end as_edited (shown_columns shown) edits (inl (ap shown_columns none))
 edits_spelled_end shown edits (inr none) = spelled_end as_edited (shown_columns shown) edits (inr none)
 

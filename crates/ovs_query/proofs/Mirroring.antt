@@ -8,11 +8,11 @@ use Rattle.ovs_data.specs.declared.datum.Datum.{Datum}
 use Rattle.ovs_types.specs.Equality.{datum_eq}
 use Rattle.ovs_types.specs.declared.schema.NamedColumn.{NamedColumn}
 use Rattle.ovs_types.specs.declared.schema.Table.{Table}
-use Rattle.ovs_rows.specs.declared.place.Place.{Place}
+use Rattle.ovs_rows.specs.declared.row_key.RowKey.{RowKey}
 use Rattle.ovs_rows.specs.declared.row.Row.{Row}
 use Rattle.ovs_rows.specs.declared.change.Action.{Action}
 use Rattle.ovs_rows.specs.declared.change.Action.TheVariants.{Insert, Delete, Modify}
-use Rattle.ovs_rows.specs.Place.{place_cmp, place_total, place_exact}
+use Rattle.ovs_rows.specs.RowKey.{place_cmp, place_total, place_exact}
 use Rattle.ovs_rows.specs.Row.{Rows, AreDataOf, AreRowsOf}
 use Rattle.ovs_rows.specs.After.{TouchedRow, row_after}
 use Rattle.ovs_rows.specs.Applied.{AscendByPlace}
@@ -35,9 +35,9 @@ all_true : {X : Type 0} (f : X → Bool) → ((x : X) → f x ≡ true) → (xs 
 all_true f h [] = refl
 all_true f h (x ∷ xs) = ap (λ b. b && list_all f xs) (h x) ∙ all_true f h xs
 
-module _ {U : Type 0} (f : Place → Option (List Datum) → Option U → Option (Option (List Datum))) (nothing : (p : Place) → f p None None ≡ Some None) where
+module _ {U : Type 0} (f : RowKey → Option (List Datum) → Option U → Option (Option (List Datum))) (nothing : (p : RowKey) → f p None None ≡ Some None) where
   -- what holds at each place holds of the whole
-  pub carried_all : (v w : View) (us : FinMap place_cmp U) → ((p : Place) → f p (get v p) (get us p) ≡ Some (get w p)) → carry f v us ≡ Some w
+  pub carried_all : (v w : View) (us : FinMap place_cmp U) → ((p : RowKey) → f p (get v p) (get us p) ≡ Some (get w p)) → carry f v us ≡ Some w
   unfolding carry
   carried_all v w us h =
       let all : list_all (is_carried f v us) (keys v ++ keys us) ≡ true = all_true (is_carried f v us) (λ p. ap is_some (h p)) (keys v ++ keys us) in
@@ -46,10 +46,10 @@ module _ {U : Type 0} (f : Place → Option (List Datum) → Option U → Option
       ∙ ap (option_and_then (λ (o : Option (List Datum)). o)) (h p)) in
       ap (λ b. cond b (Some (carried f v us)) None) all ∙ ap Some same
 
-module _ {U : Type 0} (f : Place → Option (List Datum) → Option U → Option (Option (List Datum))) (stays : (p : Place) (held : Option (List Datum)) → f p held None ≡ Some held)
-    (watches : List (Option Watched)) (g : Place → Option Row → Option Row → Option U) where
+module _ {U : Type 0} (f : RowKey → Option (List Datum) → Option U → Option (Option (List Datum))) (stays : (p : RowKey) (held : Option (List Datum)) → f p held None ≡ Some held)
+    (watches : List (Option Watched)) (g : RowKey → Option Row → Option Row → Option U) where
   -- where the update of each place leads from before to after, those of a step lead from the first view to the second
-  step_carried : (a b : Rows) (ts : List TouchedRow) → ((p : Place) → f p (shown_at watches p (get a p)) (g p (get a p) (get b p)) ≡ Some (shown_at watches p (get b p)))
+  step_carried : (a b : Rows) (ts : List TouchedRow) → ((p : RowKey) → f p (shown_at watches p (get a p)) (g p (get a p) (get b p)) ≡ Some (shown_at watches p (get b p)))
       → AscendByPlace ts → IsStep ts a b → carry f (view watches a) (by_place (λ t. g t.place t.before t.after) ts) ≡ Some (view watches b)
   step_carried a b ts leads sorted step = carried_all f (λ p. stays p None) (view watches a) (view watches b) (by_place (λ t. g t.place t.before t.after) ts) (λ p.
       ap (λ v. f p v (get (by_place (λ t. g t.place t.before t.after) ts) p)) (get-view watches a p)
@@ -57,7 +57,7 @@ module _ {U : Type 0} (f : Place → Option (List Datum) → Option U → Option
       ∙ at p (touched_at ts p) refl (step p)
       ∙ ap Some (sym (get-view watches b p)))
     where
-      at : (p : Place) (o : Option TouchedRow) → touched_at ts p ≡ o → IsStepAt o (get a p) (get b p)
+      at : (p : RowKey) (o : Option TouchedRow) → touched_at ts p ≡ o → IsStepAt o (get a p) (get b p)
           → f p (shown_at watches p (get a p)) (option_and_then (λ t. g t.place t.before t.after) o) ≡ Some (shown_at watches p (get b p))
       at p None is same = stays p (shown_at watches p (get a p)) ∙ ap (λ r. Some (shown_at watches p r)) (sym same)
       at p (Some t) is same =

@@ -10,10 +10,10 @@ use Rattle.serde_json.specs.declared.value.Value.{Value}
 use Rattle.ovs_data.specs.declared.datum.Datum.{Datum}
 use Rattle.ovs_data.proofs.Writings.{has_float-datum}
 use Rattle.ovs_types.specs.declared.schema.NamedColumn.{NamedColumn}
-use Rattle.ovs_rows.specs.declared.place.Place.{Place}
+use Rattle.ovs_rows.specs.declared.row_key.RowKey.{RowKey}
 use Rattle.ovs_rows.specs.declared.change.Action.{Action}
 use Rattle.ovs_rows.specs.declared.change.Action.TheVariants.{Insert, Delete, Modify}
-use Rattle.ovs_rows.specs.Place.{place_cmp}
+use Rattle.ovs_rows.specs.RowKey.{place_cmp}
 use Rattle.ovs_rows.specs.Row.{Rows}
 use Rattle.ovs_rows.specs.ChangeWriting.{beside_default, as_edited, cell_member, cell_members, insert_json, modify_json, action_json, with_some}
 use Rattle.ovs_rows.specs.Writing.{with_member, object_of, column_member}
@@ -22,7 +22,7 @@ use Rattle.ovs_query.specs.declared.monitor.Notation.{Notation}
 use Rattle.ovs_query.specs.declared.monitor.Notation.TheVariants.{Update, Update2, Update3}
 use Rattle.ovs_query.specs.declared.monitor.Watched.{Watched}
 use Rattle.ovs_query.specs.RowUpdates.{RowUpdate, New, Gone, Changed}
-use Rattle.ovs_query.specs.Shown.{shown_columns}
+use Rattle.ovs_query.specs.Projected.{shown_columns}
 use Rattle.ovs_query.specs.Updates.{first_updates, first_row_updates}
 use Rattle.ovs_query.specs.UpdateWriting.{whole_json, row_update_json, first_json, rows_by_id, table_member, update_member, update_members, updates_json, initial_json}
 use Rattle.ovs_query.proofs.Members.{one_more}
@@ -67,7 +67,7 @@ row_update_no_float cs (Changed previous new) =
 -- ---- all tables
 
 module _ {U : Type 0} (json : List NamedColumn → U → Data) (each : (cs : List NamedColumn) (u : U) → has_float (json cs u) ≡ false) where
-  rows_no_float : (name : List ℕ) (cs : List NamedColumn) (es : List (Place × U)) → IfSome {T = List ℕ × Data} (option_map (λ d. (name, d)) (rows_by_id (map (update_member json cs) es))) (λ m. has_float m.1 ≡ false)
+  rows_no_float : (name : List ℕ) (cs : List NamedColumn) (es : List (RowKey × U)) → IfSome {T = List ℕ × Data} (option_map (λ d. (name, d)) (rows_by_id (map (update_member json cs) es))) (λ m. has_float m.1 ≡ false)
   rows_no_float name cs [] = tt
   rows_no_float name cs (e ∷ es) = fold_no_float (update_member json cs) (λ f. each cs f.1) (e ∷ es) no_members refl
 

@@ -18,16 +18,16 @@ use Rattle.ovs_data.specs.declared.datum.pairs.Pair.{Pair}
 use Rattle.ovs_types.specs.Conditions.{has_pair, includes, excludes}
 use Rattle.ovs_types.specs.Datum.{has_element, elements_of, pairs_of}
 use Rattle.ovs_types.specs.Equality.{datum_eq}
-use Rattle.ovs_rows.specs.declared.place.Place.{Place}
+use Rattle.ovs_rows.specs.declared.row_key.RowKey.{RowKey}
 use Rattle.ovs_rows.specs.declared.row.Row.{Row}
-use Rattle.ovs_rows.specs.Place.{place_cmp, place_total, place_exact}
+use Rattle.ovs_rows.specs.RowKey.{place_cmp, place_total, place_exact}
 use Rattle.ovs_rows.specs.Row.{Rows}
 use Rattle.ovs_rows.specs.Writing.{rows_in}
 use Rattle.ovs_rows.proofs.Data.{same_datum}
 use Rattle.ovs_data.proofs.Maps.{entries_ascend}
 use Rattle.ovs_query.specs.declared.conditions.Condition.{Condition}
 use Rattle.ovs_query.specs.declared.select.Select.{Select}
-use Rattle.ovs_query.specs.Shown.{id_datum}
+use Rattle.ovs_query.specs.Projected.{id_datum}
 use Rattle.ovs_query.specs.RowWriting.{shown_json, row_matching, rows_json}
 use Rattle.ovs_query.specs.Conditions.{holds, all_hold, AdmitOnly}
 
@@ -45,35 +45,35 @@ each_holds cs i c id row lt all = by (holds id row (get_or cs i c)) refl
     by false e = absurd (true≢false (sym all ∙ list_all_at (holds id row) cs i c lt e))
 
 module _ (cs : List Condition) (table id : ℕ) (alone : AdmitOnly id cs) where
-  abbrev here : Place
+  abbrev here : RowKey
   here = record { table = table; id = id }
 
-  abbrev of_table : List (Place × Row) → List (Place × Row)
+  abbrev of_table : List (RowKey × Row) → List (RowKey × Row)
   of_table = filter (λ e. e.0.table == table)
 
-  abbrev kept : List (Place × Row) → List (Place × Row)
+  abbrev kept : List (RowKey × Row) → List (RowKey × Row)
   kept es = filter (λ e. all_hold cs e.0.id e.1) (of_table es)
 
   -- the row at the place, if it matches
-  abbrev one_of : Option Row → List (Place × Row)
+  abbrev one_of : Option Row → List (RowKey × Row)
   one_of None = []
   one_of (Some row) = cond (all_hold cs id row) ((record { table = table; id = id }, row) ∷ []) []
 
-  is_here : (x : Place × Row) → (x.0.table == table) ≡ true → all_hold cs x.0.id x.1 ≡ true → x.0 ≡ here
+  is_here : (x : RowKey × Row) → (x.0.table == table) ≡ true → all_hold cs x.0.id x.1 ≡ true → x.0 ≡ here
   is_here x at holds i = record { table = eqb-true x.0.table table at i; id = alone x.0.id x.1 holds i }
 
-  left_out : (x : Place × Row) (es : List (Place × Row)) → ((x.0.table == table) ≡ true → all_hold cs x.0.id x.1 ≡ true → ⊥) → kept (x ∷ es) ≡ kept es
+  left_out : (x : RowKey × Row) (es : List (RowKey × Row)) → ((x.0.table == table) ≡ true → all_hold cs x.0.id x.1 ≡ true → ⊥) → kept (x ∷ es) ≡ kept es
   left_out x es absent = by (x.0.table == table) refl (all_hold cs x.0.id x.1) refl
     where
       table_is : (b : Bool) → (x.0.table == table) ≡ b → kept (x ∷ es) ≡ filter (λ e. all_hold cs e.0.id e.1) (cond b (x ∷ of_table es) (of_table es))
-      table_is b at = ap (λ b. filter (λ (e : Place × Row). all_hold cs e.0.id e.1) (cond b (x ∷ of_table es) (of_table es))) at
+      table_is b at = ap (λ b. filter (λ (e : RowKey × Row). all_hold cs e.0.id e.1) (cond b (x ∷ of_table es) (of_table es))) at
 
       by : (b : Bool) → (x.0.table == table) ≡ b → (h : Bool) → all_hold cs x.0.id x.1 ≡ h → kept (x ∷ es) ≡ kept es
       by true at true holds = absurd (absent at holds)
       by true at false holds = table_is true at ∙ ap (λ h. cond h (x ∷ kept es) (kept es)) holds
       by false at h holds = table_is false at
 
-  none_after : (p : Place) → p ≡ here → (es : List (Place × Row)) → AllByRecursion (λ q. place_cmp p q ≡ Less) (keys_of es) → kept es ≡ []
+  none_after : (p : RowKey) → p ≡ here → (es : List (RowKey × Row)) → AllByRecursion (λ q. place_cmp p q ≡ Less) (keys_of es) → kept es ≡ []
   none_after p is [] h = refl
   none_after p is (x ∷ es) h = left_out x es clash ∙ none_after p is es h.1
     where
@@ -84,7 +84,7 @@ module _ (cs : List Condition) (table id : ℕ) (alone : AdmitOnly id cs) where
           let tied : place_cmp p p ≡ Equal = tied_itself place_total p in
           absurd (let both = sym less ∙ tied in cc)
 
-  kept_one : (es : List (Place × Row)) → IsStrictlySortedBy place_cmp (keys_of es) → kept es ≡ one_of (find place_cmp here es)
+  kept_one : (es : List (RowKey × Row)) → IsStrictlySortedBy place_cmp (keys_of es) → kept es ≡ one_of (find place_cmp here es)
   unfolding IsStrictlySortedBy
   kept_one [] sorted = refl
   kept_one (x ∷ es) sorted = by (eq_by_cmp place_cmp here x.0) refl (kept_one es sorted.1)
@@ -98,9 +98,9 @@ module _ (cs : List Condition) (table id : ℕ) (alone : AdmitOnly id cs) where
           itself : (n : ℕ) → (n == n) ≡ true
           itself n = grind (arith, nat_tests)
 
-          first : (ks : List (Place × Row)) → kept es ≡ [] → kept ((here, x.1) ∷ es) ≡ cond (all_hold cs id x.1) ((here, x.1) ∷ []) []
+          first : (ks : List (RowKey × Row)) → kept es ≡ [] → kept ((here, x.1) ∷ es) ≡ cond (all_hold cs id x.1) ((here, x.1) ∷ []) []
           first ks none =
-              ap (λ b. filter (λ (e : Place × Row). all_hold cs e.0.id e.1) (cond b ((here, x.1) ∷ of_table es) (of_table es))) (itself table)
+              ap (λ b. filter (λ (e : RowKey × Row). all_hold cs e.0.id e.1) (cond b ((here, x.1) ∷ of_table es) (of_table es))) (itself table)
               ∙ ap (λ ks. cond (all_hold cs id x.1) ((here, x.1) ∷ ks) ks) none
       by false at rest = left_out x es clash ∙ rest
         where
@@ -114,15 +114,15 @@ module _ (cs : List Condition) (table id : ℕ) (alone : AdmitOnly id cs) where
 -- what is written of them
 pub row_left : (s : Select) (id : ℕ) (rows : Rows) (o : Option Row) → AdmitOnly id s.conditions → o ≡ row_matching s id rows → rows_json s (rows_in s.table rows) ≡ cons_option (option_map (shown_json s.shown id) o) []
 row_left s id rows o alone is =
-    ap (map (λ (e : Place × Row). shown_json s.shown e.0.id e.1)) (one_left s.conditions s.table id alone rows)
+    ap (map (λ (e : RowKey × Row). shown_json s.shown e.0.id e.1)) (one_left s.conditions s.table id alone rows)
     ∙ by (get rows (record { table = s.table; id = id }))
     ∙ ap (λ o. cons_option (option_map (shown_json s.shown id) o) []) (sym is)
   where
-    one : (row : Row) (b : Bool) → map (λ (e : Place × Row). shown_json s.shown e.0.id e.1) (cond b ((record { table = s.table; id = id }, row) ∷ []) []) ≡ cons_option (option_map (shown_json s.shown id) (cond b (Some row) None)) []
+    one : (row : Row) (b : Bool) → map (λ (e : RowKey × Row). shown_json s.shown e.0.id e.1) (cond b ((record { table = s.table; id = id }, row) ∷ []) []) ≡ cons_option (option_map (shown_json s.shown id) (cond b (Some row) None)) []
     one row true = refl
     one row false = refl
 
-    by : (o : Option Row) → map (λ (e : Place × Row). shown_json s.shown e.0.id e.1) (one_of s.conditions s.table id alone o) ≡ cons_option (option_map (shown_json s.shown id) (option_and_then (λ row. cond (all_hold s.conditions id row) (Some row) None) o)) []
+    by : (o : Option Row) → map (λ (e : RowKey × Row). shown_json s.shown e.0.id e.1) (one_of s.conditions s.table id alone o) ≡ cons_option (option_map (shown_json s.shown id) (option_and_then (λ row. cond (all_hold s.conditions id row) (Some row) None) o)) []
     by None = refl
     by (Some row) = one row (all_hold s.conditions id row)
 

@@ -18,7 +18,7 @@ use Rattle.ovs_types.specs.Reading.{read_datum}
 use Rattle.ovs_types.specs.Spelling.{Spells}
 use Rattle.ovs_query.specs.declared.error.QueryError.{QueryError}
 use Rattle.ovs_query.specs.declared.error.QueryError.TheVariants.{UnknownTable, UnknownColumn, BadCondition, BadOperation}
-use Rattle.ovs_query.specs.declared.shown.Shown.{Shown}
+use Rattle.ovs_query.specs.declared.projected.Projected.{Projected}
 use Rattle.ovs_query.specs.Faults.{Read, rank}
 use Rattle.ovs_query.specs.ConditionReading.{field_named, test_named, column_for, in_condition, plain, named, read_condition, read_conditions, shown_field, read_shown, read_each_shown, read_listed, all_shown, read_columns}
 use Rattle.ovs_query.specs.SelectReading.{read_where, read_parts, read_select}
@@ -54,7 +54,7 @@ module _ (fault : QueryError) (columns : List NamedColumn) where
   listed_worst : (d : Data) → Worst (InColumns fault columns d) (read_listed fault columns d)
   listed_worst d = needed_worst fault (read_each_shown fault columns) (SomeItem (InShown fault columns)) (items_worst (read_shown fault columns) (InShown fault columns) shown_worst) (as_array d)
 
-  pub columns_worst : (otherwise : List Shown) (o : Option Data) → Worst (InOptional (InColumns fault columns) o) (read_columns fault otherwise columns o)
+  pub columns_worst : (otherwise : List Projected) (o : Option Data) → Worst (InOptional (InColumns fault columns) o) (read_columns fault otherwise columns o)
   columns_worst otherwise None = λ e none. none
   columns_worst otherwise (Some d) = listed_worst d
 

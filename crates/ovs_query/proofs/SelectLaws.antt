@@ -25,7 +25,7 @@ use Rattle.ovs_query.specs.declared.conditions.Condition.{Condition}
 use Rattle.ovs_query.specs.declared.error.QueryError.{QueryError}
 use Rattle.ovs_query.specs.declared.error.QueryError.TheVariants.{UnknownTable, UnknownColumn, BadCondition, BadOperation}
 use Rattle.ovs_query.specs.declared.select.Select.{Select}
-use Rattle.ovs_query.specs.declared.shown.Shown.{Shown}
+use Rattle.ovs_query.specs.declared.projected.Projected.{Projected}
 use Rattle.ovs_query.specs.Faults.{Read, rank}
 use Rattle.ovs_query.specs.ConditionReading.{is, field_named, test_named, column_for, in_condition, plain, in_named_condition, named, read_condition, read_conditions, shown_field, read_shown, read_each_shown, all_shown, read_columns}
 use Rattle.ovs_query.specs.SelectReading.{read_where, read_parts, read_select}
@@ -87,23 +87,23 @@ condition_is d p name t whole named tested =
 -- ---- columns
 
 module _ (fault : QueryError) (columns : List NamedColumn) where
-  shown_found : (d : Data) (s : Shown) → read_shown fault columns d ≡ Ok s → SpellsShown columns d s
+  shown_found : (d : Data) (s : Projected) → read_shown fault columns d ≡ Ok s → SpellsShown columns d s
   shown_found d s e =
       let name = bind_found (ok_or (as_str d) fault) _ s e in
       let field = bind_found (ok_or (field_named columns name.0) UnknownColumn) _ s name.2 in
       let named = ok_or_found (field_named columns name.0) UnknownColumn field.0 field.1 in
       read_so (SpellsShown columns d) (shown_field name.0 field.0) s field.2 (string_of d name.0 (ok_or_found (as_str d) fault name.0 name.1), named)
 
-  shown_only : (d : Data) (s : Shown) → SpellsShown columns d s → read_shown fault columns d ≡ Ok s
+  shown_only : (d : Data) (s : Projected) → SpellsShown columns d s → read_shown fault columns d ≡ Ok s
   shown_only d s (is, named) = rw (is, named) refl
 
-  pub columns_found : (otherwise : List Shown) (o : Option Data) (shown : List Shown) → read_columns fault otherwise columns o ≡ Ok shown → SpellsColumns otherwise columns o shown
+  pub columns_found : (otherwise : List Projected) (o : Option Data) (shown : List Projected) → read_columns fault otherwise columns o ≡ Ok shown → SpellsColumns otherwise columns o shown
   columns_found otherwise None shown e = same_value otherwise shown e
   columns_found otherwise (Some d) shown e =
       let names = bind_found (ok_or (as_array d) fault) (read_each_shown fault columns) shown e in
       (names.0, array_of d names.0 (ok_or_found (as_array d) fault names.0 names.1), items_found (read_shown fault columns) (SpellsShown columns) shown_found names.0 shown names.2)
 
-  pub columns_only : (otherwise : List Shown) (o : Option Data) (shown : List Shown) → SpellsColumns otherwise columns o shown → read_columns fault otherwise columns o ≡ Ok shown
+  pub columns_only : (otherwise : List Projected) (o : Option Data) (shown : List Projected) → SpellsColumns otherwise columns o shown → read_columns fault otherwise columns o ≡ Ok shown
   columns_only otherwise None shown e = ap Ok (sym e)
   columns_only otherwise (Some d) shown (names, is, each) = rw is (items_only (read_shown fault columns) (SpellsShown columns) shown_only names shown each)
 

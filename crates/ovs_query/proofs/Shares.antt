@@ -9,10 +9,10 @@ use Rattle.std.specs.Cmp.{ranked}
 use Rattle.std.specs.Ordering.{MatchOrdering, nat_cmp, ordering_then}
 use Rattle.std.proofs.lemmas.Bool.Decides.{nat_tests}
 use Rattle.ovs_rows.specs.declared.applied.Touched.{Touched}
-use Rattle.ovs_rows.specs.declared.place.Place.{Place}
+use Rattle.ovs_rows.specs.declared.row_key.RowKey.{RowKey}
 use Rattle.ovs_rows.specs.Applied.{seen, AscendByPlace}
 use Rattle.ovs_rows.specs.After.{TouchedRow}
-use Rattle.ovs_rows.specs.Place.{place_cmp}
+use Rattle.ovs_rows.specs.RowKey.{place_cmp}
 use Rattle.ovs_query.specs.Telling.{touched_in}
 
 abbrev pub table_of : Touched → ℕ
@@ -25,10 +25,10 @@ by_table a b r Less h e = let lt : a < b = h in omega arith
 by_table a b r Equal h e = let eq : a ≡ b = h in omega (arith, eq)
 by_table a b r Greater h e = absurd cc
 
-table_rises : (p q : Place) → place_cmp p q ≡ Less → p.table ≤ q.table
+table_rises : (p q : RowKey) → place_cmp p q ≡ Less → p.table ≤ q.table
 table_rises p q e = by_table p.table q.table (nat_cmp p.id q.id) (nat_cmp p.table q.table) (ranked p.table q.table (nat_cmp p.table q.table) refl) e
 
-later_rises : (p : Place) (ts : List Touched) (j : ℕ) (d : Touched) → AllByRecursion (λ q. place_cmp p q ≡ Less) (map (λ (t : TouchedRow). t.place) (map seen ts)) → j < length ts → p.table ≤ table_of (slice_index_or ts j d)
+later_rises : (p : RowKey) (ts : List Touched) (j : ℕ) (d : Touched) → AllByRecursion (λ q. place_cmp p q ≡ Less) (map (λ (t : TouchedRow). t.place) (map seen ts)) → j < length ts → p.table ≤ table_of (slice_index_or ts j d)
 later_rises p [] j d h lt = absurd (omega arith)
 later_rises p (t ∷ ts) zero d h lt = table_rises p t.place h.0
 later_rises p (t ∷ ts) (suc j) d h lt = later_rises p ts j d h.1 (omega (arith, lt))

@@ -13,14 +13,14 @@ use Rattle.ovs_types.specs.declared.schema.NamedColumn.{NamedColumn}
 use Rattle.ovs_types.specs.declared.schema.Table.{Table}
 use Rattle.ovs_types.specs.Atom.{kind_of}
 use Rattle.ovs_types.specs.Datum.{IsDatumOf, contains}
-use Rattle.ovs_rows.specs.declared.place.Place.{Place}
+use Rattle.ovs_rows.specs.declared.row_key.RowKey.{RowKey}
 use Rattle.ovs_rows.specs.declared.row.Row.{Row}
 use Rattle.ovs_rows.specs.Row.{Rows, columns_at, AreDataOf, AreRowsOf}
-use Rattle.ovs_query.specs.declared.shown.Field.{Field}
-use Rattle.ovs_query.specs.declared.shown.Field.TheVariants.{Id, Version, Column as Numbered}
-use Rattle.ovs_query.specs.declared.shown.Shown.{Shown}
+use Rattle.ovs_query.specs.declared.projected.Field.{Field}
+use Rattle.ovs_query.specs.declared.projected.Field.TheVariants.{Id, Version, Column as Numbered}
+use Rattle.ovs_query.specs.declared.projected.Projected.{Projected}
 use Rattle.ovs_query.specs.declared.monitor.Watched.{Watched}
-use Rattle.ovs_query.specs.Shown.{id_column, shown_datum, shown_data, shown_columns}
+use Rattle.ovs_query.specs.Projected.{id_column, shown_datum, shown_data, shown_columns}
 use Rattle.ovs_query.specs.Conditions.{admits}
 use Rattle.ovs_query.specs.View.{watched_at, columns_of, columns_watched, presented, shown_by, shown_at, IsField, IsShownOf, IsMonitorOf}
 
@@ -49,7 +49,7 @@ field_datum columns id row h Id named is = subst (λ c. IsDatumOf c (Set (Uuid i
 field_datum columns id row h Version named is = subst (λ c. IsDatumOf c (Set (Uuid row.version ∷ []))) (sym is) (id_datum row.version)
 field_datum columns id row h (Numbered number) named is = numbered_datum columns row.columns number named h is
 
-pub shown_are_data : (columns : List NamedColumn) (id : ℕ) (row : Row) → AreDataOf columns row.columns → (shown : List Shown) → AllByRecursion (IsShownOf columns) shown → AreDataOf (shown_columns shown) (shown_data shown id row)
+pub shown_are_data : (columns : List NamedColumn) (id : ℕ) (row : Row) → AreDataOf columns row.columns → (shown : List Projected) → AllByRecursion (IsShownOf columns) shown → AreDataOf (shown_columns shown) (shown_data shown id row)
 shown_are_data columns id row h [] all = tt
 shown_are_data columns id row h (s ∷ shown) all = (field_datum columns id row h s.field s.named all.0, shown_are_data columns id row h shown all.1)
 
@@ -71,7 +71,7 @@ if_some None P h = tt
 if_some (Some x) P h = h x refl
 
 -- what is shown at a place are data of its columns
-pub shown_at_data : (tables : List Table) (watches : List (Option Watched)) (rows : Rows) → IsMonitorOf tables watches → AreRowsOf tables rows → (p : Place)
+pub shown_at_data : (tables : List Table) (watches : List (Option Watched)) (rows : Rows) → IsMonitorOf tables watches → AreRowsOf tables rows → (p : RowKey)
     → IfSome (shown_at watches p (get rows p)) (AreDataOf (columns_watched watches p.table))
 shown_at_data tables watches rows m h p =
     shown_by_data (columns_at tables p.table) p.id (watched_at watches p.table) (get rows p)

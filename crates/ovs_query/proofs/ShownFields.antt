@@ -14,10 +14,10 @@ use Rattle.ovs_types.specs.Finding.{column_named, table_named}
 use Rattle.ovs_types.proofs.Finders.{column_at, table_at, found_within}
 use Rattle.ovs_rows.specs.Row.{columns_in, columns_at}
 use Rattle.ovs_query.specs.declared.select.Select.{Select}
-use Rattle.ovs_query.specs.declared.shown.Field.{Field}
-use Rattle.ovs_query.specs.declared.shown.Field.TheVariants.{Id, Version, Column as Numbered}
-use Rattle.ovs_query.specs.declared.shown.Shown.{Shown}
-use Rattle.ovs_query.specs.Shown.{id_column}
+use Rattle.ovs_query.specs.declared.projected.Field.{Field}
+use Rattle.ovs_query.specs.declared.projected.Field.TheVariants.{Id, Version, Column as Numbered}
+use Rattle.ovs_query.specs.declared.projected.Projected.{Projected}
+use Rattle.ovs_query.specs.Projected.{id_column}
 use Rattle.ovs_query.specs.View.{IsField, IsShownOf}
 use Rattle.ovs_query.specs.ConditionReading.{is, field_named, numbered_from, all_but_id, all_shown}
 use Rattle.ovs_query.specs.SelectSpelling.{SpellsShown, SpellsColumns, SpellsSelect, IsSelectOf}
@@ -42,7 +42,7 @@ pub field_is : (columns : List NamedColumn) (name : List ℕ) (p : Field × Colu
 field_is columns name p e = by_tests columns name _ _ _ p e (by_number columns name (column_named columns name) p refl)
 
 module _ (columns : List NamedColumn) where
-  listed_are : (names : Items) (shown : List Shown) → SpellsEach (SpellsShown columns) names shown → AllByRecursion (IsShownOf columns) shown
+  listed_are : (names : Items) (shown : List Projected) → SpellsEach (SpellsShown columns) names shown → AllByRecursion (IsShownOf columns) shown
   listed_are no_items [] h = tt
   listed_are no_items (s ∷ ss) h = absurd h
   listed_are (item d ds) [] h = absurd h
@@ -63,7 +63,7 @@ module _ (columns : List NamedColumn) where
   pub all_are : AllByRecursion (IsShownOf columns) (all_shown columns)
   all_are = (refl, all_but_id_are)
 
-  pub columns_are : (otherwise : List Shown) → AllByRecursion (IsShownOf columns) otherwise → (o : Option Data) (shown : List Shown) → SpellsColumns otherwise columns o shown → AllByRecursion (IsShownOf columns) shown
+  pub columns_are : (otherwise : List Projected) → AllByRecursion (IsShownOf columns) otherwise → (o : Option Data) (shown : List Projected) → SpellsColumns otherwise columns o shown → AllByRecursion (IsShownOf columns) shown
   columns_are otherwise are None shown e = subst (AllByRecursion (IsShownOf columns)) (sym e) are
   columns_are otherwise are (Some d) shown (names, is, each) = listed_are names shown each
 

@@ -14,21 +14,21 @@ use Rattle.ovs_rows.proofs.Writings.{filter_kept}
 use Rattle.ovs_query.specs.declared.monitor.Notation.{Notation}
 use Rattle.ovs_query.specs.declared.monitor.Notation.TheVariants.{Update, Update2, Update3}
 use Rattle.ovs_query.specs.declared.monitor.Watched.{Watched}
-use Rattle.ovs_query.specs.declared.shown.Shown.{Shown}
+use Rattle.ovs_query.specs.declared.projected.Projected.{Projected}
 use Rattle.ovs_query.specs.RowWriting.{shown_member, shown_json}
-use Rattle.ovs_query.specs.Shown.{shown_data, shown_columns}
+use Rattle.ovs_query.specs.Projected.{shown_data, shown_columns}
 use Rattle.ovs_query.specs.Telling.{AreShown, IsTellable, AreTellable, touched_in}
 use Rattle.ovs_query.specs.Updates.{IsRowOf, AreTouchedOf}
 use Rattle.ovs_query.specs.UpdateWriting.{whole_json}
 use Rattle.ovs_query.specs.View.{IsShownOf, IsMonitorOf}
 use Rattle.ovs_query.proofs.ShownData.{if_some, shown_are_data}
 
-members_whole : (id : ℕ) (row : Row) (shown : List Shown) → map (shown_member id row) shown ≡ map column_member (zip (shown_columns shown) (shown_data shown id row))
+members_whole : (id : ℕ) (row : Row) (shown : List Projected) → map (shown_member id row) shown ≡ map column_member (zip (shown_columns shown) (shown_data shown id row))
 members_whole id row [] = refl
 members_whole id row (s ∷ shown) = ap (λ ms. shown_member id row s ∷ ms) (members_whole id row shown)
 
 -- a row's shown columns under their names are all of its columns that are shown
-pub shown_whole : (shown : List Shown) (id : ℕ) (row : Row) → shown_json shown id row ≡ whole_json (shown_columns shown) (shown_data shown id row)
+pub shown_whole : (shown : List Projected) (id : ℕ) (row : Row) → shown_json shown id row ≡ whole_json (shown_columns shown) (shown_data shown id row)
 shown_whole shown id row = ap object_of (members_whole id row shown)
 
 -- ---- touched rows

@@ -7,7 +7,7 @@ use Rattle.serde_json.specs.declared.value.Value.{Value}
 use Rattle.ovs_types.specs.declared.schema.NamedColumn.{NamedColumn}
 use Rattle.ovs_types.specs.Id.{id_text, read_id}
 use Rattle.ovs_rows.specs.declared.change.Action.{Action}
-use Rattle.ovs_rows.specs.declared.place.Place.{Place}
+use Rattle.ovs_rows.specs.declared.row_key.RowKey.{RowKey}
 use Rattle.ovs_rows.specs.After.{TouchedRow}
 use Rattle.ovs_rows.specs.ChangeWriting.{IsSpelledAction, IsSpelledUpdate}
 use Rattle.ovs_query.specs.declared.monitor.Notation.{Notation}
@@ -19,7 +19,7 @@ use Rattle.ovs_query.specs.Telling.{told_json, IsSpelledTold, IsSpelledRow}
 abbrev IsIdSpelled : ℕ → Option Value → Type 0
 IsIdSpelled id row = IfSome row (λ _. (id < 2 ^ 128) × (read_id (id_text id) ≡ Some id))
 
-update_spelled : (json : Action → Data) (columns : List NamedColumn) (p : Place) (action : Option Action) (row : Option Value)
+update_spelled : (json : Action → Data) (columns : List NamedColumn) (p : RowKey) (action : Option Action) (row : Option Value)
     → option_map view row ≡ option_map json action → IfSome action (IsSpelledAction columns) → IsIdSpelled p.id row
     → IfSome action (λ a. IsSpelledUpdate columns (p, a))
 update_spelled json columns p None row is spelled id = tt

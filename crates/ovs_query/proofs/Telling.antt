@@ -10,18 +10,18 @@ use Rattle.std.proofs.lemmas.Bool.{eqb-true}
 use Rattle.serde_json.specs.Data.{Data}
 use Rattle.ovs_types.specs.declared.schema.NamedColumn.{NamedColumn}
 use Rattle.ovs_types.specs.Id.{id_text}
-use Rattle.ovs_rows.specs.declared.place.Place.{Place}
+use Rattle.ovs_rows.specs.declared.row_key.RowKey.{RowKey}
 use Rattle.ovs_rows.specs.declared.row.Row.{Row}
 use Rattle.ovs_rows.specs.After.{TouchedRow}
 use Rattle.ovs_rows.specs.Applied.{AscendByPlace}
 use Rattle.ovs_rows.specs.ChangeWriting.{action_json}
-use Rattle.ovs_rows.specs.Place.{place_cmp, place_total, place_exact}
+use Rattle.ovs_rows.specs.RowKey.{place_cmp, place_total, place_exact}
 use Rattle.ovs_rows.specs.Writing.{object_of}
 use Rattle.ovs_data.proofs.Maps.{entries-from_ordered}
 use Rattle.ovs_query.specs.declared.monitor.Notation.{Notation}
 use Rattle.ovs_query.specs.declared.monitor.Notation.TheVariants.{Update, Update2}
 use Rattle.ovs_query.specs.declared.monitor.Watched.{Watched}
-use Rattle.ovs_query.specs.Shown.{shown_columns}
+use Rattle.ovs_query.specs.Projected.{shown_columns}
 use Rattle.ovs_query.specs.View.{watched_at}
 use Rattle.ovs_query.specs.Telling.{told_members, touched_in}
 use Rattle.ovs_query.specs.Updates.{action_told, row_update_told, listed, by_place, told_of, told_by_place, updates, row_updates}
@@ -50,7 +50,7 @@ module _ (f g : ℕ → Watched → List (List ℕ × Data)) where
 -- ---- the updates of one table among those of all
 
 module _ {U : Type 0} (f : TouchedRow → Option U) where
-  listed_all : (P : Place → Type 0) (ts : List TouchedRow) → AllByRecursion P (map (λ t. t.place) ts) → AllByRecursion P (keys_of (listed f ts))
+  listed_all : (P : RowKey → Type 0) (ts : List TouchedRow) → AllByRecursion P (map (λ t. t.place) ts) → AllByRecursion P (keys_of (listed f ts))
   listed_all P [] h = tt
   listed_all P (t ∷ ts) h = by (f t) (listed_all P ts h.1)
     where
@@ -75,15 +75,15 @@ module _ {U : Type 0} (json : List NamedColumn → U → Data) (told : Option Wa
   abbrev pub written : TouchedRow → Option (List ℕ × Data)
   written t = option_map (λ d. (id_text t.place.id, d)) (option_map (json (shown_columns w.shown)) (told (Some w) t.place.id t.before t.after))
 
-  abbrev members_of : List (Place × U) → List (List ℕ × Data)
+  abbrev members_of : List (RowKey × U) → List (List ℕ × Data)
   members_of es = map (update_member json (shown_columns w.shown)) (filter (λ e. e.0.table == number) es)
 
-  more_in : (t : TouchedRow) (es : List (Place × U)) → (t.place.table == number) ≡ true → (u : Option U)
+  more_in : (t : TouchedRow) (es : List (RowKey × U)) → (t.place.table == number) ≡ true → (u : Option U)
       → members_of (cons_option (option_map (λ a. (t.place, a)) u) es) ≡ cons_option (option_map (λ d. (id_text t.place.id, d)) (option_map (json (shown_columns w.shown)) u)) (members_of es)
   more_in t es at None = refl
   more_in t es at (Some a) = ap (λ b. map (update_member json (shown_columns w.shown)) (cond b ((t.place, a) ∷ filter (λ e. e.0.table == number) es) (filter (λ e. e.0.table == number) es))) at
 
-  more_outside : (t : TouchedRow) (es : List (Place × U)) → (t.place.table == number) ≡ false → (u : Option U) → members_of (cons_option (option_map (λ a. (t.place, a)) u) es) ≡ members_of es
+  more_outside : (t : TouchedRow) (es : List (RowKey × U)) → (t.place.table == number) ≡ false → (u : Option U) → members_of (cons_option (option_map (λ a. (t.place, a)) u) es) ≡ members_of es
   more_outside t es at None = refl
   more_outside t es at (Some a) = ap (λ b. map (update_member json (shown_columns w.shown)) (cond b ((t.place, a) ∷ filter (λ e. e.0.table == number) es) (filter (λ e. e.0.table == number) es))) at
 

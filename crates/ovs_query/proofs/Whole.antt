@@ -15,7 +15,7 @@ use Rattle.ovs_types.specs.Difference.{difference_of}
 use Rattle.ovs_types.specs.Names.{IsAscendingBy}
 use Rattle.ovs_rows.specs.declared.change.Action.{Action}
 use Rattle.ovs_rows.specs.declared.change.Action.TheVariants.{Modify}
-use Rattle.ovs_rows.specs.declared.place.Place.{Place}
+use Rattle.ovs_rows.specs.declared.row_key.RowKey.{RowKey}
 use Rattle.ovs_rows.specs.declared.row.Row.{Row}
 use Rattle.ovs_rows.specs.After.{TouchedRow}
 use Rattle.ovs_rows.specs.Applied.{AscendByPlace}
@@ -23,7 +23,7 @@ use Rattle.ovs_rows.specs.Change.{Actions, IsChangeOf}
 use Rattle.ovs_rows.specs.ChangeReading.{read_change}
 use Rattle.ovs_rows.specs.ChangeWriting as changes
 use Rattle.ovs_rows.specs.DatabaseDifference.{edits_between, action_between, database_difference}
-use Rattle.ovs_rows.specs.Place.{place_total, place_exact}
+use Rattle.ovs_rows.specs.RowKey.{place_total, place_exact}
 use Rattle.ovs_rows.specs.Row.{Rows, AreDataOf, AreRowsOf, columns_at, columns_in}
 use Rattle.ovs_rows.specs.Writing.{object_of}
 use Rattle.ovs_rows.proofs.ChangeBack.{reads_back}
@@ -31,7 +31,7 @@ use Rattle.ovs_rows.proofs.Data.{same_itself}
 use Rattle.ovs_rows.proofs.Laws.{get-database_difference, difference_of_tables}
 use Rattle.ovs_query.specs.declared.monitor.Notation.TheVariants.{Update2}
 use Rattle.ovs_query.specs.declared.monitor.Watched.{Watched}
-use Rattle.ovs_query.specs.Shown.{shown_columns}
+use Rattle.ovs_query.specs.Projected.{shown_columns}
 use Rattle.ovs_query.specs.Telling.{touched_in, IsSpelledRow, IsSpelledTable, AreSpelledTables}
 use Rattle.ovs_query.specs.Updates.{IsStep, AsksAllOf, update_between, is_asked, action_told, listed, told_of, updates}
 use Rattle.ovs_query.specs.UpdateWriting.{rows_by_id, table_member, update_member, update_members, update2_json}
@@ -99,7 +99,7 @@ as_actions cs (Some old) None = refl
 as_actions cs (Some old) (Some new) = refl
 
 module _ (tables : List Table) (watches : List (Option Watched)) (whole : IsWhole tables watches) where
-  row_shown : (rows : Rows) → AreRowsOf tables rows → (p : Place) (o : Option Row) → get rows p ≡ o → shown_at watches p o ≡ data_of o
+  row_shown : (rows : Rows) → AreRowsOf tables rows → (p : RowKey) (o : Option Row) → get rows p ≡ o → shown_at watches p o ≡ data_of o
   row_shown rows are p None at = refl
   row_shown rows are p (Some row) at =
       let is = are p row at in
@@ -108,7 +108,7 @@ module _ (tables : List Table) (watches : List (Option Watched)) (whole : IsWhol
       ap (option_and_then _) here.in_watches ∙ here.whole.rows p.id row (subst (λ cs. AreDataOf cs row.columns) columns is.1)
 
   module _ (old new : Rows) (before : AreRowsOf tables old) (after : AreRowsOf tables new) (ts : List TouchedRow) (sorted : AscendByPlace ts) (step : IsStep ts old new) where
-    told_at : (p : Place) → get (updates watches ts) p ≡ action_between (columns_at tables p.table) (get old p) (get new p)
+    told_at : (p : RowKey) → get (updates watches ts) p ≡ action_between (columns_at tables p.table) (get old p) (get new p)
     told_at p =
         let columns = columns_alike tables watches whole.watched p.table in
         let told = step_related action_told (λ p x y u. u ≡ update_between (columns_watched watches p.table) x y)
@@ -127,7 +127,7 @@ module _ (tables : List Table) (watches : List (Option Watched)) (whole : IsWhol
 
 -- ---- what is written of them
 
-rows_alike : (cs : List NamedColumn) (es : List (Place × Action)) → rows_by_id (map (update_member changes.action_json cs) es) ≡ changes.updates_json cs es
+rows_alike : (cs : List NamedColumn) (es : List (RowKey × Action)) → rows_by_id (map (update_member changes.action_json cs) es) ≡ changes.updates_json cs es
 rows_alike cs [] = refl
 rows_alike cs (e ∷ es) = refl
 
@@ -155,11 +155,11 @@ json_whole tables watches whole change = ap object_of (tables_alike change 0 tab
 -- ---- and stands for them
 
 module _ (watches : List (Option Watched)) (number : ℕ) (w : Watched) (is : watched_at watches number ≡ Some w) where
-  abbrev AreOwn : List (Place × Action) → Type 0
+  abbrev AreOwn : List (RowKey × Action) → Type 0
   AreOwn es = AllByRecursion (changes.IsSpelledUpdate (shown_columns w.shown)) (filter (λ e. e.0.table == number) es)
 
   with_own : (t : TouchedRow) (b : Bool) → (t.place.table == number) ≡ b → (a : Option Action) → (b ≡ true → IfSome a (λ a. changes.IsSpelledUpdate (shown_columns w.shown) (t.place, a)))
-      → (es : List (Place × Action)) → AreOwn es → AreOwn (cons_option (option_map (λ a. (t.place, a)) a) es)
+      → (es : List (RowKey × Action)) → AreOwn es → AreOwn (cons_option (option_map (λ a. (t.place, a)) a) es)
   with_own t b at None spelled es own = own
   with_own t true at (Some a) spelled es own =
       subst (λ b. AllByRecursion (changes.IsSpelledUpdate (shown_columns w.shown)) (cond b ((t.place, a) ∷ filter (λ e. e.0.table == number) es) (filter (λ e. e.0.table == number) es))) (sym at) (spelled refl, own)

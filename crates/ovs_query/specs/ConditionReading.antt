@@ -23,11 +23,11 @@ use Rattle.ovs_query.specs.declared.conditions.Test.TheVariants.{Less, AtMost, A
 use Rattle.ovs_query.specs.declared.conditions.Condition.{Condition}
 use Rattle.ovs_query.specs.declared.error.QueryError.{QueryError}
 use Rattle.ovs_query.specs.declared.error.QueryError.TheVariants.{UnknownColumn, BadCondition, UnknownName}
-use Rattle.ovs_query.specs.declared.shown.Field.{Field}
-use Rattle.ovs_query.specs.declared.shown.Field.TheVariants.{Id, Version, Column as Numbered}
-use Rattle.ovs_query.specs.declared.shown.Shown.{Shown}
+use Rattle.ovs_query.specs.declared.projected.Field.{Field}
+use Rattle.ovs_query.specs.declared.projected.Field.TheVariants.{Id, Version, Column as Numbered}
+use Rattle.ovs_query.specs.declared.projected.Projected.{Projected}
 use Rattle.ovs_query.specs.Faults.{Read, rank}
-use Rattle.ovs_query.specs.Shown.{id_column}
+use Rattle.ovs_query.specs.Projected.{id_column}
 
 -- the items so far and those of a list, or the first of all their faults
 abbrev pub read_items : {X : Type 0} → (Data → Read X) → Read (List X) → Items → Read (List X)
@@ -131,37 +131,37 @@ read_conditions value columns = read_items (read_condition value columns) (Ok []
 
 -- ---- columns
 
-abbrev pub shown_field : List ℕ → Field × Column → Shown
+abbrev pub shown_field : List ℕ → Field × Column → Projected
 shown_field name p = record { field = p.0; named = record { name = name; column = p.1 } }
 
 -- a column by its name; what is no text has the fault
-abbrev pub read_shown : QueryError → List NamedColumn → Data → Read Shown
+abbrev pub read_shown : QueryError → List NamedColumn → Data → Read Projected
 read_shown fault columns d = do
   name ← ok_or (as_str d) fault
   field ← ok_or (field_named columns name) UnknownColumn
   Ok (shown_field name field)
 
-abbrev pub read_each_shown : QueryError → List NamedColumn → Items → Read (List Shown)
+abbrev pub read_each_shown : QueryError → List NamedColumn → Items → Read (List Projected)
 read_each_shown fault columns = read_items (read_shown fault columns) (Ok [])
 
 -- a list of columns by their names
-abbrev pub read_listed : QueryError → List NamedColumn → Data → Read (List Shown)
+abbrev pub read_listed : QueryError → List NamedColumn → Data → Read (List Projected)
 read_listed fault columns d = ok_or (as_array d) fault >>= read_each_shown fault columns
 
 -- the columns of a table, from a number on
-abbrev pub numbered_from : ℕ → List NamedColumn → List Shown
+abbrev pub numbered_from : ℕ → List NamedColumn → List Projected
 numbered_from number [] = []
 numbered_from number (c ∷ cs) = record { field = Numbered number; named = c } ∷ numbered_from (number + 1) cs
 
 -- `_version` and all columns
-abbrev pub all_but_id : List NamedColumn → List Shown
+abbrev pub all_but_id : List NamedColumn → List Projected
 all_but_id columns = shown_field (codes "_version") (Version, id_column) ∷ numbered_from 0 columns
 
 -- `_uuid`, `_version` and all columns
-abbrev pub all_shown : List NamedColumn → List Shown
+abbrev pub all_shown : List NamedColumn → List Projected
 all_shown columns = shown_field (codes "_uuid") (Id, id_column) ∷ all_but_id columns
 
 -- "columns", where these are meant if it is absent
-abbrev pub read_columns : QueryError → List Shown → List NamedColumn → Option Data → Read (List Shown)
+abbrev pub read_columns : QueryError → List Projected → List NamedColumn → Option Data → Read (List Projected)
 read_columns fault otherwise columns None = Ok otherwise
 read_columns fault otherwise columns (Some d) = read_listed fault columns d

@@ -16,9 +16,9 @@ use Rattle.ovs_query.specs.declared.conditions.Test.TheVariants.{Less, AtMost, A
 use Rattle.ovs_query.specs.declared.conditions.Condition.{Condition}
 use Rattle.ovs_query.specs.declared.clauses.Clause.{Clause}
 use Rattle.ovs_query.specs.declared.clauses.Clause.TheVariants.{Always, Where}
-use Rattle.ovs_query.specs.declared.shown.Field.{Field}
-use Rattle.ovs_query.specs.declared.shown.Field.TheVariants.{Id}
-use Rattle.ovs_query.specs.Shown.{datum_at}
+use Rattle.ovs_query.specs.declared.projected.Field.{Field}
+use Rattle.ovs_query.specs.declared.projected.Field.TheVariants.{Id}
+use Rattle.ovs_query.specs.Projected.{datum_at}
 
 -- how the one element stands to the other one; none, where there isn't one in both
 abbrev pub order_of : List Atom → List Atom → Option Ordering

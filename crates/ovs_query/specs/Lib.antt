@@ -1,4 +1,4 @@
-pub mod Shown
+pub mod Projected
 pub mod Conditions
 pub mod RowWriting
 pub mod View

@@ -7,8 +7,8 @@ use Rattle.ovs_data.specs.declared.datum.Datum.{Datum}
 use Rattle.ovs_types.specs.declared.schema.NamedColumn.{NamedColumn}
 use Rattle.ovs_rows.specs.declared.change.Action.{Action}
 use Rattle.ovs_rows.specs.declared.change.Action.TheVariants.{Insert, Delete, Modify}
-use Rattle.ovs_rows.specs.declared.place.Place.{Place}
-use Rattle.ovs_rows.specs.Place.{place_cmp}
+use Rattle.ovs_rows.specs.declared.row_key.RowKey.{RowKey}
+use Rattle.ovs_rows.specs.RowKey.{place_cmp}
 use Rattle.ovs_rows.specs.Change.{Actions}
 use Rattle.ovs_rows.specs.Combined.{combined}
 use Rattle.ovs_rows.specs.After.{edited}
@@ -17,9 +17,9 @@ use Rattle.ovs_query.specs.View.{View, columns_watched}
 use Rattle.ovs_query.specs.RowUpdates.{RowUpdate, New, Gone, Changed}
 
 -- ---- carrying updates out: f says what a held row, or none, becomes by an update, or by none, if the update can name it
-module _ {U : Type 0} (f : Place → Option (List Datum) → Option U → Option (Option (List Datum))) where
+module _ {U : Type 0} (f : RowKey → Option (List Datum) → Option U → Option (Option (List Datum))) where
   -- the update of a place can be carried out
-  abbrev pub is_carried : View → FinMap place_cmp U → Place → Bool
+  abbrev pub is_carried : View → FinMap place_cmp U → RowKey → Bool
   is_carried v us p = is_some (f p (get v p) (get us p))
 
   -- what is held after them
@@ -42,7 +42,7 @@ mirror_row columns (Some old) (Some (Insert made)) = None
 mirror_row columns (Some old) (Some Delete) = Some None
 mirror_row columns (Some old) (Some (Modify edits)) = Some (Some (edited columns edits old))
 
-abbrev pub mirror_at : List (Option Watched) → Place → Option (List Datum) → Option Action → Option (Option (List Datum))
+abbrev pub mirror_at : List (Option Watched) → RowKey → Option (List Datum) → Option Action → Option (Option (List Datum))
 mirror_at watches p = mirror_row (columns_watched watches p.table)
 
 abbrev pub mirror : List (Option Watched) → View → Actions → Option View

@@ -16,7 +16,7 @@ use Rattle.ovs_query.specs.declared.monitor.Monitor.{Monitor}
 use Rattle.ovs_query.specs.declared.monitor.Notation.{Notation}
 use Rattle.ovs_query.specs.declared.monitor.Notation.TheVariants.{Update, Update2, Update3}
 use Rattle.ovs_query.specs.declared.monitor.Watched.{Watched}
-use Rattle.ovs_query.specs.declared.shown.Shown.{Shown}
+use Rattle.ovs_query.specs.declared.projected.Projected.{Projected}
 use Rattle.ovs_query.specs.Faults.{Read, rank}
 use Rattle.ovs_query.specs.ConditionReading.{read_items, plain, read_condition, all_but_id, read_columns}
 
@@ -73,7 +73,7 @@ where_in Update3 d = get (codes "where") d
 -- ---- requests
 
 -- all parts of a request are looked at
-abbrev pub read_parts : Notation → List NamedColumn → Data → Read ((List Shown × List Clause) × Kinds)
+abbrev pub read_parts : Notation → List NamedColumn → Data → Read ((List Projected × List Clause) × Kinds)
 read_parts notation columns d =
     both rank (both rank (read_columns BadSelect (all_but_id columns) columns (get (codes "columns") d)) (read_clauses columns (where_in notation d)))
     (read_kinds (get (codes "select") d))

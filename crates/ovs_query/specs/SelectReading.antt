@@ -13,7 +13,7 @@ use Rattle.ovs_types.specs.Finding.{table_named}
 use Rattle.ovs_query.specs.declared.conditions.Condition.{Condition}
 use Rattle.ovs_query.specs.declared.error.QueryError.TheVariants.{UnknownTable, BadCondition, BadOperation}
 use Rattle.ovs_query.specs.declared.select.Select.{Select}
-use Rattle.ovs_query.specs.declared.shown.Shown.{Shown}
+use Rattle.ovs_query.specs.declared.projected.Projected.{Projected}
 use Rattle.ovs_query.specs.Faults.{Read, rank}
 use Rattle.ovs_query.specs.ConditionReading.{read_conditions, all_shown, read_columns}
 
@@ -25,7 +25,7 @@ module _ (value : Column → Data → Read Datum) where
   read_where columns (Some d) = ok_or (as_array d) BadCondition >>= read_conditions value columns
 
   -- "where" and "columns", of which both are looked at
-  abbrev pub read_parts : List NamedColumn → Data → Read (List Condition × List Shown)
+  abbrev pub read_parts : List NamedColumn → Data → Read (List Condition × List Projected)
   read_parts columns d = both rank (read_where columns (get (codes "where") d)) (read_columns BadOperation (all_shown columns) columns (get (codes "columns") d))
 
   -- a table, conditions on its rows, and what is shown of them

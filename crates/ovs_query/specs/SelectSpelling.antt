@@ -14,7 +14,7 @@ use Rattle.ovs_query.specs.declared.conditions.Test.{Test}
 use Rattle.ovs_query.specs.declared.conditions.Test.TheVariants.{Less, AtMost, AtLeast, More, Equal, Unequal, Includes, Excludes}
 use Rattle.ovs_query.specs.declared.conditions.Condition.{Condition}
 use Rattle.ovs_query.specs.declared.select.Select.{Select}
-use Rattle.ovs_query.specs.declared.shown.Shown.{Shown}
+use Rattle.ovs_query.specs.declared.projected.Projected.{Projected}
 use Rattle.ovs_query.specs.ConditionReading.{field_named, column_for, all_shown}
 use Rattle.ovs_query.specs.View.{IsShownOf}
 
@@ -36,11 +36,11 @@ name_of Excludes = codes "excludes"
 -- ---- columns
 
 -- the name of a field
-abbrev pub SpellsShown : List NamedColumn → Data → Shown → Type 0
+abbrev pub SpellsShown : List NamedColumn → Data → Projected → Type 0
 SpellsShown columns d s = (d ≡ string s.named.name) × (field_named columns s.named.name ≡ Some (s.field, s.named.column))
 
 -- "columns": a list of names, or these where it is absent
-abbrev pub SpellsColumns : List Shown → List NamedColumn → Option Data → List Shown → Type 0
+abbrev pub SpellsColumns : List Projected → List NamedColumn → Option Data → List Projected → Type 0
 SpellsColumns otherwise columns None shown = shown ≡ otherwise
 SpellsColumns otherwise columns (Some d) shown = (names : Items) × (d ≡ array names) × SpellsEach (SpellsShown columns) names shown
 

@@ -5,7 +5,7 @@ use Rattle.serde_json.specs.Data.{Data, Members, no_members, member, object}
 use Rattle.ovs_data.specs.declared.datum.Datum.{Datum}
 use Rattle.ovs_types.specs.declared.schema.NamedColumn.{NamedColumn}
 use Rattle.ovs_types.specs.Id.{id_text}
-use Rattle.ovs_rows.specs.declared.place.Place.{Place}
+use Rattle.ovs_rows.specs.declared.row_key.RowKey.{RowKey}
 use Rattle.ovs_rows.specs.declared.change.Action.TheVariants.{Insert}
 use Rattle.ovs_rows.specs.declared.row.Row.{Row}
 use Rattle.ovs_rows.specs.After.{TouchedRow}
@@ -15,7 +15,7 @@ use Rattle.ovs_rows.specs.Writing.{rows_in}
 use Rattle.ovs_query.specs.declared.monitor.Notation.{Notation}
 use Rattle.ovs_query.specs.declared.monitor.Notation.TheVariants.{Update, Update2, Update3}
 use Rattle.ovs_query.specs.declared.monitor.Watched.{Watched}
-use Rattle.ovs_query.specs.Shown.{shown_columns, shown_data}
+use Rattle.ovs_query.specs.Projected.{shown_columns, shown_data}
 use Rattle.ovs_query.specs.RowUpdates.{New}
 use Rattle.ovs_query.specs.View.{presented, watched_at}
 use Rattle.ovs_query.specs.Updates.{action_told, row_update_told}
@@ -87,7 +87,7 @@ abbrev pub first_json_of : Notation → Watched → ℕ → Row → Option Data
 first_json_of notation w id row = option_map (first_row_json notation (shown_columns w.shown)) (presented id row w)
 
 -- its id and that
-abbrev pub first_member : Notation → Watched → Place × Row → Option (List ℕ × Data)
+abbrev pub first_member : Notation → Watched → RowKey × Row → Option (List ℕ × Data)
 first_member notation w e = option_map (λ d. (id_text e.0.id, d)) (first_json_of notation w e.0.id e.1)
 
 -- those of a table, where they are asked for

@@ -5,8 +5,8 @@ use Rattle.ovs_data.specs.declared.datum.Datum.{Datum}
 use Rattle.ovs_types.specs.declared.schema.NamedColumn.{NamedColumn}
 use Rattle.ovs_rows.specs.declared.change.Action.{Action}
 use Rattle.ovs_rows.specs.declared.change.Action.TheVariants.{Insert, Delete, Modify}
-use Rattle.ovs_rows.specs.declared.place.Place.{Place}
-use Rattle.ovs_rows.specs.Place.{place_cmp}
+use Rattle.ovs_rows.specs.declared.row_key.RowKey.{RowKey}
+use Rattle.ovs_rows.specs.RowKey.{place_cmp}
 use Rattle.ovs_rows.specs.Row.{Rows}
 use Rattle.ovs_rows.specs.Change.{Actions}
 use Rattle.ovs_rows.specs.DatabaseDifference.{AreEdits}
@@ -29,7 +29,7 @@ IsUpdateBetween columns (Some old) (Some new) (Some Delete) = ⊥
 
 -- the same of each row of two databases that is shown before or after
 abbrev pub AreUpdatesBetween : List (Option Watched) → Rows → Rows → Actions → Type 0
-AreUpdatesBetween watches old new updates = (p : Place) → IsUpdateBetween (columns_watched watches p.table) (get (view watches old) p) (get (view watches new) p) (get updates p)
+AreUpdatesBetween watches old new updates = (p : RowKey) → IsUpdateBetween (columns_watched watches p.table) (get (view watches old) p) (get (view watches new) p) (get updates p)
 
 -- ---- `update`
 
@@ -55,7 +55,7 @@ IsRowUpdateBetween (Some old) (Some new) (Some (New now)) = ⊥
 IsRowUpdateBetween (Some old) (Some new) (Some (Gone past)) = ⊥
 
 abbrev pub AreRowUpdatesBetween : List (Option Watched) → Rows → Rows → FinMap place_cmp RowUpdate → Type 0
-AreRowUpdatesBetween watches old new updates = (p : Place) → IsRowUpdateBetween (get (view watches old) p) (get (view watches new) p) (get updates p)
+AreRowUpdatesBetween watches old new updates = (p : RowKey) → IsRowUpdateBetween (get (view watches old) p) (get (view watches new) p) (get updates p)
 
 -- ---- kinds of updates
 

@@ -8,10 +8,10 @@ use Rattle.ovs_data.specs.declared.datum.Datum.{Datum}
 use Rattle.ovs_types.specs.declared.schema.NamedColumn.{NamedColumn}
 use Rattle.ovs_types.specs.Id.{id_text}
 use Rattle.ovs_json.specs.Putting.{under_name}
-use Rattle.ovs_rows.specs.declared.place.Place.{Place}
+use Rattle.ovs_rows.specs.declared.row_key.RowKey.{RowKey}
 use Rattle.ovs_rows.specs.declared.change.Action.{Action}
 use Rattle.ovs_rows.specs.declared.change.Action.TheVariants.{Insert, Delete, Modify}
-use Rattle.ovs_rows.specs.Place.{place_cmp}
+use Rattle.ovs_rows.specs.RowKey.{place_cmp}
 use Rattle.ovs_rows.specs.Row.{Rows}
 use Rattle.ovs_rows.specs.Change.{Actions}
 use Rattle.ovs_rows.specs.ChangeWriting.{insert_json, modify_json, action_json}
@@ -19,7 +19,7 @@ use Rattle.ovs_rows.specs.Writing.{object_of, column_member}
 use Rattle.ovs_query.specs.declared.monitor.Notation.{Notation}
 use Rattle.ovs_query.specs.declared.monitor.Notation.TheVariants.{Update, Update2, Update3}
 use Rattle.ovs_query.specs.declared.monitor.Watched.{Watched}
-use Rattle.ovs_query.specs.Shown.{shown_columns}
+use Rattle.ovs_query.specs.Projected.{shown_columns}
 use Rattle.ovs_query.specs.RowUpdates.{RowUpdate, New, Gone, Changed}
 use Rattle.ovs_query.specs.Updates.{first_updates, first_row_updates}
 
@@ -61,7 +61,7 @@ module _ (rows : ℕ → Watched → List (List ℕ × Data)) where
 -- by how one row's update is written
 module _ {U : Type 0} (update_json : List NamedColumn → U → Data) where
   -- a row's id and its update
-  abbrev pub update_member : List NamedColumn → Place × U → List ℕ × Data
+  abbrev pub update_member : List NamedColumn → RowKey × U → List ℕ × Data
   update_member columns e = (id_text e.0.id, update_json columns e.1)
 
   -- those of the table of this number

@@ -9,9 +9,9 @@ use Rattle.ovs_types.specs.declared.schema.NamedColumn.{NamedColumn}
 use Rattle.ovs_types.specs.declared.schema.Table.{Table}
 use Rattle.ovs_rows.specs.declared.change.Action.{Action}
 use Rattle.ovs_rows.specs.declared.change.Action.TheVariants.{Insert, Delete, Modify}
-use Rattle.ovs_rows.specs.declared.place.Place.{Place}
+use Rattle.ovs_rows.specs.declared.row_key.RowKey.{RowKey}
 use Rattle.ovs_rows.specs.declared.row.Row.{Row}
-use Rattle.ovs_rows.specs.Place.{place_cmp}
+use Rattle.ovs_rows.specs.RowKey.{place_cmp}
 use Rattle.ovs_rows.specs.Row.{Rows, AreDataOf, columns_at}
 use Rattle.ovs_rows.specs.Change.{Actions}
 use Rattle.ovs_rows.specs.After.{TouchedRow}
@@ -25,7 +25,7 @@ use Rattle.ovs_query.specs.View.{columns_of, shown_by, shown_at, watched_at}
 -- ---- steps
 
 -- what a list of touched rows says of a place
-abbrev pub touched_at : List TouchedRow → Place → Option TouchedRow
+abbrev pub touched_at : List TouchedRow → RowKey → Option TouchedRow
 touched_at [] p = None
 touched_at (t ∷ ts) p = if eq_by_cmp place_cmp p t.place then Some t else touched_at ts p
 
@@ -35,7 +35,7 @@ IsStepAt (Some t) old new = (old ≡ t.before) × (new ≡ t.after)
 
 -- the list has the rows that changed, before and after; all others are as they were
 abbrev pub IsStep : List TouchedRow → Rows → Rows → Type 0
-IsStep applied old new = (p : Place) → IsStepAt (touched_at applied p) (get old p) (get new p)
+IsStep applied old new = (p : RowKey) → IsStepAt (touched_at applied p) (get old p) (get new p)
 
 -- the row, if there is one, has a datum of each of the columns
 abbrev pub IsRowOf : List NamedColumn → Option Row → Type 0
@@ -80,7 +80,7 @@ row_update_told watched id before after = option_and_then (asked is_row_asked wa
 
 -- what touched rows give, by place
 module _ {U : Type 0} (f : TouchedRow → Option U) where
-  abbrev pub listed : List TouchedRow → List (Place × U)
+  abbrev pub listed : List TouchedRow → List (RowKey × U)
   listed = filter_map (λ t. option_map (λ u. (t.place, u)) (f t))
 
   abbrev pub by_place : List TouchedRow → FinMap place_cmp U

@@ -6,16 +6,16 @@ use Rattle.std.specs.FinMap.{FinMap, empty}
 use Rattle.ovs_data.specs.declared.datum.Datum.{Datum}
 use Rattle.ovs_types.specs.declared.schema.NamedColumn.{NamedColumn}
 use Rattle.ovs_types.specs.declared.schema.Table.{Table}
-use Rattle.ovs_rows.specs.declared.place.Place.{Place}
+use Rattle.ovs_rows.specs.declared.row_key.RowKey.{RowKey}
 use Rattle.ovs_rows.specs.declared.row.Row.{Row}
-use Rattle.ovs_rows.specs.Place.{place_cmp}
+use Rattle.ovs_rows.specs.RowKey.{place_cmp}
 use Rattle.ovs_rows.specs.Row.{Rows, columns_at}
 use Rattle.ovs_rows.specs.Combined.{combined}
-use Rattle.ovs_query.specs.declared.shown.Field.{Field}
-use Rattle.ovs_query.specs.declared.shown.Field.TheVariants.{Id, Version, Column as Numbered}
-use Rattle.ovs_query.specs.declared.shown.Shown.{Shown}
+use Rattle.ovs_query.specs.declared.projected.Field.{Field}
+use Rattle.ovs_query.specs.declared.projected.Field.TheVariants.{Id, Version, Column as Numbered}
+use Rattle.ovs_query.specs.declared.projected.Projected.{Projected}
 use Rattle.ovs_query.specs.declared.monitor.Watched.{Watched}
-use Rattle.ovs_query.specs.Shown.{id_column, shown_data, shown_columns}
+use Rattle.ovs_query.specs.Projected.{id_column, shown_data, shown_columns}
 use Rattle.ovs_query.specs.Conditions.{admits}
 
 -- the rows that are shown, each with its data
@@ -44,7 +44,7 @@ shown_by watched id None = None
 shown_by watched id (Some row) = option_and_then (presented id row) watched
 
 -- what is shown of the row at a place
-abbrev pub shown_at : List (Option Watched) → Place → Option Row → Option (List Datum)
+abbrev pub shown_at : List (Option Watched) → RowKey → Option Row → Option (List Datum)
 shown_at watches p = shown_by (watched_at watches p.table) p.id
 
 unfoldable pub view : List (Option Watched) → Rows → View
@@ -58,7 +58,7 @@ IsField columns Id named = named.column ≡ id_column
 IsField columns Version named = named.column ≡ id_column
 IsField columns (Numbered number) named = slice_get columns number ≡ Some named
 
-abbrev pub IsShownOf : List NamedColumn → Shown → Type 0
+abbrev pub IsShownOf : List NamedColumn → Projected → Type 0
 IsShownOf columns s = IsField columns s.field s.named
 
 -- a monitor of these tables

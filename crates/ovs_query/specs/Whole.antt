@@ -6,7 +6,7 @@ use Rattle.ovs_types.specs.Names.{IsAscendingBy}
 use Rattle.ovs_rows.specs.declared.row.Row.{Row}
 use Rattle.ovs_rows.specs.Row.{AreDataOf}
 use Rattle.ovs_query.specs.declared.monitor.Watched.{Watched}
-use Rattle.ovs_query.specs.Shown.{shown_columns}
+use Rattle.ovs_query.specs.Projected.{shown_columns}
 use Rattle.ovs_query.specs.Updates.{AsksAllOf}
 use Rattle.ovs_query.specs.View.{presented}
 

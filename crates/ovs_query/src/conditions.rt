@@ -4,10 +4,10 @@ ghost use Rattle.std.specs.Prelude.{◌≡◌, ℕ, true, not, IfSome, IfNone};
 ghost use Rattle.std.specs.List.{list_all};
 ghost use Rattle.ovs_types.specs.Conditions.{includes, excludes};
 ghost use Rattle.ovs_types.specs.Datum.{has_element};
-ghost use Rattle.ovs_query.specs.Shown.{id_datum};
+ghost use Rattle.ovs_query.specs.Projected.{id_datum};
 ghost use Rattle.ovs_query.specs.Conditions.{order_of, passes, holds, all_hold, equal_id, names_no_row, AdmitOnly};
 
-use crate::shown::Field;
+use crate::projected::Field;
 use ovs_rows::Row;
 use ovs_types::{Atom, Datum, RowId};
 use std::cmp::Ordering;

@@ -3,7 +3,7 @@
 ghost use Rattle.std.specs.Prelude.{◌≡◌};
 ghost use Rattle.ovs_query.specs.Faults.{rank, query_text};
 
-use ovs_json::{Fault, NoMemory};
+use ovs_json::{NoMemory, Ranked};
 use std::alloc::AllocError;
 use thiserror::Error;
 
@@ -56,7 +56,7 @@ impl QueryError {
     }
 }
 
-impl Fault for QueryError {
+impl Ranked for QueryError {
     ghost rank = { rank };
 
     fn rank(&self) -> u8 {

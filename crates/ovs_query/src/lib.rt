@@ -5,9 +5,9 @@ mod clauses;
 mod conditions;
 mod error;
 mod monitor;
+mod projected;
 mod reading;
 mod select;
-mod shown;
 mod theorems;
 mod transact;
 

@@ -8,9 +8,9 @@ ghost use Rattle.ovs_query.specs.Conditions.{AdmitOnly};
 ghost use Rattle.ovs_query.specs.RowWriting.{row_matching, rows_json, select_json};
 
 use crate::conditions::Conditions;
-use crate::shown::{ShownColumns, shown_json};
+use crate::projected::{ShownColumns, shown_json};
 use ovs_json::under_name;
-use ovs_rows::{Database, Draft, Place, Row};
+use ovs_rows::{Database, Draft, Row, RowKey};
 use ovs_types::{NoMemory, RowId};
 use serde_json::Value;
 use std::alloc::Global;
@@ -28,7 +28,7 @@ impl Select {
     fn matching_row<'a>(&self, draft: &'a Draft, id: RowId) -> Option<&'a Row>
         ensures value { option_copied result ≡ row_matching self.now id draft.now.rows }
     {
-        let place = Place {
+        let place = RowKey {
             table: self.table,
             id,
         };

@@ -4,7 +4,7 @@ ghost use Rattle.std.specs.Prelude.{◌≡◌, ℕ, List, Option, Some};
 ghost use Rattle.std.specs.FinMap.{empty, get};
 ghost use Rattle.std.specs.Option.{option_and_then};
 ghost use Rattle.ovs_types.specs.declared.schema.Table.{Table};
-ghost use Rattle.ovs_rows.specs.declared.place.Place.{Place};
+ghost use Rattle.ovs_rows.specs.declared.row_key.RowKey.{RowKey};
 ghost use Rattle.ovs_rows.specs.After.{TouchedRow, after, applied_of};
 ghost use Rattle.ovs_rows.specs.Applied.{AscendByPlace};
 ghost use Rattle.ovs_rows.specs.Change.{Actions, IsChangeOf};
@@ -35,8 +35,8 @@ pub fn update_laws()
         → AreUpdatesBetween ws a b (updates ws us) }
     ensures row_between { (ts : List Table) (ws : List (Option Watched)) (a b : Rows) (us : List TouchedRow) → IsMonitorOf ts ws → AsksAll ws → AreRowsOf ts a → AreRowsOf ts b → AscendByPlace us → IsStep us a b
         → AreRowUpdatesBetween ws a b (row_updates ws us) }
-    ensures left_out { (ws : List (Option Watched)) (us : List TouchedRow) (p : Place) → AscendByPlace us
+    ensures left_out { (ws : List (Option Watched)) (us : List TouchedRow) (p : RowKey) → AscendByPlace us
         → get (updates ws us) p ≡ option_and_then (asked is_asked (watched_at ws p.table)) (get (updates (asking_all ws) us) p) }
-    ensures row_left_out { (ws : List (Option Watched)) (us : List TouchedRow) (p : Place) → AscendByPlace us
+    ensures row_left_out { (ws : List (Option Watched)) (us : List TouchedRow) (p : RowKey) → AscendByPlace us
         → get (row_updates ws us) p ≡ option_and_then (asked is_row_asked (watched_at ws p.table)) (get (row_updates (asking_all ws) us) p) }
 {}

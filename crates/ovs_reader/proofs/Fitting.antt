@@ -23,7 +23,7 @@ use Rattle.ovs_links.specs.declared.step.Step.{Step}
 use Rattle.ovs_wire.specs.declared.message.Message.{Message}
 use Rattle.ovs_wire.specs.declared.message.Message.TheVariants.{Request, Reply, Notice}
 use Rattle.ovs_reader.specs.Params.{Asking, is, in_database, text_in, id_and_requests, requests_since, has_id, new_monitor}
-use Rattle.ovs_reader.specs.Answers.{Asked, Transact, Lock, Steal, Unlock, Outcome, Replies, Asks, Starts, Cancels, get_schema, transact, transacted, monitor_or_refusal, starts, start, starts_at, start_since, monitor, cancel, locked, lock_answer, monitor_answer, answer}
+use Rattle.ovs_reader.specs.Answers.{Asked, Transact, Lock, Steal, Unlock, RequestOutcome, Replies, Asks, Starts, Cancels, get_schema, transact, transacted, monitor_or_refusal, starts, start, starts_at, start_since, monitor, cancel, locked, lock_answer, monitor_answer, answer}
 use Rattle.ovs_reader.specs.Session.{SessionValue, AreMonitorsOf, GoesOn, MayBeShown}
 use Rattle.ovs_reader.specs.Turns.{monitors_after, answered, monitors_by, after_turn, shown}
 use Rattle.ovs_reader.specs.Telling.{moved_to, moved_past, after_pump}
@@ -32,20 +32,20 @@ use Rattle.ovs_reader.specs.declared.subscription.Subscription.{Subscription}
 
 -- ---- a monitor that is started is one of the tables
 
-abbrev Fits : List Table → Asking Outcome → Type 0
+abbrev Fits : List Table → Asking RequestOutcome → Type 0
 Fits tables (Ok (Starts d m)) = IsMonitorOf tables m.monitor.watches
 Fits tables r = Unit {0}
 
-either : (tables : List Table) (b : Bool) (x y : Asking Outcome) → Fits tables x → Fits tables y → Fits tables (cond b x y)
+either : (tables : List Table) (b : Bool) (x y : Asking RequestOutcome) → Fits tables x → Fits tables y → Fits tables (cond b x y)
 either tables true x y f g = f
 either tables false x y f g = g
 
-bound : {A : Type 0} (tables : List Table) (r : Asking A) (g : A → Asking Outcome) → ((x : A) → Fits tables (g x)) → Fits tables (r >>= g)
+bound : {A : Type 0} (tables : List Table) (r : Asking A) (g : A → Asking RequestOutcome) → ((x : A) → Fits tables (g x)) → Fits tables (r >>= g)
 bound tables (Ok x) g fits = fits x
 bound tables (Err e) g fits = tt
 
 -- what is read as a monitor is one of the tables
-read_fits : (tables : List Table) (notation : Notation) (requests : Data) (g : Monitor → Asking Outcome) → ((m : Monitor) → IsMonitorOf tables m.watches → Fits tables (g m))
+read_fits : (tables : List Table) (notation : Notation) (requests : Data) (g : Monitor → Asking RequestOutcome) → ((m : Monitor) → IsMonitorOf tables m.watches → Fits tables (g m))
     → Fits tables (monitor_or_refusal (read_monitor notation tables requests) >>= g)
 read_fits tables notation requests g fits = by (read_monitor notation tables requests) refl
   where
@@ -67,7 +67,7 @@ since_fits f params =
     by asked m is (Some k) = is
     by asked m is None = is
 
-monitor_fits : (ms : List Subscription) (f : FoldedValue) (asked : List Data → Asking Outcome) (params : List Data) → ((rest : List Data) → Fits (tables_in f) (asked rest))
+monitor_fits : (ms : List Subscription) (f : FoldedValue) (asked : List Data → Asking RequestOutcome) (params : List Data) → ((rest : List Data) → Fits (tables_in f) (asked rest))
     → Fits (tables_in f) (monitor ms f asked params)
 monitor_fits ms f asked params fits = bound (tables_in f) (new_monitor ms f.database.schema.description.name params) asked fits
 
@@ -127,7 +127,7 @@ module _ {X : Type 0} (P : X → Type 0) where
 
 -- ---- the session
 
-after_fits : (tables : List Table) (r : Asking Outcome) (ms : List Subscription) → Fits tables r → AreMonitorsOf tables ms → AreMonitorsOf tables (monitors_after r ms)
+after_fits : (tables : List Table) (r : Asking RequestOutcome) (ms : List Subscription) → Fits tables r → AreMonitorsOf tables ms → AreMonitorsOf tables (monitors_after r ms)
 after_fits tables (Err r) ms fits all = all
 after_fits tables (Ok (Replies d)) ms fits all = all
 after_fits tables (Ok (Asks asked)) ms fits all = all

@@ -10,10 +10,10 @@ use Rattle.ovs_authority.specs.declared.ask.Verb.{Verb}
 use Rattle.ovs_authority.specs.declared.ask.Verb.TheVariants as asks
 use Rattle.ovs_locks.specs.declared.notice.LockNotice.{LockNotice}
 use Rattle.ovs_lock_desk.specs.LockDesk.{answers_to, notices_to, first_due_up, is_sent_at}
-use Rattle.ovs_lock_desk.specs.declared.course.LockReply.{LockReply}
-use Rattle.ovs_lock_desk.specs.declared.course.LockVerb.{LockVerb}
-use Rattle.ovs_lock_desk.specs.declared.course.LockVerb.TheVariants as verbs
-use Rattle.ovs_lock_desk.specs.declared.late_steal.LateSteal.{LateSteal}
+use Rattle.ovs_lock_desk.specs.declared.lock_state.LockReply.{LockReply}
+use Rattle.ovs_lock_desk.specs.declared.lock_state.LockVerb.{LockVerb}
+use Rattle.ovs_lock_desk.specs.declared.lock_state.LockVerb.TheVariants as verbs
+use Rattle.ovs_lock_desk.specs.declared.pending_steal.PendingSteal.{PendingSteal}
 use Rattle.ovs_desk.specs.Asserts.{rewritten}
 use Rattle.ovs_desk.specs.Calls.{Call, Sends, TakesUp, Replies, LosesSource, Collects, Ends, After, SendsTo}
 use Rattle.ovs_desk.specs.Ledger as ledger
@@ -23,8 +23,8 @@ use Rattle.ovs_desk.specs.Relaying as relaying
 use Rattle.ovs_desk.specs.Relaying.{first_lock, lock_reply}
 use Rattle.ovs_desk.specs.Runs.{Runs, no_request}
 use Rattle.ovs_desk.specs.declared.error.BadReply.{BadReply}
-use Rattle.ovs_desk.specs.declared.error.Unsent.{Unsent}
-use Rattle.ovs_desk.specs.declared.pending.Pending.{Pending}
+use Rattle.ovs_desk.specs.declared.error.ForwardRefused.{ForwardRefused}
+use Rattle.ovs_desk.specs.declared.forwarded.Forwarded.{Forwarded}
 use Rattle.ovs_desk.specs.declared.source_message.SourceMessage.{SourceMessage}
 use Rattle.ovs_desk.specs.declared.source_message.SourceMessage.TheVariants as says
 use Rattle.ovs_desk.specs.declared.standing.StandingAnswer.{StandingAnswer}
@@ -69,40 +69,40 @@ forwards_of d = d.forwards
 
 -- ---- asking
 
-transacted : (who : ℕ) (operations : List Data) (id : Data) (d e : RelayValue) (r : Option Message) (P : Option Message → List Call → Type 0)
-    → ((n : ℕ) → P None (Sends who id (transact_request d.database (map (rewritten d.locks.locks who) operations)) n ∷ []))
-    → ((m : Message) → P (Some m) []) → relaying.Transacts who operations id d r e → Made (P r) d e
-transacted who operations id d e r P sent unsent t = by t.came t.sends t.told
+transacted : (session : ℕ) (operations : List Data) (id : Data) (d e : RelayValue) (r : Option Message) (P : Option Message → List Call → Type 0)
+    → ((n : ℕ) → P None (Sends session id (transact_request d.database (map (rewritten d.locks.locks session) operations)) n ∷ []))
+    → ((m : Message) → P (Some m) []) → relaying.Transacts session operations id d r e → Made (P r) d e
+transacted session operations id d e r P sent unsent t = by t.came t.sends t.told
   where
     same : e.database ≡ d.database
     same = ap database_of t.rest
 
-    by : (came : Result ℕ Unsent) → SendsTo d.forwards who id (transact_request d.database (map (rewritten d.locks.locks who) operations)) came e.forwards
-        → relaying.IsToldOfSending came r → Made (P r) d e
+    by : (came : Result ℕ ForwardRefused) → SendsTo d.forwards session id (transact_request d.database (map (rewritten d.locks.locks session) operations)) came e.forwards
+        → relaying.IsSendReply came r → Made (P r) d e
     by (Ok n) (free, is, after) told =
         subst (λ x. Made (P x) d e) (sym told)
-        (by_call (P None) (Sends who id (transact_request d.database (map (rewritten d.locks.locks who) operations)) n) d e (sent n) after same)
+        (by_call (P None) (Sends session id (transact_request d.database (map (rewritten d.locks.locks session) operations)) n) d e (sent n) after same)
     by (Err u) (cause, its_id, its_request, forwards) (told, why) =
         subst (λ x. Made (P x) d e) (sym told)
         (no_call (P (Some (reply_of (refused (codes "too many requests")) u.id))) d e (unsent (reply_of (refused (codes "too many requests")) u.id)) forwards same)
 
-by_name : (who : ℕ) (verb : LockVerb) (name : List ℕ) (id : Data) (d e : RelayValue) (r : Option Message) (P : List Call → Type 0) → P []
-    → relaying.AsksByName who verb name id d r e → Made P d e
-by_name who verb name id d e r P none a = no_call P d e none (ap forwards_of a.asks.rest) (ap database_of a.asks.rest)
+by_name : (session : ℕ) (verb : LockVerb) (name : List ℕ) (id : Data) (d e : RelayValue) (r : Option Message) (P : List Call → Type 0) → P []
+    → relaying.AsksByName session verb name id d r e → Made P d e
+by_name session verb name id d e r P none a = no_call P d e none (ap forwards_of a.asks.rest) (ap database_of a.asks.rest)
 
-asked : (who : ℕ) (id : Data) (verb : Verb) (r : Option Message) (d e : RelayValue) → relaying.Asks who id verb d r e → Made (IsAskedBy d.database who id verb r) d e
-asked who id (asks.Transact operations) r d e t =
-    transacted who (map view operations.items) id d e r (λ x made. IsAskedBy d.database who id (asks.Transact operations) x made)
+asked : (session : ℕ) (id : Data) (verb : Verb) (r : Option Message) (d e : RelayValue) → relaying.Asks session id verb d r e → Made (IsAskedBy d.database session id verb r) d e
+asked session id (asks.Transact operations) r d e t =
+    transacted session (map view operations.items) id d e r (λ x made. IsAskedBy d.database session id (asks.Transact operations) x made)
     (λ n. record { number = n; locks = d.locks.locks; calls = refl }) (λ m. refl) t
-asked who id (asks.Lock name) r d e a = by_name who verbs.Lock name id d e r (IsAskedBy d.database who id (asks.Lock name) r) refl a
-asked who id (asks.Steal name) r d e a = by_name who verbs.Steal name id d e r (IsAskedBy d.database who id (asks.Steal name) r) refl a
-asked who id (asks.Unlock name) r d e a = by_name who verbs.Unlock name id d e r (IsAskedBy d.database who id (asks.Unlock name) r) refl a
+asked session id (asks.Lock name) r d e a = by_name session verbs.Lock name id d e r (IsAskedBy d.database session id (asks.Lock name) r) refl a
+asked session id (asks.Steal name) r d e a = by_name session verbs.Steal name id d e r (IsAskedBy d.database session id (asks.Steal name) r) refl a
+asked session id (asks.Unlock name) r d e a = by_name session verbs.Unlock name id d e r (IsAskedBy d.database session id (asks.Unlock name) r) refl a
 
 -- ---- what is given to a session
 
-module _ (who : ℕ) (m : Option Message) (d e : RelayValue) where
+module _ (session : ℕ) (m : Option Message) (d e : RelayValue) where
   abbrev Given : List Call → Type 0
-  Given made = IsGivenReply who m made ⊎ ((made ≡ []) × IsGivenOfLocks m)
+  Given made = IsGivenReply session m made ⊎ ((made ≡ []) × IsGivenOfLocks m)
 
   of_locks : IsGivenOfLocks m → e.forwards ≡ d.forwards → e.database ≡ d.database → Made Given d e
   of_locks given forwards same = no_call Given d e (inr (refl, given)) forwards same
@@ -110,32 +110,32 @@ module _ (who : ℕ) (m : Option Message) (d e : RelayValue) where
   nothing : m ≡ None → e ≡ d → Made Given d e
   nothing none unchanged = of_locks (subst IsGivenOfLocks (sym none) tt) (ap forwards_of unchanged) (ap database_of unchanged)
 
-  late : (a : Option (List ℕ × LateSteal)) → relaying.GivesLate a who d m e → Made Given d e
+  late : (a : Option (List ℕ × PendingSteal)) → relaying.GivesLate a session d m e → Made Given d e
   late None (none, unchanged) = nothing none unchanged
   late (Some a) (is, (change, has, rest)) =
       of_locks (subst IsGivenOfLocks (sym is) (inl (record { outcome = a.1.outcome; id = a.1.id; is = refl }))) (ap forwards_of rest) (ap database_of rest)
 
-  notice : (n : Option LockNotice) → relaying.GivesNotice n who d m e → Made Given d e
+  notice : (n : Option LockNotice) → relaying.GivesNotice n session d m e → Made Given d e
   notice None (none, unchanged) = nothing none unchanged
   notice (Some n) (is, (change, has, rest)) =
       of_locks (subst IsGivenOfLocks (sym is) (inr (record { notice = n; is = refl }))) (ap forwards_of rest) (ap database_of rest)
 
-  of_lock : (a : Option (List ℕ × LateSteal)) → relaying.CollectsOfLock a who d m e → Made Given d e
-  of_lock None c = notice (slice_get (notices_to who d.locks.locks) 0) c
-  of_lock (Some a) c = late (slice_get (answers_to who d.locks.locks) 0) c
+  of_lock : (a : Option (List ℕ × PendingSteal)) → relaying.CollectsOfLock a session d m e → Made Given d e
+  of_lock None c = notice (slice_get (notices_to session d.locks.locks) 0) c
+  of_lock (Some a) c = late (slice_get (answers_to session d.locks.locks) 0) c
 
-  given_reply : (reply : Message) (due : Option Pending) → due_to who d.forwards.ledger ≡ due → next_back who d.forwards.ledger ≡ Some reply
-      → m ≡ next_back who d.forwards.ledger → After (Collects who due) d.forwards.ledger e.forwards.ledger → e.database ≡ d.database → Made Given d e
+  given_reply : (reply : Message) (due : Option Forwarded) → due_to session d.forwards.ledger ≡ due → next_back session d.forwards.ledger ≡ Some reply
+      → m ≡ next_back session d.forwards.ledger → After (Collects session due) d.forwards.ledger e.forwards.ledger → e.database ≡ d.database → Made Given d e
   given_reply reply None is some given after same =
-      let none : next_back who d.forwards.ledger ≡ None = ap (option_and_then ledger.reply_of) is in
+      let none : next_back session d.forwards.ledger ≡ None = ap (option_and_then ledger.reply_of) is in
       absurd (cc (none, some))
   given_reply reply (Some request) is some given after same =
-      by_call Given (Collects who (Some request)) d e (inl (record { request = request; calls = refl; reply = given ∙ ap (option_and_then ledger.reply_of) is })) after same
+      by_call Given (Collects session (Some request)) d e (inl (record { request = request; calls = refl; reply = given ∙ ap (option_and_then ledger.reply_of) is })) after same
 
-  given : (reply : Option Message) → next_back who d.forwards.ledger ≡ reply → relaying.CollectsFirst reply who d m e → Made Given d e
-  given None is c = of_lock (slice_get (answers_to who d.locks.locks) 0) c
+  given : (reply : Option Message) → next_back session d.forwards.ledger ≡ reply → relaying.CollectsFirst reply session d m e → Made Given d e
+  given None is c = of_lock (slice_get (answers_to session d.locks.locks) 0) c
   given (Some reply) is (told, (after, rest)) =
-      given_reply reply (due_to who d.forwards.ledger) refl is told after (ap database_of rest)
+      given_reply reply (due_to session d.forwards.ledger) refl is told after (ap database_of rest)
 
 -- ---- what goes up
 
@@ -155,7 +155,7 @@ module _ (m : Option Message) (d e : RelayValue) where
   lock_up true t = due_up (first_due_up d.locks.locks) t
   lock_up false (none, unchanged) = nothing_up none unchanged
 
-  request_up : (up : Message) (first : Option Pending) → to_go d.forwards.ledger ≡ first → next_up d.forwards.ledger ≡ Some up → m ≡ Some up
+  request_up : (up : Message) (first : Option Forwarded) → to_go d.forwards.ledger ≡ first → next_up d.forwards.ledger ≡ Some up → m ≡ Some up
       → After (TakesUp first) d.forwards.ledger e.forwards.ledger → e.database ≡ d.database → Made Up d e
   request_up up None is some given after same =
       let none : next_up d.forwards.ledger ≡ None = ap (option_and_then ledger.message_of) is in
@@ -195,9 +195,9 @@ heard (says.Stolen name) d r e (fine, (change, has, rest)) = no_call (IsHeardBy 
 -- ---- all steps
 
 step_calls : (s : DeskStep) (d e : RelayValue) → Does s d e → Made (IsMadeBy d.database s) d e
-step_calls (steps.Asked who ask reply) d e does = asked who ask.id ask.verb reply d e does
-step_calls (steps.Collected who message) d e does = given who message d e (next_back who d.forwards.ledger) refl does
-step_calls (steps.Ended who) d e does = by_call (IsMadeBy d.database (steps.Ended who)) (Ends who) d e refl does.requests (ap database_of does.rest)
+step_calls (steps.Asked session ask reply) d e does = asked session ask.id ask.verb reply d e does
+step_calls (steps.Collected session message) d e does = given session message d e (next_back session d.forwards.ledger) refl does
+step_calls (steps.Ended session) d e does = by_call (IsMadeBy d.database (steps.Ended session)) (Ends session) d e refl does.requests (ap database_of does.rest)
 step_calls (steps.WentUp message) d e does = gone_up message d e d.locks.has_source does
 step_calls (steps.Heard message result) d e does = heard message d result e does
 step_calls steps.FoundSource d e does = no_call (IsMadeBy d.database steps.FoundSource) d e refl (ap forwards_of does.rest) (ap database_of does.rest)
@@ -233,5 +233,5 @@ accounted database made (e, all) =
       once = once no_request m.calls e.forwards.ledger (omega arith) m.run;
       own = own [] no_request m.calls e.forwards.ledger tt m.run;
       answers = all_closed [] no_request m.calls e.forwards.ledger (omega arith) tt m.run;
-      ended = λ who before after is away. ended who no_request before after e.forwards.ledger (subst (λ x. Runs no_request x e.forwards.ledger) is m.run) away;
+      ended = λ session before after is away. ended session no_request before after e.forwards.ledger (subst (λ x. Runs no_request x e.forwards.ledger) is m.run) away;
     }

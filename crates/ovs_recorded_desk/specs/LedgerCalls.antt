@@ -9,9 +9,9 @@ use Rattle.ovs_authority.specs.Asks.{lock_request, transact_request}
 use Rattle.ovs_authority.specs.declared.ask.Verb.{Verb}
 use Rattle.ovs_authority.specs.declared.ask.Verb.TheVariants as asks
 use Rattle.ovs_locks.specs.declared.notice.LockNotice.{LockNotice}
-use Rattle.ovs_lock_desk.specs.LockDesk.{DeskLocks}
-use Rattle.ovs_lock_desk.specs.declared.course.LockVerb.{LockVerb}
-use Rattle.ovs_lock_desk.specs.declared.late_steal.StealOutcome.{StealOutcome}
+use Rattle.ovs_lock_desk.specs.LockDesk.{RelayLocks}
+use Rattle.ovs_lock_desk.specs.declared.lock_state.LockVerb.{LockVerb}
+use Rattle.ovs_lock_desk.specs.declared.pending_steal.StealOutcome.{StealOutcome}
 use Rattle.ovs_desk.specs.Asserts.{rewritten}
 use Rattle.ovs_desk.specs.Calls.{Call, Sends, TakesUp, Replies, LosesSource, Collects, Ends}
 use Rattle.ovs_desk.specs.Ledger as ledger
@@ -19,7 +19,7 @@ use Rattle.ovs_desk.specs.Ledger.{Ledger}
 use Rattle.ovs_desk.specs.RelayDesk.{message_of}
 use Rattle.ovs_desk.specs.Relaying.{first_lock, late_answer, method_of, under_number}
 use Rattle.ovs_desk.specs.Runs.{Runs, no_request, sent, taken_up, collected, numbers, RiseFrom, IsPartOf, EachOnce, AllGiveOwn, StaysAway, GivesNothing}
-use Rattle.ovs_desk.specs.declared.pending.Pending.{Pending}
+use Rattle.ovs_desk.specs.declared.forwarded.Forwarded.{Forwarded}
 use Rattle.ovs_desk.specs.declared.source_message.SourceMessage.{SourceMessage}
 use Rattle.ovs_desk.specs.declared.source_message.SourceMessage.TheVariants as says
 use Rattle.ovs_desk.specs.declared.standing.StandingAnswer.{StandingAnswer}
@@ -30,25 +30,25 @@ use Rattle.ovs_recorded_desk.specs.declared.step.DeskStep.TheVariants as steps
 -- ---- what is asked
 
 -- the transaction is sent under a number, behind the database's name, with its asserts rewritten by what locks the desk had
-pub record IsSent (database : List ℕ) (who : ℕ) (id : Data) (operations : List Data) (made : List Call) : Type 0 where
+pub record IsSent (database : List ℕ) (session : ℕ) (id : Data) (operations : List Data) (made : List Call) : Type 0 where
   pub number : ℕ
-  pub locks : DeskLocks
-  pub calls : made ≡ Sends who id (transact_request database (map (rewritten locks who) operations)) number ∷ []
+  pub locks : RelayLocks
+  pub calls : made ≡ Sends session id (transact_request database (map (rewritten locks session) operations)) number ∷ []
 
 -- a transaction is sent where it isn't replied to at once; nothing else is
 abbrev pub IsAskedBy : List ℕ → ℕ → Data → Verb → Option Message → List Call → Type 0
-IsAskedBy database who id (asks.Transact operations) None made = IsSent database who id (map view operations.items) made
-IsAskedBy database who id (asks.Transact operations) (Some reply) made = made ≡ []
-IsAskedBy database who id (asks.Lock name) reply made = made ≡ []
-IsAskedBy database who id (asks.Steal name) reply made = made ≡ []
-IsAskedBy database who id (asks.Unlock name) reply made = made ≡ []
+IsAskedBy database session id (asks.Transact operations) None made = IsSent database session id (map view operations.items) made
+IsAskedBy database session id (asks.Transact operations) (Some reply) made = made ≡ []
+IsAskedBy database session id (asks.Lock name) reply made = made ≡ []
+IsAskedBy database session id (asks.Steal name) reply made = made ≡ []
+IsAskedBy database session id (asks.Unlock name) reply made = made ≡ []
 
 -- ---- what is given to a session
 
 -- the reply to a request that was passed on, with the call that gave it
-pub record IsGivenReply (who : ℕ) (message : Option Message) (made : List Call) : Type 0 where
-  pub request : Pending
-  pub calls : made ≡ Collects who (Some request) ∷ []
+pub record IsGivenReply (session : ℕ) (message : Option Message) (made : List Call) : Type 0 where
+  pub request : Forwarded
+  pub calls : made ≡ Collects session (Some request) ∷ []
   pub reply : message ≡ ledger.reply_of request
 
 -- the late reply to a steal
@@ -71,7 +71,7 @@ IsGivenOfLocks (Some m) = IsLateReply m ⊎ IsLockNotice m
 
 -- a request that was passed on, with the call that took it up
 pub record IsTakenUp (message : Option Message) (made : List Call) : Type 0 where
-  pub request : Pending
+  pub request : Forwarded
   pub calls : made ≡ TakesUp (Some request) ∷ []
   pub up : message ≡ ledger.message_of request
 
@@ -104,9 +104,9 @@ IsHeardBy (says.Stolen name) made = made ≡ []
 
 -- a step as calls on the requests that are passed on: one, or none where it is of locks alone, gives nothing, or finds the source
 abbrev pub IsMadeBy : List ℕ → DeskStep → List Call → Type 0
-IsMadeBy database (steps.Asked who ask reply) made = IsAskedBy database who ask.id ask.verb reply made
-IsMadeBy database (steps.Collected who message) made = IsGivenReply who message made ⊎ ((made ≡ []) × IsGivenOfLocks message)
-IsMadeBy database (steps.Ended who) made = made ≡ Ends who ∷ []
+IsMadeBy database (steps.Asked session ask reply) made = IsAskedBy database session ask.id ask.verb reply made
+IsMadeBy database (steps.Collected session message) made = IsGivenReply session message made ⊎ ((made ≡ []) × IsGivenOfLocks message)
+IsMadeBy database (steps.Ended session) made = made ≡ Ends session ∷ []
 IsMadeBy database (steps.WentUp message) made = IsTakenUp message made ⊎ ((made ≡ []) × IsUpOfLocks message)
 IsMadeBy database (steps.Heard message result) made = IsHeardBy message made
 IsMadeBy database steps.FoundSource made = made ≡ []
@@ -132,5 +132,5 @@ pub record IsAccounted (database : List ℕ) (made : List DeskStep) : Type 0 whe
   pub once : EachOnce (numbers (collected calls))
   pub own : AllGiveOwn [] calls
   pub answers : AllGiveClosed [] calls
-  pub ended : (who : ℕ) (before after : List Call) → calls ≡ before ++ Ends who ∷ after
-      → AllByRecursion (StaysAway who) after → AllByRecursion (GivesNothing who) after
+  pub ended : (session : ℕ) (before after : List Call) → calls ≡ before ++ Ends session ∷ after
+      → AllByRecursion (StaysAway session) after → AllByRecursion (GivesNothing session) after

@@ -10,9 +10,9 @@ use Rattle.ovs_recorded_desk.specs.declared.step.DeskStep.TheVariants as steps
 
 -- the step makes the second desk of the first
 abbrev pub Does : DeskStep → RelayValue → RelayValue → Type 0
-Does (steps.Asked who ask reply) d e = Asks who ask.id ask.verb d reply e
-Does (steps.Collected who message) d e = Collects who d message e
-Does (steps.Ended who) d e = EndsSession who d e
+Does (steps.Asked session ask reply) d e = Asks session ask.id ask.verb d reply e
+Does (steps.Collected session message) d e = Collects session d message e
+Does (steps.Ended session) d e = EndsSession session d e
 Does (steps.WentUp message) d e = TakesUp d message e
 Does (steps.Heard message result) d e = Hears message d result e
 Does steps.FoundSource d e = FindsSource d e
@@ -50,7 +50,7 @@ pub record EndsRun (database : List ℕ) (step : DeskStep) : Type 0 where
 
 -- the step of a call that gives nothing and can't fail
 abbrev pub event_step : EventEntry → DeskStep
-event_step (events.Ended who) = steps.Ended who
+event_step (events.Ended session) = steps.Ended session
 event_step events.FoundSource = steps.FoundSource
 event_step events.LostSource = steps.LostSource
 

@@ -4,13 +4,14 @@ use crate::step::DeskStep;
 use ovs_authority::Ask;
 use ovs_desk::{BadReply, SourceMessage};
 use ovs_history::EntryFrom;
+use ovs_json::SessionId;
 use ovs_wire::Message;
 use std::snapshot::Snapshot;
 
 /// That a session asked, and was replied so.
 #[derive(Drop)]
 pub(crate) struct AskedEntry {
-    pub(crate) who: u64,
+    pub(crate) session: SessionId,
     pub(crate) ask: Snapshot<Ask>,
     pub(crate) reply: Option<Message>,
 }
@@ -18,20 +19,20 @@ pub(crate) struct AskedEntry {
 impl EntryFrom<AskedEntry, DeskStep> for AskedEntry {
     ghost use Rattle.ovs_recorded_desk.specs.declared.step.DeskStep.TheVariants as steps;
 
-    ghost entry = { λ e. steps.Asked e.who e.ask.value e.reply };
+    ghost entry = { λ e. steps.Asked e.session e.ask.value e.reply };
 }
 
 /// What a session was given.
 #[derive(Drop)]
 pub(crate) struct CollectedEntry {
-    pub(crate) who: u64,
+    pub(crate) session: SessionId,
     pub(crate) message: Option<Message>,
 }
 
 impl EntryFrom<CollectedEntry, DeskStep> for CollectedEntry {
     ghost use Rattle.ovs_recorded_desk.specs.declared.step.DeskStep.TheVariants as steps;
 
-    ghost entry = { λ e. steps.Collected e.who e.message };
+    ghost entry = { λ e. steps.Collected e.session e.message };
 }
 
 /// What went up.
@@ -62,7 +63,7 @@ impl EntryFrom<HeardEntry, DeskStep> for HeardEntry {
 /// A call that gives nothing and can't fail.
 #[derive(Drop)]
 pub(crate) enum EventEntry {
-    Ended(u64),
+    Ended(SessionId),
     FoundSource,
     LostSource,
 }

@@ -1,7 +1,7 @@
 //! Which desk it is.
 
 use crate::step::DeskStep;
-use ovs_history::{Front, HistoryName};
+use ovs_history::{HistoryName, Prefix};
 use std::marker::{Brand, PhantomData};
 
 /// Which relay's desk it is: the history of its steps, and the name of its database. A call of a function that is generic in the
@@ -38,4 +38,4 @@ impl<N: DeskName> HistoryName<DeskStep> for DeskHistory<N> {
 }
 
 /// A beginning of the list of the steps of a desk.
-pub type DeskFront<N> = Front<DeskStep, DeskHistory<N>>;
+pub type DeskFront<N> = Prefix<DeskStep, DeskHistory<N>>;

@@ -15,7 +15,7 @@ use ovs_authority::{Ask, Authority};
 use ovs_data::TxnId;
 use ovs_desk::{BadReply, RelayDesk, SourceMessage};
 use ovs_history::{Book, EntryFrom, Opened};
-use ovs_json::{NoMemory, Text};
+use ovs_json::{NoMemory, SessionId, Text};
 use ovs_wire::Message;
 use std::alloc::Global;
 use std::marker::Model;
@@ -175,20 +175,20 @@ impl<N: DeskName> RecordedDesk<N> {
         &mut self,
         rt: &R,
         alloc: Global,
-        who: u64,
+        session: SessionId,
         ask: Ask,
         known: &mut DeskFront<N>,
     ) -> Result<Option<Message>, NoMemory>
-        ensures owing { IfOk result (λ r. AsksTo (owing_of self.old.desk who) ask.id r (owing_of self.new.desk who)) }
-        ensures asked { IfOk result (λ r. IsStep N.database (steps.Asked who ask r) self.old self.new) }
+        ensures owing { IfOk result (λ r. AsksTo (owing_of self.old.desk session) ask.id r (owing_of self.new.desk session)) }
+        ensures asked { IfOk result (λ r. IsStep N.database (steps.Asked session ask r) self.old self.new) }
         ensures told { OnOk result (known.new ≡ self.new.steps) }
-        ensures ends { IfOk result (λ r. EndsWith (steps.Asked who ask r) known.old known.new) }
+        ensures ends { IfOk result (λ r. EndsWith (steps.Asked session ask r) known.old known.new) }
         ensures nothing { OnErr result ((self.new ≡ self.old) × (known.new ≡ known.old)) }
     {
         let (before, asked) = (Snapshot::of(&self.desk), Snapshot::of(&ask));
-        let reply = self.desk.ask(alloc, who, ask)?;
+        let reply = self.desk.ask(alloc, session, ask)?;
         let entry = AskedEntry {
-            who,
+            session,
             ask: asked,
             reply,
         };
@@ -212,18 +212,18 @@ impl<N: DeskName> RecordedDesk<N> {
         &mut self,
         rt: &R,
         alloc: Global,
-        who: u64,
+        session: SessionId,
         known: &mut DeskFront<N>,
     ) -> Result<Option<Message>, NoMemory>
-        ensures owing { IfOk result (λ m. CollectsTo (owing_of self.old.desk who) m (owing_of self.new.desk who)) }
-        ensures given { IfOk result (λ m. IsStep N.database (steps.Collected who m) self.old self.new) }
+        ensures owing { IfOk result (λ m. CollectsTo (owing_of self.old.desk session) m (owing_of self.new.desk session)) }
+        ensures given { IfOk result (λ m. IsStep N.database (steps.Collected session m) self.old self.new) }
         ensures told { OnOk result (known.new ≡ self.new.steps) }
-        ensures ends { IfOk result (λ m. EndsWith (steps.Collected who m) known.old known.new) }
+        ensures ends { IfOk result (λ m. EndsWith (steps.Collected session m) known.old known.new) }
         ensures nothing { OnErr result ((self.new ≡ self.old) × (known.new ≡ known.old)) }
     {
         let before = Snapshot::of(&self.desk);
-        let message = self.desk.collect(alloc, who)?;
-        let entry = CollectedEntry { who, message };
+        let message = self.desk.collect(alloc, session)?;
+        let entry = CollectedEntry { session, message };
         record_step::<N, CollectedEntry, CollectedEntry, R>(
             rt,
             &self.book,
@@ -237,32 +237,37 @@ impl<N: DeskName> RecordedDesk<N> {
     }
 
     /// Where the answer stands that is due to a session first, if one is, after all steps that were made, which are known then.
-    pub fn standing<R: Wait>(&self, rt: &R, who: u64, known: &mut DeskFront<N>) -> Option<TxnId>
-        ensures value { result ≡ next_standing who self.now.desk.forwards.ledger }
+    pub fn standing<R: Wait>(
+        &self,
+        rt: &R,
+        session: SessionId,
+        known: &mut DeskFront<N>,
+    ) -> Option<TxnId>
+        ensures value { result ≡ next_standing session self.now.desk.forwards.ledger }
         ensures made { DoesAll (new_desk N.database) self.now.steps self.now.desk }
         ensures told { known.new ≡ self.now.steps }
         ensures before { IsPrefix known.old known.new }
     {
         know(rt, &self.front, known);
-        self.desk.standing(who)
+        self.desk.standing(session)
     }
 
     /// Whose transaction went up under a number, if that waits for its answer.
-    pub fn asker_of(&self, number: u64) -> Option<u64>
+    pub fn asker_of(&self, number: u64) -> Option<SessionId>
         ensures value { result ≡ asker_of number self.now.desk.forwards.ledger }
     {
         self.desk.asker_of(number)
     }
 
     /// Ends a session.
-    pub fn end_session<R: Wait>(&mut self, rt: &R, who: u64, known: &mut DeskFront<N>)
-        ensures ended { IsStep N.database (steps.Ended who) self.old self.new }
+    pub fn end_session<R: Wait>(&mut self, rt: &R, session: SessionId, known: &mut DeskFront<N>)
+        ensures ended { IsStep N.database (steps.Ended session) self.old self.new }
         ensures told { known.new ≡ self.new.steps }
-        ensures ends { EndsWith (steps.Ended who) known.old known.new }
+        ensures ends { EndsWith (steps.Ended session) known.old known.new }
     {
         let before = Snapshot::of(&self.desk);
-        self.desk.end_session(who);
-        let entry = EventEntry::Ended(who);
+        self.desk.end_session(session);
+        let entry = EventEntry::Ended(session);
         record_step::<N, EventEntry, EventEntry, R>(
             rt,
             &self.book,

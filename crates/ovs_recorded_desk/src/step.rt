@@ -2,6 +2,7 @@
 
 use ovs_authority::Ask;
 use ovs_desk::{BadReply, SourceMessage};
+use ovs_json::SessionId;
 use ovs_wire::Message;
 
 /// A call of a relay's desk that wasn't refused memory, with what it gave. No value of it is made: it is what stands in the
@@ -11,7 +12,7 @@ pub enum DeskStep {
     /// A session asked.
     Asked {
         /// The session.
-        who: u64,
+        session: SessionId,
         /// What it asked.
         ask: Ask,
         /// The reply, where it was known at once.
@@ -20,14 +21,14 @@ pub enum DeskStep {
     /// A session was given what was owed to it.
     Collected {
         /// The session.
-        who: u64,
+        session: SessionId,
         /// What it was given, if something was owed.
         message: Option<Message>,
     },
     /// A session ended.
     Ended {
         /// The session.
-        who: u64,
+        session: SessionId,
     },
     /// The source was sent a request.
     WentUp {

@@ -29,15 +29,15 @@ Kept Z = List (ℕ × Replies Z)
 abbrev Map : Type 0 → Type 0
 Map Z = BTreeMap ℕ (Replies Z)
 
-at_session : (who k : ℕ) (items : List WaitingReply) (others : Waiting) (b : Bool) → is_at (nat_cmp who) k ≡ b → (b ≡ true → replies_at who others ≡ [])
-    → replies_at who (with_session k items others) ≡ cond b items (replies_at who others)
-at_session who k [] others true at none = none refl
-at_session who k [] others false at none = refl
-at_session who k (r ∷ later) others true at none = ap (λ c. unwrap_or (cond c (Some (r ∷ later)) (lookup (is_at (nat_cmp who)) others)) []) at
-at_session who k (r ∷ later) others false at none = ap (λ c. unwrap_or (cond c (Some (r ∷ later)) (lookup (is_at (nat_cmp who)) others)) []) at
+at_session : (session k : ℕ) (items : List WaitingReply) (others : Waiting) (b : Bool) → is_at (nat_cmp session) k ≡ b → (b ≡ true → replies_at session others ≡ [])
+    → replies_at session (with_session k items others) ≡ cond b items (replies_at session others)
+at_session session k [] others true at none = none refl
+at_session session k [] others false at none = refl
+at_session session k (r ∷ later) others true at none = ap (λ c. unwrap_or (cond c (Some (r ∷ later)) (lookup (is_at (nat_cmp session)) others)) []) at
+at_session session k (r ∷ later) others false at none = ap (λ c. unwrap_or (cond c (Some (r ∷ later)) (lookup (is_at (nat_cmp session)) others)) []) at
 
-pub none_stands : (who : ℕ) (old : Waiting) → replies_at who old ≡ [] → None ≡ next_standing who old
-none_stands who old none = sym (ap (λ (rs : List WaitingReply). option_map standing_of (slice_get rs 0)) none)
+pub none_stands : (session : ℕ) (old : Waiting) → replies_at session old ≡ [] → None ≡ next_standing session old
+none_stands session old none = sym (ap (λ (rs : List WaitingReply). option_map standing_of (slice_get rs 0)) none)
 
 module _ {Z : Type 0} where
   abbrev items_of : Replies Z → List WaitingReply
@@ -45,35 +45,35 @@ module _ {Z : Type 0} where
 
   -- those that are kept for a session
   abbrev kept_at : ℕ → Kept Z → List WaitingReply
-  kept_at who es = unwrap_or (option_map items_of (lookup (is_at (nat_cmp who)) es)) []
+  kept_at session es = unwrap_or (option_map items_of (lookup (is_at (nat_cmp session)) es)) []
 
   -- ---- a look-up
 
-  nothing_kept : (who : ℕ) (es : Kept Z) → lookup (is_at (nat_cmp who)) es ≡ None → kept_at who es ≡ []
-  nothing_kept who es none = ap (λ o. unwrap_or (option_map items_of o) []) none
+  nothing_kept : (session : ℕ) (es : Kept Z) → lookup (is_at (nat_cmp session)) es ≡ None → kept_at session es ≡ []
+  nothing_kept session es none = ap (λ o. unwrap_or (option_map items_of o) []) none
 
-  pub at_listed : (who : ℕ) (es : Kept Z) → IsStrictlySortedBy nat_cmp (keys_of es) → replies_at who (listed es) ≡ kept_at who es
-  at_listed who [] sorted = refl
-  at_listed who (e ∷ es) sorted = by (is_at (nat_cmp who) e.0) refl (at_listed who es (sorted_tail nat_cmp e.0 (keys_of es) sorted))
+  pub at_listed : (session : ℕ) (es : Kept Z) → IsStrictlySortedBy nat_cmp (keys_of es) → replies_at session (listed es) ≡ kept_at session es
+  at_listed session [] sorted = refl
+  at_listed session (e ∷ es) sorted = by (is_at (nat_cmp session) e.0) refl (at_listed session es (sorted_tail nat_cmp e.0 (keys_of es) sorted))
     where
-      past : is_at (nat_cmp who) e.0 ≡ true → lookup (is_at (nat_cmp who)) es ≡ None
-      past at = lookup-none (is_at (nat_cmp who)) es (none_past_head (eq_by_cmp_equiv nat_cmp_total) who e es (IsDistinct-from_sorted nat_cmp (keys_of (e ∷ es)) sorted) at)
+      past : is_at (nat_cmp session) e.0 ≡ true → lookup (is_at (nat_cmp session)) es ≡ None
+      past at = lookup-none (is_at (nat_cmp session)) es (none_past_head (eq_by_cmp_equiv nat_cmp_total) session e es (IsDistinct-from_sorted nat_cmp (keys_of (e ∷ es)) sorted) at)
 
-      by : (b : Bool) → is_at (nat_cmp who) e.0 ≡ b → replies_at who (listed es) ≡ kept_at who es
-          → replies_at who (listed (e ∷ es)) ≡ unwrap_or (option_map items_of (cond b (Some e.1) (lookup (is_at (nat_cmp who)) es))) []
-      by true at rest = at_session who e.0 e.1.items (listed es) true at (λ _. rest ∙ nothing_kept who es (past at))
-      by false at rest = at_session who e.0 e.1.items (listed es) false at (λ t. absurd cc) ∙ rest
+      by : (b : Bool) → is_at (nat_cmp session) e.0 ≡ b → replies_at session (listed es) ≡ kept_at session es
+          → replies_at session (listed (e ∷ es)) ≡ unwrap_or (option_map items_of (cond b (Some e.1) (lookup (is_at (nat_cmp session)) es))) []
+      by true at rest = at_session session e.0 e.1.items (listed es) true at (λ _. rest ∙ nothing_kept session es (past at))
+      by false at rest = at_session session e.0 e.1.items (listed es) false at (λ t. absurd cc) ∙ rest
 
   -- ---- what doesn't change them
 
   -- room for a session for which none waits
-  pub listed_with_room : (who : ℕ) (d : Replies Z) → d.items ≡ [] → (es : Kept Z) → lookup (is_at (nat_cmp who)) es ≡ None → listed (insert_entry nat_cmp es who d) ≡ listed es
-  listed_with_room who d is [] none = ap (λ (xs : List WaitingReply). with_session who xs []) is
-  listed_with_room who d is (e ∷ es) none = by (nat_cmp who e.0) none (λ n. listed_with_room who d is es n)
+  pub listed_with_room : (session : ℕ) (d : Replies Z) → d.items ≡ [] → (es : Kept Z) → lookup (is_at (nat_cmp session)) es ≡ None → listed (insert_entry nat_cmp es session d) ≡ listed es
+  listed_with_room session d is [] none = ap (λ (xs : List WaitingReply). with_session session xs []) is
+  listed_with_room session d is (e ∷ es) none = by (nat_cmp session e.0) none (λ n. listed_with_room session d is es n)
     where
-      by : (o : Ordering) → cond (is_eq o) (Some e.1) (lookup (is_at (nat_cmp who)) es) ≡ None → (lookup (is_at (nat_cmp who)) es ≡ None → listed (insert_entry nat_cmp es who d) ≡ listed es)
-          → listed (match_ordering o ((who, d) ∷ e ∷ es) ((e.0, d) ∷ es) (e ∷ insert_entry nat_cmp es who d)) ≡ listed (e ∷ es)
-      by Less n more = ap (λ (xs : List WaitingReply). with_session who xs (listed (e ∷ es))) is
+      by : (o : Ordering) → cond (is_eq o) (Some e.1) (lookup (is_at (nat_cmp session)) es) ≡ None → (lookup (is_at (nat_cmp session)) es ≡ None → listed (insert_entry nat_cmp es session d) ≡ listed es)
+          → listed (match_ordering o ((session, d) ∷ e ∷ es) ((e.0, d) ∷ es) (e ∷ insert_entry nat_cmp es session d)) ≡ listed (e ∷ es)
+      by Less n more = ap (λ (xs : List WaitingReply). with_session session xs (listed (e ∷ es))) is
       by Equal n more = absurd cc
       by Greater n more = ap (with_session e.0 e.1.items) (more n)
 
@@ -99,13 +99,13 @@ module _ {Z : Type 0} where
 
   -- ---- what changes those of one session
 
-  pub become : (who : ℕ) (m n : Map Z) (w : Option (Replies Z)) (replies : List WaitingReply) → tree.IsOrdered nat_cmp m → tree.IsOrdered nat_cmp n
-      → tree.Updates nat_cmp m n who w → unwrap_or (option_map items_of w) [] ≡ replies → Become (listed m.entries) who replies (listed n.entries)
-  become who m n w replies before after u is = record {
-    at = at_listed who n.entries after ∙ ap (λ (o : Option (Replies Z)). unwrap_or (option_map items_of o) []) u.1 ∙ is;
+  pub become : (session : ℕ) (m n : Map Z) (w : Option (Replies Z)) (replies : List WaitingReply) → tree.IsOrdered nat_cmp m → tree.IsOrdered nat_cmp n
+      → tree.Updates nat_cmp m n session w → unwrap_or (option_map items_of w) [] ≡ replies → Become (listed m.entries) session replies (listed n.entries)
+  become session m n w replies before after u is = record {
+    at = at_listed session n.entries after ∙ ap (λ (o : Option (Replies Z)). unwrap_or (option_map items_of o) []) u.1 ∙ is;
     others = λ other apart.
         at_listed other n.entries after
-        ∙ ap (λ (o : Option (Replies Z)). unwrap_or (option_map items_of o) []) (u.2 other (other_session who other apart))
+        ∙ ap (λ (o : Option (Replies Z)). unwrap_or (option_map items_of o) []) (u.2 other (other_session session other apart))
         ∙ sym (at_listed other m.entries before);
   }
 
@@ -114,47 +114,47 @@ module _ {Z : Type 0} where
   there (Some x) d is = refl
 
   -- those of a session are written anew
-  module _ (who : ℕ) (m n : Map Z) (was now : Replies Z) (is : Some was ≡ tree.get_by (nat_cmp who) m) (w : tree.WritesThrough nat_cmp (nat_cmp who) m now n) where
-    updates : tree.Updates nat_cmp m n who (Some now)
-    updates = w.3 (there (tree.get_by (nat_cmp who) m) was is)
+  module _ (session : ℕ) (m n : Map Z) (was now : Replies Z) (is : Some was ≡ tree.get_by (nat_cmp session) m) (w : tree.WritesThrough nat_cmp (nat_cmp session) m now n) where
+    updates : tree.Updates nat_cmp m n session (Some now)
+    updates = w.3 (there (tree.get_by (nat_cmp session) m) was is)
 
-    pub found_at : tree.IsOrdered nat_cmp m → replies_at who (listed m.entries) ≡ was.items
-    found_at ordered = at_listed who m.entries ordered ∙ ap (λ (o : Option (Replies Z)). unwrap_or (option_map items_of o) []) (sym is)
+    pub found_at : tree.IsOrdered nat_cmp m → replies_at session (listed m.entries) ≡ was.items
+    found_at ordered = at_listed session m.entries ordered ∙ ap (λ (o : Option (Replies Z)). unwrap_or (option_map items_of o) []) (sym is)
 
     pub same_items : now.items ≡ was.items → listed n.entries ≡ listed m.entries
-    same_items same = ap listed w.0 ∙ listed_with_more_room (is_at (nat_cmp who)) was now same m.entries (sym is)
+    same_items same = ap listed w.0 ∙ listed_with_more_room (is_at (nat_cmp session)) was now same m.entries (sym is)
 
-    pub room_for_more : deque_len now < deque_capacity now → HasRoom who n
+    pub room_for_more : deque_len now < deque_capacity now → HasRoom session n
     room_for_more room = subst (λ (o : Option (Replies Z)). IsSomeAnd o (λ d. deque_len d < deque_capacity d)) (sym updates.1) room
 
     pub one_put : (reply : WaitingReply) → tree.IsOrdered nat_cmp m → now.items ≡ was.items ++ reply ∷ []
-        → Become (listed m.entries) who (replies_at who (listed m.entries) ++ reply ∷ []) (listed n.entries)
-    one_put reply ordered put = become who m n (Some now) _ ordered w.4 updates (put ∙ ap (λ (rs : List WaitingReply). rs ++ reply ∷ []) (sym (found_at ordered)))
+        → Become (listed m.entries) session (replies_at session (listed m.entries) ++ reply ∷ []) (listed n.entries)
+    one_put reply ordered put = become session m n (Some now) _ ordered w.4 updates (put ∙ ap (λ (rs : List WaitingReply). rs ++ reply ∷ []) (sym (found_at ordered)))
 
     pub one_taken : (first : Option WaitingReply) (left : Waiting) → tree.IsOrdered nat_cmp m → MatchOption first ((was.items ≡ []) × (now.items ≡ [])) (λ r. was.items ≡ r ∷ now.items)
-        → left ≡ listed n.entries → TakesFirst who (listed m.entries) first left
+        → left ≡ listed n.entries → TakesFirst session (listed m.entries) first left
     one_taken None left ordered took same = (found_at ordered ∙ took.0, same ∙ same_items (took.1 ∙ sym took.0))
     one_taken (Some r) left ordered took same = (
       now.items,
       found_at ordered ∙ took,
-      subst (λ (v : Waiting). Become (listed m.entries) who now.items v) (sym same) (become who m n (Some now) now.items ordered w.4 updates refl),
+      subst (λ (v : Waiting). Become (listed m.entries) session now.items v) (sym same) (become session m n (Some now) now.items ordered w.4 updates refl),
     )
 
-  pub none_at : (who : ℕ) (m : Map Z) → tree.IsOrdered nat_cmp m → None ≡ tree.get_by (nat_cmp who) m → replies_at who (listed m.entries) ≡ []
-  none_at who m ordered is = at_listed who m.entries ordered ∙ ap (λ (o : Option (Replies Z)). unwrap_or (option_map items_of o) []) (sym is)
+  pub none_at : (session : ℕ) (m : Map Z) → tree.IsOrdered nat_cmp m → None ≡ tree.get_by (nat_cmp session) m → replies_at session (listed m.entries) ≡ []
+  none_at session m ordered is = at_listed session m.entries ordered ∙ ap (λ (o : Option (Replies Z)). unwrap_or (option_map items_of o) []) (sym is)
 
-  pub first_stands : (who : ℕ) (m : Map Z) (d : Replies Z) → tree.IsOrdered nat_cmp m → Some d ≡ tree.get_by (nat_cmp who) m
-      → option_map standing_of (slice_get d.items 0) ≡ next_standing who (listed m.entries)
-  first_stands who m d ordered is = ap (λ (rs : List WaitingReply). option_map standing_of (slice_get rs 0))
-      (sym (at_listed who m.entries ordered ∙ ap (λ (o : Option (Replies Z)). unwrap_or (option_map items_of o) []) (sym is)))
+  pub first_stands : (session : ℕ) (m : Map Z) (d : Replies Z) → tree.IsOrdered nat_cmp m → Some d ≡ tree.get_by (nat_cmp session) m
+      → option_map standing_of (slice_get d.items 0) ≡ next_standing session (listed m.entries)
+  first_stands session m d ordered is = ap (λ (rs : List WaitingReply). option_map standing_of (slice_get rs 0))
+      (sym (at_listed session m.entries ordered ∙ ap (λ (o : Option (Replies Z)). unwrap_or (option_map items_of o) []) (sym is)))
 
   -- a session for which none waits, with room for one
-  pub room_put : (who : ℕ) (m w n : Map Z) (d : Replies Z) → w ≡ m → None ≡ tree.get_by (nat_cmp who) m → d.items ≡ [] → n.entries ≡ insert_entry nat_cmp w.entries who d
+  pub room_put : (session : ℕ) (m w n : Map Z) (d : Replies Z) → w ≡ m → None ≡ tree.get_by (nat_cmp session) m → d.items ≡ [] → n.entries ≡ insert_entry nat_cmp w.entries session d
       → listed n.entries ≡ listed m.entries
-  room_put who m w n d same none empty put =
-      ap listed (put ∙ ap (λ (x : Map Z). insert_entry nat_cmp x.entries who d) same) ∙ listed_with_room who d empty m.entries (sym none)
+  room_put session m w n d same none empty put =
+      ap listed (put ∙ ap (λ (x : Map Z). insert_entry nat_cmp x.entries session d) same) ∙ listed_with_room session d empty m.entries (sym none)
 
-  pub none_taken : (who : ℕ) (m w : Map Z) (first : Option WaitingReply) → tree.IsOrdered nat_cmp m → w ≡ m → None ≡ tree.get_by (nat_cmp who) m → first ≡ None
-      → TakesFirst who (listed m.entries) first (listed w.entries)
-  none_taken who m w first ordered same none is =
-      subst (λ (o : Option WaitingReply). TakesFirst who (listed m.entries) o (listed w.entries)) (sym is) (none_at who m ordered none, ap (λ (x : Map Z). listed x.entries) same)
+  pub none_taken : (session : ℕ) (m w : Map Z) (first : Option WaitingReply) → tree.IsOrdered nat_cmp m → w ≡ m → None ≡ tree.get_by (nat_cmp session) m → first ≡ None
+      → TakesFirst session (listed m.entries) first (listed w.entries)
+  none_taken session m w first ordered same none is =
+      subst (λ (o : Option WaitingReply). TakesFirst session (listed m.entries) o (listed w.entries)) (sym is) (none_at session m ordered none, ap (λ (x : Map Z). listed x.entries) same)

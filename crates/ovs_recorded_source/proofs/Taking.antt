@@ -10,7 +10,7 @@ use Rattle.ovs_links.specs.Store.{Stored, tables_of}
 use Rattle.ovs_links.specs.declared.link.Link.{Link}
 use Rattle.ovs_source.specs.Commits.{IsSourceOf}
 use Rattle.ovs_source.specs.Replying.{KeepsSource}
-use Rattle.ovs_source.specs.SourceDesk.{Desk, AreBehind, AreFirst, KeepsTaken}
+use Rattle.ovs_source.specs.SourceDesk.{SourceDeskValue, AreBehind, AreFirst, KeepsTaken}
 use Rattle.ovs_source.proofs.Desks.{same_behind}
 use Rattle.ovs_wire.specs.declared.message.Message.{Message}
 use Rattle.ovs_recorded_source.specs.Accounts.{link_taken}
@@ -41,41 +41,41 @@ one_more old new l n m same is next =
 none_out : (d e : SourceState) → KeepsTaken d.desk e.desk → (taken : List Link) → AreBehind taken d.desk → AreBehind (taken ++ []) e.desk
 none_out d e keeps taken b = subst (λ (ls : List Link). AreBehind ls e.desk) (sym (append-nil taken)) (keeps taken b)
 
-kept : (d e : Desk) → KeepsSource d e → KeepsTaken d e
-kept d e same = same_behind d e (ap (λ (x : Desk). x.source) same) (ap (λ (x : Desk). x.made) same)
+kept : (d e : SourceDeskValue) → KeepsSource d e → KeepsTaken d e
+kept d e same = same_behind d e (ap (λ (x : SourceDeskValue). x.source) same) (ap (λ (x : SourceDeskValue). x.unpublished) same)
 
-pub asked_keeps : (who : ℕ) (ask : Ask) (reply : Message) (link : Option Link) (d e : SourceState) → KeepsTaken d.desk e.desk → LeavesInOrder (steps.Asked who ask reply link) d e
-asked_keeps who ask reply link d e keeps = none_out d e keeps
+pub asked_keeps : (session : ℕ) (ask : Ask) (reply : Message) (link : Option Link) (d e : SourceState) → KeepsTaken d.desk e.desk → LeavesInOrder (steps.Asked session ask reply link) d e
+asked_keeps session ask reply link d e keeps = none_out d e keeps
 
 pub began_keeps : (link : Link) (d e : SourceState) → KeepsTaken d.desk e.desk → LeavesInOrder (steps.BeganEpoch link) d e
 began_keeps link d e keeps = none_out d e keeps
 
-pub given_keeps : (who : ℕ) (reply : Message) (d e : SourceState) → Gives who d reply e → LeavesInOrder (steps.Given who reply) d e
-given_keeps who reply d e gives =
-    none_out d e (same_behind d.desk e.desk (ap (λ (x : Desk). x.source) gives.desk) (ap (λ (x : Desk). x.made) gives.desk))
+pub given_keeps : (session : ℕ) (reply : Message) (d e : SourceState) → Gives session d reply e → LeavesInOrder (steps.Given session reply) d e
+given_keeps session reply d e gives =
+    none_out d e (same_behind d.desk e.desk (ap (λ (x : SourceDeskValue). x.source) gives.desk) (ap (λ (x : SourceDeskValue). x.unpublished) gives.desk))
 
-pub collected_keeps : (who : ℕ) (notice : Option Message) (d e : SourceState) → Collects who d notice e → LeavesInOrder (steps.Collected who notice) d e
-collected_keeps who notice d e collects = none_out d e (kept d.desk e.desk collects.source)
+pub collected_keeps : (session : ℕ) (notice : Option Message) (d e : SourceState) → Collects session d notice e → LeavesInOrder (steps.Collected session notice) d e
+collected_keeps session notice d e collects = none_out d e (kept d.desk e.desk collects.source)
 
-pub ended_keeps : (who : ℕ) (d e : SourceState) → Ends who d e → LeavesInOrder (steps.Ended who) d e
-ended_keeps who d e ends = none_out d e (kept d.desk e.desk ends.source)
+pub ended_keeps : (session : ℕ) (d e : SourceState) → Ends session d e → LeavesInOrder (steps.Ended session) d e
+ended_keeps session d e ends = none_out d e (kept d.desk e.desk ends.source)
 
 pub took_keeps : (link : Option Link) (d e : SourceState) → Takes d link e → LeavesInOrder (steps.TookLink link) d e
 took_keeps None d e takes taken b =
-    none_out d e (same_behind d.desk e.desk (ap (λ (x : Desk). x.source) takes.taken.1) (ap (λ (x : Desk). x.made) takes.taken.1)) taken b
+    none_out d e (same_behind d.desk e.desk (ap (λ (x : SourceDeskValue). x.source) takes.taken.1) (ap (λ (x : SourceDeskValue). x.unpublished) takes.taken.1)) taken b
 took_keeps (Some l) d e takes taken b =
-    let source : e.desk.source ≡ d.desk.source = ap (λ (x : Desk). x.source) takes.taken.1 in
+    let source : e.desk.source ≡ d.desk.source = ap (λ (x : SourceDeskValue). x.source) takes.taken.1 in
     record {
       history = b.history;
       of_source = subst (λ (s : Stored). IsSourceOf s b.history) (sym source) b.of_source;
-      all = append_assoc taken (l ∷ []) e.desk.made
+      all = append_assoc taken (l ∷ []) e.desk.unpublished
           ∙ ap (λ (ls : List Link). taken ++ ls) (sym takes.taken.0)
           ∙ b.all
           ∙ ap (λ (s : Stored). links_in (tables_of s) (epochs_of b.history)) (sym source);
     }
 
 -- one step more
-pub recorded : (start : Desk) (made : List SourceStep) (s : SourceStep) (d e : SourceState) → IsRecord start made d → Does s d e → LeavesInOrder s d e → IsRecord start (made ++ s ∷ []) e
+pub recorded : (start : SourceDeskValue) (made : List SourceStep) (s : SourceStep) (d e : SourceState) → IsRecord start made d → Does s d e → LeavesInOrder s d e → IsRecord start (made ++ s ∷ []) e
 recorded start made s d e is does keeps = record {
   run = does_last (begun start) d e made s is.run does;
   links = subst (λ (ls : List Link). AreBehind ls e.desk) (sym (taken_more made s)) (keeps (links_taken made) is.links);
@@ -84,18 +84,18 @@ recorded start made s d e is does keeps = record {
 -- ---- the history
 
 -- what was taken out are its first links
-pub are_first : (start : Desk) (made : List SourceStep) (left : SourceState) → IsRecord start made left → AreFirst (tables_of start.source) (links_taken made)
+pub are_first : (start : SourceDeskValue) (made : List SourceStep) (left : SourceState) → IsRecord start made left → AreFirst (tables_of start.source) (links_taken made)
 are_first start made left is =
     let same = ap (λ (x : SchemaValue). x.description.tables) (steps_keep (begun start) made left is.run) in
     record {
       history = is.links.history;
       is = subst (λ (ts : List Table). IsEpochHistory ts is.links.history) same is.links.of_source.history;
-      later = left.desk.made;
+      later = left.desk.unpublished;
       all = is.links.all ∙ ap (λ (ts : List Table). links_in ts (epochs_of is.links.history)) same;
     }
 
 -- none are the first of any
-pub none_taken : (start : Desk) (tables : List Table) → AreTaken start tables []
+pub none_taken : (start : SourceDeskValue) (tables : List Table) → AreTaken start tables []
 none_taken start tables = record {
   made = [];
   run = (begun start, refl);
@@ -114,7 +114,7 @@ none_left : (ls : List Link) → length ls ≡ 0 → ls ≡ []
 none_left [] e = refl
 none_left (l ∷ ls) e = absurd (omega arith)
 
-module _ (start : Desk) (known now : List SourceStep) (before after : RecordedValue) (l : Link) (is : IsStep start (steps.TookLink (Some l)) before after)
+module _ (start : SourceDeskValue) (known now : List SourceStep) (before after : RecordedValue) (l : Link) (is : IsStep start (steps.TookLink (Some l)) before after)
     (ends : EndsWith (steps.TookLink (Some l)) known now) (told : now ≡ after.steps) where
   all_steps : now ≡ before.steps ++ steps.TookLink (Some l) ∷ []
   all_steps = told ∙ is.recorded

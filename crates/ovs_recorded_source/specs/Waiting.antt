@@ -16,7 +16,7 @@ Waiting = List (ℕ × List WaitingReply)
 
 -- those that wait for a session
 abbrev pub replies_at : ℕ → Waiting → List WaitingReply
-replies_at who waiting = unwrap_or (lookup (is_at (nat_cmp who)) waiting) []
+replies_at session waiting = unwrap_or (lookup (is_at (nat_cmp session)) waiting) []
 
 -- the reply itself
 abbrev pub message_of : WaitingReply → Message
@@ -27,24 +27,24 @@ standing_of r = r.standing
 
 -- where the first of them stands, if one waits
 abbrev pub next_standing : ℕ → Waiting → Option ℕ
-next_standing who waiting = option_map standing_of (slice_get (replies_at who waiting) 0)
+next_standing session waiting = option_map standing_of (slice_get (replies_at session waiting) 0)
 
 -- the replies that wait for this session become these, and no others change
-pub record Become (old : Waiting) (who : ℕ) (replies : List WaitingReply) (new : Waiting) : Type 0 where
-  pub at : replies_at who new ≡ replies
-  pub others : (other : ℕ) → other ≢ who → replies_at other new ≡ replies_at other old
+pub record Become (old : Waiting) (session : ℕ) (replies : List WaitingReply) (new : Waiting) : Type 0 where
+  pub at : replies_at session new ≡ replies
+  pub others : (other : ℕ) → other ≢ session → replies_at other new ≡ replies_at other old
 
 -- the first of a session is taken out, if one waits
 abbrev pub TakesFirst : ℕ → Waiting → Option WaitingReply → Waiting → Type 0
-TakesFirst who old None new = (replies_at who old ≡ []) × (new ≡ old)
-TakesFirst who old (Some r) new = (rest : List WaitingReply) × (replies_at who old ≡ r ∷ rest) × Become old who rest new
+TakesFirst session old None new = (replies_at session old ≡ []) × (new ≡ old)
+TakesFirst session old (Some r) new = (rest : List WaitingReply) × (replies_at session old ≡ r ∷ rest) × Become old session rest new
 
 -- ---- as they are kept
 
 -- a session before others, if a reply waits for it
 abbrev pub with_session : ℕ → List WaitingReply → Waiting → Waiting
-with_session who [] others = others
-with_session who (r ∷ later) others = (who, r ∷ later) ∷ others
+with_session session [] others = others
+with_session session (r ∷ later) others = (session, r ∷ later) ∷ others
 
 -- the sessions for which a reply waits
 abbrev pub listed : {Z : Type 0} → List (ℕ × VecDeque WaitingReply Z) → Waiting
@@ -53,4 +53,4 @@ listed (e ∷ es) = with_session e.0 e.1.items (listed es)
 
 -- a reply more can be put for this session without memory
 abbrev pub HasRoom : {Z : Type 0} → ℕ → BTreeMap ℕ (VecDeque WaitingReply Z) → Type 0
-HasRoom who m = IsSomeAnd (get nat_cmp m who) (λ d. deque_len d < deque_capacity d)
+HasRoom session m = IsSomeAnd (get nat_cmp m session) (λ d. deque_len d < deque_capacity d)

@@ -2,66 +2,67 @@
 
 use crate::holding_desk::HoldingDesk;
 use crate::step::SourceStep;
-use ovs_authority::{Answer, Ask};
+use ovs_authority::{Ask, Response};
 use ovs_history::EntryFrom;
+use ovs_json::SessionId;
 use ovs_links::Link;
 use ovs_wire::Message;
 use std::snapshot::Snapshot;
 
 /// That a session asked, and was replied so.
 #[derive(Drop)]
-pub(crate) struct AskedEntry {
-    pub(crate) who: u64,
+pub(crate) struct SourceAskedEntry {
+    pub(crate) session: SessionId,
     pub(crate) ask: Snapshot<Ask>,
-    pub(crate) answer: Snapshot<Answer>,
+    pub(crate) answer: Snapshot<Response>,
     pub(crate) before: Snapshot<HoldingDesk>,
     pub(crate) after: Snapshot<HoldingDesk>,
 }
 
-impl EntryFrom<AskedEntry, SourceStep> for AskedEntry {
+impl EntryFrom<SourceAskedEntry, SourceStep> for SourceAskedEntry {
     ghost use Rattle.ovs_authority.specs.Answers.{reply_of};
     ghost use Rattle.ovs_recorded_source.specs.Steps.{link_behind};
     ghost use Rattle.ovs_recorded_source.specs.declared.step.SourceStep.TheVariants as steps;
 
-    ghost entry = { λ e. steps.Asked e.who e.ask.value (reply_of e.answer.value e.ask.value.id) (link_behind e.before.value.desk.made e.after.value.desk.made) };
+    ghost entry = { λ e. steps.Asked e.session e.ask.value (reply_of e.answer.value e.ask.value.id) (link_behind e.before.value.desk.unpublished e.after.value.desk.unpublished) };
 }
 
 /// The reply that a session was given.
 #[derive(Drop)]
 pub(crate) struct GivenEntry {
-    pub(crate) who: u64,
+    pub(crate) session: SessionId,
     pub(crate) reply: Message,
 }
 
 impl EntryFrom<GivenEntry, SourceStep> for GivenEntry {
     ghost use Rattle.ovs_recorded_source.specs.declared.step.SourceStep.TheVariants as steps;
 
-    ghost entry = { λ e. steps.Given e.who e.reply };
+    ghost entry = { λ e. steps.Given e.session e.reply };
 }
 
 /// The notice that a session was given.
 #[derive(Drop)]
-pub(crate) struct CollectedEntry {
-    pub(crate) who: u64,
+pub(crate) struct SourceCollectedEntry {
+    pub(crate) session: SessionId,
     pub(crate) notice: Option<Message>,
 }
 
-impl EntryFrom<CollectedEntry, SourceStep> for CollectedEntry {
+impl EntryFrom<SourceCollectedEntry, SourceStep> for SourceCollectedEntry {
     ghost use Rattle.ovs_recorded_source.specs.declared.step.SourceStep.TheVariants as steps;
 
-    ghost entry = { λ e. steps.Collected e.who e.notice };
+    ghost entry = { λ e. steps.Collected e.session e.notice };
 }
 
 /// That a session ended.
 #[derive(Drop)]
 pub(crate) struct EndedEntry {
-    pub(crate) who: u64,
+    pub(crate) session: SessionId,
 }
 
 impl EntryFrom<EndedEntry, SourceStep> for EndedEntry {
     ghost use Rattle.ovs_recorded_source.specs.declared.step.SourceStep.TheVariants as steps;
 
-    ghost entry = { λ e. steps.Ended e.who };
+    ghost entry = { λ e. steps.Ended e.session };
 }
 
 /// The link that was taken out.

@@ -6,12 +6,12 @@ ghost use Rattle.ovs_links.specs.Sets.{IsOfTables};
 ghost use Rattle.ovs_links.specs.Store.{tables_of};
 ghost use Rattle.ovs_source.specs.Replying.{RepliesTo};
 ghost use Rattle.ovs_source.specs.SourceDesk.{KeepsTaken};
-ghost use Rattle.ovs_recorded_source.specs.Steps.{Asks, Begins, Collects, Ends, Gives, Takes, IsTransaction, first_link, given_at_once, link_behind};
+ghost use Rattle.ovs_recorded_source.specs.Steps.{Asks, Begins, Collects, Ends, Gives, Takes, IsTransaction, first_link, immediate_reply_of, link_behind};
 ghost use Rattle.ovs_recorded_source.specs.Waiting.{next_standing, replies_at};
 
 use crate::waiting::{WaitingReplies, WaitingReply};
-use ovs_authority::{Answer, Ask, Authority, Verb};
-use ovs_json::NoMemory;
+use ovs_authority::{Ask, Authority, Response, Verb};
+use ovs_json::{NoMemory, SessionId};
 use ovs_links::Link;
 use ovs_source::SourceDesk;
 use ovs_types::TxnId;
@@ -30,7 +30,7 @@ pub(crate) struct HoldingDesk {
 impl Model for HoldingDesk {
     ghost use Rattle.std.specs.Prelude.{List, refl};
     ghost use Rattle.std.specs.Coded.{code_by, coded×, coded_list, coded_ℕ};
-    ghost use Rattle.ovs_source.specs.SourceDesk.{Desk};
+    ghost use Rattle.ovs_source.specs.SourceDesk.{SourceDeskValue};
     ghost use Rattle.ovs_source.specs.contracts.source_desk.SourceDesk as desk_row;
     ghost use Rattle.ovs_recorded_source.specs.Steps.{SourceState};
     ghost use Rattle.ovs_recorded_source.specs.Waiting.{Waiting, listed};
@@ -38,7 +38,7 @@ impl Model for HoldingDesk {
 
     ghost Value = { SourceState };
 
-    ghost coded = { code_by (Desk × Waiting)
+    ghost coded = { code_by (SourceDeskValue × Waiting)
         (coded× desk_row.the_row.coded (coded_list (coded× coded_ℕ (coded_list reply_row.the_row.coded))))
         (λ s. (s.desk, s.waiting)) (λ p. record { desk = p.0; waiting = p.1 }) (λ _. refl) };
 
@@ -49,25 +49,25 @@ impl Model for HoldingDesk {
 #[derive(Drop)]
 pub(crate) struct Replied {
     /// The reply, where it is given at once.
-    pub(crate) at_once: Option<Message>,
+    pub(crate) immediate_reply: Option<Message>,
     /// The answer that it bears.
-    pub(crate) answer: Snapshot<Answer>,
+    pub(crate) answer: Snapshot<Response>,
 }
 
 // What the desk answers, which it does at once, and the request's id.
 fn answer_of(
     desk: &mut SourceDesk,
     alloc: Global,
-    who: u64,
+    session: SessionId,
     ask: Ask,
-) -> Result<(Answer, Id), NoMemory>
-    ensures answer { IfOk result (λ r. RepliesTo desk.old who ask.verb r.0 desk.new) }
+) -> Result<(Response, Id), NoMemory>
+    ensures answer { IfOk result (λ r. RepliesTo desk.old session ask.verb r.0 desk.new) }
     ensures id { IfOk result (λ r. r.1 ≡ ask.id) }
     ensures taken { KeepsTaken desk.old desk.new }
     ensures unchanged { OnErr result (desk.new ≡ desk.old) }
 {
-    match desk.ask(alloc, who, ask)? {
-        Some(Message::Reply { result, error, id }) => Ok((Answer { result, error }, id)),
+    match desk.ask(alloc, session, ask)? {
+        Some(Message::Reply { result, error, id }) => Ok((Response { result, error }, id)),
         _ => unreachable!(),
     }
 }
@@ -84,15 +84,15 @@ impl HoldingDesk {
     }
 
     // The reply waits, for which there is room before the desk is asked.
-    fn transact(&mut self, alloc: Global, who: u64, ask: Ask) -> Result<Replied, NoMemory>
+    fn transact(&mut self, alloc: Global, session: SessionId, ask: Ask) -> Result<Replied, NoMemory>
         requires transaction { IsTransaction ask.verb }
-        ensures asked { IfOk result (λ r. Asks who ask self.old (reply_of r.answer.value ask.id) (link_behind self.old.desk.made self.new.desk.made) self.new) }
-        ensures at_once { IfOk result (λ r. r.at_once ≡ given_at_once ask.verb (reply_of r.answer.value ask.id)) }
+        ensures asked { IfOk result (λ r. Asks session ask self.old (reply_of r.answer.value ask.id) (link_behind self.old.desk.unpublished self.new.desk.unpublished) self.new) }
+        ensures immediate_reply { IfOk result (λ r. r.immediate_reply ≡ immediate_reply_of ask.verb (reply_of r.answer.value ask.id)) }
         ensures taken { KeepsTaken self.old.desk self.new.desk }
         ensures unchanged { OnErr result (self.new ≡ self.old) }
     {
-        self.waiting.make_room(alloc, who)?;
-        match answer_of(&mut self.desk, alloc, who, ask) {
+        self.waiting.make_room(alloc, session)?;
+        match answer_of(&mut self.desk, alloc, session, ask) {
             Ok((answer, id)) => {
                 let said = Snapshot::of(&answer);
                 let waiting = WaitingReply {
@@ -100,77 +100,93 @@ impl HoldingDesk {
                     id,
                     standing: self.desk.source().store().head(),
                 };
-                self.waiting.put(who, waiting);
+                self.waiting.put(session, waiting);
                 Ok(Replied {
-                    at_once: None,
+                    immediate_reply: None,
                     answer: said,
                 })
             }
             Err(error) => {
-                self.waiting.forget_room(who);
+                self.waiting.forget_room(session);
                 Err(error)
             }
         }
     }
 
     // The reply is given at once.
-    fn ask_for_lock(&mut self, alloc: Global, who: u64, ask: Ask) -> Result<Replied, NoMemory>
+    fn ask_for_lock(
+        &mut self,
+        alloc: Global,
+        session: SessionId,
+        ask: Ask,
+    ) -> Result<Replied, NoMemory>
         requires no_transaction { IsTransaction ask.verb → ⊥ }
-        ensures asked { IfOk result (λ r. Asks who ask self.old (reply_of r.answer.value ask.id) (link_behind self.old.desk.made self.new.desk.made) self.new) }
-        ensures at_once { IfOk result (λ r. r.at_once ≡ given_at_once ask.verb (reply_of r.answer.value ask.id)) }
+        ensures asked { IfOk result (λ r. Asks session ask self.old (reply_of r.answer.value ask.id) (link_behind self.old.desk.unpublished self.new.desk.unpublished) self.new) }
+        ensures immediate_reply { IfOk result (λ r. r.immediate_reply ≡ immediate_reply_of ask.verb (reply_of r.answer.value ask.id)) }
         ensures taken { KeepsTaken self.old.desk self.new.desk }
         ensures unchanged { OnErr result (self.new ≡ self.old) }
     {
-        let (answer, id) = answer_of(&mut self.desk, alloc, who, ask)?;
+        let (answer, id) = answer_of(&mut self.desk, alloc, session, ask)?;
         let said = Snapshot::of(&answer);
         Ok(Replied {
-            at_once: Some(answer.into_reply(id)),
+            immediate_reply: Some(answer.into_reply(id)),
             answer: said,
         })
     }
 
     /// Asks for a session. The reply to a transaction waits, and any other is given at once.
-    pub(crate) fn ask(&mut self, alloc: Global, who: u64, ask: Ask) -> Result<Replied, NoMemory>
-        ensures asked { IfOk result (λ r. Asks who ask self.old (reply_of r.answer.value ask.id) (link_behind self.old.desk.made self.new.desk.made) self.new) }
-        ensures at_once { IfOk result (λ r. r.at_once ≡ given_at_once ask.verb (reply_of r.answer.value ask.id)) }
+    pub(crate) fn ask(
+        &mut self,
+        alloc: Global,
+        session: SessionId,
+        ask: Ask,
+    ) -> Result<Replied, NoMemory>
+        ensures asked { IfOk result (λ r. Asks session ask self.old (reply_of r.answer.value ask.id) (link_behind self.old.desk.unpublished self.new.desk.unpublished) self.new) }
+        ensures immediate_reply { IfOk result (λ r. r.immediate_reply ≡ immediate_reply_of ask.verb (reply_of r.answer.value ask.id)) }
         ensures taken { KeepsTaken self.old.desk self.new.desk }
         ensures unchanged { OnErr result (self.new ≡ self.old) }
     {
         match ask.verb {
-            Verb::Transact(_) => self.transact(alloc, who, ask),
-            Verb::Lock(_) | Verb::Steal(_) | Verb::Unlock(_) => self.ask_for_lock(alloc, who, ask),
+            Verb::Transact(_) => self.transact(alloc, session, ask),
+            Verb::Lock(_) | Verb::Steal(_) | Verb::Unlock(_) => self.ask_for_lock(
+                alloc, session, ask,
+            ),
         }
     }
 
     /// Where the reply stands that waits first for a session, if one waits.
-    pub(crate) fn standing(&self, who: u64) -> Option<TxnId>
-        ensures value { result ≡ next_standing who self.now.waiting }
+    pub(crate) fn standing(&self, session: SessionId) -> Option<TxnId>
+        ensures value { result ≡ next_standing session self.now.waiting }
     {
-        self.waiting.standing(who)
+        self.waiting.standing(session)
     }
 
     /// Gives the reply that waits first for a session, if one waits.
-    pub(crate) fn give(&mut self, who: u64) -> Option<Message>
-        ensures given { MatchOption result ((replies_at who self.old.waiting ≡ []) × (self.new ≡ self.old)) (λ m. Gives who self.old m self.new) }
+    pub(crate) fn give(&mut self, session: SessionId) -> Option<Message>
+        ensures given { MatchOption result ((replies_at session self.old.waiting ≡ []) × (self.new ≡ self.old)) (λ m. Gives session self.old m self.new) }
     {
-        Some(self.waiting.take_first(who)?.into_message())
+        Some(self.waiting.take_first(session)?.into_message())
     }
 
     /// The next notice for a session for which no reply waits.
-    pub(crate) fn collect(&mut self, alloc: Global, who: u64) -> Result<Option<Message>, NoMemory>
-        requires none { replies_at who self.old.waiting ≡ [] }
-        ensures collected { IfOk result (λ m. Collects who self.old m self.new) }
+    pub(crate) fn collect(
+        &mut self,
+        alloc: Global,
+        session: SessionId,
+    ) -> Result<Option<Message>, NoMemory>
+        requires none { replies_at session self.old.waiting ≡ [] }
+        ensures collected { IfOk result (λ m. Collects session self.old m self.new) }
         ensures unchanged { OnErr result (self.new ≡ self.old) }
     {
-        self.desk.collect(alloc, who)
+        self.desk.collect(alloc, session)
     }
 
     /// Ends a session.
-    pub(crate) fn end_session(&mut self, who: u64)
-        ensures ended { Ends who self.old self.new }
+    pub(crate) fn end_session(&mut self, session: SessionId)
+        ensures ended { Ends session self.old self.new }
     {
-        self.waiting.end_session(who);
-        self.desk.end_session(who);
+        self.waiting.end_session(session);
+        self.desk.end_session(session);
     }
 
     /// Takes out the first link of those that were made, if there is one.

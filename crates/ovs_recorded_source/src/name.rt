@@ -1,18 +1,18 @@
 //! Which desk it is.
 
 use crate::step::SourceStep;
-use ovs_history::{Front, HistoryName};
+use ovs_history::{HistoryName, Prefix};
 use std::marker::{Brand, PhantomData};
 
 /// Which source's desk it is: the history of its steps, and the desk with which it begins. A call of a function that is generic in
 /// the name picks them.
 pub trait SourceName {
     ghost use Rattle.logbook.specs.Pages.{Book};
-    ghost use Rattle.ovs_source.specs.SourceDesk.{Desk};
+    ghost use Rattle.ovs_source.specs.SourceDesk.{SourceDeskValue};
 
     ghost book: { Book };
 
-    ghost start: { Desk };
+    ghost start: { SourceDeskValue };
 }
 
 impl SourceName for Brand {
@@ -37,4 +37,4 @@ impl<N: SourceName> HistoryName<SourceStep> for SourceHistory<N> {
 }
 
 /// A beginning of the list of the steps of a desk.
-pub type SourceFront<N> = Front<SourceStep, SourceHistory<N>>;
+pub type SourceFront<N> = Prefix<SourceStep, SourceHistory<N>>;

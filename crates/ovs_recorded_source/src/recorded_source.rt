@@ -10,14 +10,16 @@ ghost use Rattle.ovs_recorded_source.specs.Taking.{links_taken, taken_count};
 ghost use Rattle.ovs_recorded_source.specs.Waiting.{next_standing, replies_at};
 ghost use Rattle.ovs_recorded_source.specs.declared.step.SourceStep.TheVariants as steps;
 
-use crate::entries::{AskedEntry, BeganEntry, CollectedEntry, EndedEntry, GivenEntry, TookEntry};
+use crate::entries::{
+    BeganEntry, EndedEntry, GivenEntry, SourceAskedEntry, SourceCollectedEntry, TookEntry,
+};
 use crate::holding_desk::{HoldingDesk, Replied};
 use crate::name::{SourceFront, SourceHistory, SourceName};
 use crate::recorder::{know, record_step};
 use crate::step::SourceStep;
 use ovs_authority::Ask;
 use ovs_history::{Book, Opened};
-use ovs_json::NoMemory;
+use ovs_json::{NoMemory, SessionId};
 use ovs_links::Link;
 use ovs_source::SourceDesk;
 use ovs_types::TxnId;
@@ -99,25 +101,28 @@ impl<N: SourceName> RecordedSource<N> {
         &mut self,
         rt: &R,
         alloc: Global,
-        who: u64,
+        session: SessionId,
         ask: Ask,
         known: &mut SourceFront<N>,
     ) -> Result<Option<Message>, NoMemory>
-        ensures asked { IfOk result (λ r. IsAsked (λ s. IsStep N.start s self.old self.new) who ask r) }
+        ensures asked { IfOk result (λ r. IsAsked (λ s. IsStep N.start s self.old self.new) session ask r) }
         ensures told { OnOk result (known.new ≡ self.new.steps) }
-        ensures ends { IfOk result (λ r. IsAsked (λ s. EndsWith s known.old known.new) who ask r) }
+        ensures ends { IfOk result (λ r. IsAsked (λ s. EndsWith s known.old known.new) session ask r) }
         ensures nothing { OnErr result ((self.new ≡ self.old) × (known.new ≡ known.old)) }
     {
         let (before, asked) = (Snapshot::of(&self.desk), Snapshot::of(&ask));
-        let Replied { at_once, answer } = self.desk.ask(alloc, who, ask)?;
-        let entry = AskedEntry {
-            who,
+        let Replied {
+            immediate_reply,
+            answer,
+        } = self.desk.ask(alloc, session, ask)?;
+        let entry = SourceAskedEntry {
+            session,
             ask: asked,
             answer,
             before,
             after: Snapshot::of(&self.desk),
         };
-        record_step::<N, AskedEntry, AskedEntry, R>(
+        record_step::<N, SourceAskedEntry, SourceAskedEntry, R>(
             rt,
             &self.book,
             &mut self.front,
@@ -126,19 +131,24 @@ impl<N: SourceName> RecordedSource<N> {
             &entry.before,
             &self.desk,
         );
-        Ok(at_once)
+        Ok(immediate_reply)
     }
 
     // Gives the reply that waits first for a session, if one waits.
-    fn give<R: Wait>(&mut self, rt: &R, who: u64, known: &mut SourceFront<N>) -> Option<Message>
-        ensures given { IfSome result (λ m. IsStep N.start (steps.Given who m) self.old self.new) }
+    fn give<R: Wait>(
+        &mut self,
+        rt: &R,
+        session: SessionId,
+        known: &mut SourceFront<N>,
+    ) -> Option<Message>
+        ensures given { IfSome result (λ m. IsStep N.start (steps.Given session m) self.old self.new) }
         ensures told { IfSome result (λ _. known.new ≡ self.new.steps) }
-        ensures ends { IfSome result (λ m. EndsWith (steps.Given who m) known.old known.new) }
-        ensures nothing { IfNone result ((replies_at who self.old.state.waiting ≡ []) × (self.new ≡ self.old) × (known.new ≡ known.old)) }
+        ensures ends { IfSome result (λ m. EndsWith (steps.Given session m) known.old known.new) }
+        ensures nothing { IfNone result ((replies_at session self.old.state.waiting ≡ []) × (self.new ≡ self.old) × (known.new ≡ known.old)) }
     {
         let before = Snapshot::of(&self.desk);
-        let reply = self.desk.give(who)?;
-        let entry = GivenEntry { who, reply };
+        let reply = self.desk.give(session)?;
+        let entry = GivenEntry { session, reply };
         record_step::<N, GivenEntry, GivenEntry, R>(
             rt,
             &self.book,
@@ -156,19 +166,19 @@ impl<N: SourceName> RecordedSource<N> {
         &mut self,
         rt: &R,
         alloc: Global,
-        who: u64,
+        session: SessionId,
         known: &mut SourceFront<N>,
     ) -> Result<Option<Message>, NoMemory>
-        requires none { replies_at who self.old.state.waiting ≡ [] }
-        ensures given { IfOk result (λ m. IsStep N.start (steps.Collected who m) self.old self.new) }
+        requires none { replies_at session self.old.state.waiting ≡ [] }
+        ensures given { IfOk result (λ m. IsStep N.start (steps.Collected session m) self.old self.new) }
         ensures told { OnOk result (known.new ≡ self.new.steps) }
-        ensures ends { IfOk result (λ m. EndsWith (steps.Collected who m) known.old known.new) }
+        ensures ends { IfOk result (λ m. EndsWith (steps.Collected session m) known.old known.new) }
         ensures nothing { OnErr result ((self.new ≡ self.old) × (known.new ≡ known.old)) }
     {
         let before = Snapshot::of(&self.desk);
-        let notice = self.desk.collect(alloc, who)?;
-        let entry = CollectedEntry { who, notice };
-        record_step::<N, CollectedEntry, CollectedEntry, R>(
+        let notice = self.desk.collect(alloc, session)?;
+        let entry = SourceCollectedEntry { session, notice };
+        record_step::<N, SourceCollectedEntry, SourceCollectedEntry, R>(
             rt,
             &self.book,
             &mut self.front,
@@ -188,41 +198,46 @@ impl<N: SourceName> RecordedSource<N> {
         &mut self,
         rt: &R,
         alloc: Global,
-        who: u64,
+        session: SessionId,
         known: &mut SourceFront<N>,
     ) -> Result<Option<Message>, NoMemory>
-        ensures given { IfOk result (IsGiven (λ s. IsStep N.start s self.old self.new) who) }
+        ensures given { IfOk result (IsGiven (λ s. IsStep N.start s self.old self.new) session) }
         ensures told { OnOk result (known.new ≡ self.new.steps) }
-        ensures ends { IfOk result (IsGiven (λ s. EndsWith s known.old known.new) who) }
+        ensures ends { IfOk result (IsGiven (λ s. EndsWith s known.old known.new) session) }
         ensures nothing { OnErr result ((self.new ≡ self.old) × (known.new ≡ known.old)) }
     {
-        match self.give(rt, who, known) {
+        match self.give(rt, session, known) {
             Some(reply) => Ok(Some(reply)),
-            None => self.collect_notice(rt, alloc, who, known),
+            None => self.collect_notice(rt, alloc, session, known),
         }
     }
 
     /// Where the reply stands that waits first for a session, if one waits, after all steps that were made, which are known then: the
     /// head of the source's chain behind it.
-    pub fn standing<R: Wait>(&self, rt: &R, who: u64, known: &mut SourceFront<N>) -> Option<TxnId>
-        ensures value { result ≡ next_standing who self.now.state.waiting }
+    pub fn standing<R: Wait>(
+        &self,
+        rt: &R,
+        session: SessionId,
+        known: &mut SourceFront<N>,
+    ) -> Option<TxnId>
+        ensures value { result ≡ next_standing session self.now.state.waiting }
         ensures made { DoesAll (begun N.start) self.now.steps self.now.state }
         ensures told { known.new ≡ self.now.steps }
         ensures before { IsPrefix known.old known.new }
     {
         know(rt, &self.front, known);
-        self.desk.standing(who)
+        self.desk.standing(session)
     }
 
     /// Ends a session.
-    pub fn end_session<R: Wait>(&mut self, rt: &R, who: u64, known: &mut SourceFront<N>)
-        ensures ended { IsStep N.start (steps.Ended who) self.old self.new }
+    pub fn end_session<R: Wait>(&mut self, rt: &R, session: SessionId, known: &mut SourceFront<N>)
+        ensures ended { IsStep N.start (steps.Ended session) self.old self.new }
         ensures told { known.new ≡ self.new.steps }
-        ensures ends { EndsWith (steps.Ended who) known.old known.new }
+        ensures ends { EndsWith (steps.Ended session) known.old known.new }
     {
         let before = Snapshot::of(&self.desk);
-        self.desk.end_session(who);
-        let entry = EndedEntry { who };
+        self.desk.end_session(session);
+        let entry = EndedEntry { session };
         record_step::<N, EndedEntry, EndedEntry, R>(
             rt,
             &self.book,

@@ -1,6 +1,7 @@
 //! Steps of a source's desk.
 
 use ovs_authority::Ask;
+use ovs_json::SessionId;
 use ovs_links::Link;
 use ovs_wire::Message;
 
@@ -11,7 +12,7 @@ pub enum SourceStep {
     /// A session asked, and the desk replied. The reply to a transaction waits until it is given; any other is given at once.
     Asked {
         /// The session.
-        who: u64,
+        session: SessionId,
         /// What it asked.
         ask: Ask,
         /// The reply.
@@ -22,21 +23,21 @@ pub enum SourceStep {
     /// A session was given the reply that waited first for it.
     Given {
         /// The session.
-        who: u64,
+        session: SessionId,
         /// The reply.
         reply: Message,
     },
     /// A session for which no reply waited was given a notice of a lock, if one was owed.
     Collected {
         /// The session.
-        who: u64,
+        session: SessionId,
         /// The notice.
         notice: Option<Message>,
     },
     /// A session ended.
     Ended {
         /// The session.
-        who: u64,
+        session: SessionId,
     },
     /// The first link was taken out.
     TookLink {

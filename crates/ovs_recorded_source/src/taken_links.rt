@@ -14,7 +14,7 @@ use std::marker::Model;
 use std::sync::Wait;
 
 /// The links that were taken out of a source's desk, as a caller knows them: all that were, in their order. They are the first of the
-/// history of the desk's source.
+/// history that the source has in some run of such a desk.
 #[derive(Drop)]
 pub struct TakenLinks<N: SourceName> {
     // The steps up to the last one that took a link out.

@@ -6,8 +6,8 @@ ghost use Rattle.std.specs.Ordering.{nat_cmp};
 ghost use Rattle.std.specs.VecDeque.{deque_len, deque_capacity};
 ghost use Rattle.ovs_recorded_source.specs.Waiting.{Become, HasRoom, TakesFirst, listed, replies_at, message_of, next_standing, standing_of};
 
-use ovs_authority::Answer;
-use ovs_json::NoMemory;
+use ovs_authority::Response;
+use ovs_json::{NoMemory, SessionId};
 use ovs_types::TxnId;
 use ovs_wire::{Id, Message};
 use std::alloc::Global;
@@ -16,7 +16,7 @@ use std::collections::{BTreeMap, VecDeque};
 /// A reply to a transaction, and the head of the source's chain behind it.
 #[derive(Drop)]
 pub(crate) struct WaitingReply {
-    pub(crate) answer: Answer,
+    pub(crate) answer: Response,
     pub(crate) id: Id,
     pub(crate) standing: TxnId,
 }
@@ -73,7 +73,7 @@ fn take_first(replies: &mut VecDeque<WaitingReply>) -> Option<WaitingReply>
 #[derive(Drop)]
 pub(crate) struct WaitingReplies {
     // Of sessions for which one waits, or is about to be made.
-    by_session: BTreeMap<u64, VecDeque<WaitingReply>>,
+    by_session: BTreeMap<SessionId, VecDeque<WaitingReply>>,
 }
 
 impl WaitingReplies {
@@ -95,64 +95,64 @@ impl WaitingReplies {
     }
 
     /// Where the first of a session stands.
-    pub(crate) fn standing(&self, who: u64) -> Option<TxnId>
-        ensures value { result ≡ next_standing who (listed self.now.by_session.entries) }
+    pub(crate) fn standing(&self, session: SessionId) -> Option<TxnId>
+        ensures value { result ≡ next_standing session (listed self.now.by_session.entries) }
     {
         if self.is_empty() {
             return None;
         }
-        first_standing(self.by_session.get(&who)?)
+        first_standing(self.by_session.get(&session)?)
     }
 
     /// Room for one more of a session.
-    pub(crate) fn make_room(&mut self, alloc: Global, who: u64) -> Result<(), NoMemory>
-        ensures room { OnOk result (HasRoom who self.new.by_session) }
+    pub(crate) fn make_room(&mut self, alloc: Global, session: SessionId) -> Result<(), NoMemory>
+        ensures room { OnOk result (HasRoom session self.new.by_session) }
         ensures same { listed self.new.by_session.entries ≡ listed self.old.by_session.entries }
     {
-        if let Some(replies) = self.by_session.get_mut(&who) {
+        if let Some(replies) = self.by_session.get_mut(&session) {
             return reserve_one(replies);
         }
-        self.by_session.insert(who, room_for_one(alloc)?)?;
+        self.by_session.insert(session, room_for_one(alloc)?)?;
         Ok(())
     }
 
     /// Puts one behind those of the session.
-    pub(crate) fn put(&mut self, who: u64, reply: WaitingReply)
-        requires room { HasRoom who self.old.by_session }
-        ensures put { Become (listed self.old.by_session.entries) who (replies_at who (listed self.old.by_session.entries) ++ reply ∷ []) (listed self.new.by_session.entries) }
+    pub(crate) fn put(&mut self, session: SessionId, reply: WaitingReply)
+        requires room { HasRoom session self.old.by_session }
+        ensures put { Become (listed self.old.by_session.entries) session (replies_at session (listed self.old.by_session.entries) ++ reply ∷ []) (listed self.new.by_session.entries) }
     {
-        if let Some(replies) = self.by_session.get_mut(&who) {
+        if let Some(replies) = self.by_session.get_mut(&session) {
             replies.push_back_reserved(reply);
         }
     }
 
     /// The room that was made for one of a session isn't wanted any more.
-    pub(crate) fn forget_room(&mut self, who: u64)
+    pub(crate) fn forget_room(&mut self, session: SessionId)
         ensures same { listed self.new.by_session.entries ≡ listed self.old.by_session.entries }
     {
-        match self.by_session.get(&who) {
+        match self.by_session.get(&session) {
             Some(replies) if is_none_left(replies) => {
-                let _none = self.by_session.remove(&who);
+                let _none = self.by_session.remove(&session);
             }
             _ => {}
         }
     }
 
     /// Takes out the first one of a session, if one waits.
-    pub(crate) fn take_first(&mut self, who: u64) -> Option<WaitingReply>
-        ensures taken { TakesFirst who (listed self.old.by_session.entries) result (listed self.new.by_session.entries) }
+    pub(crate) fn take_first(&mut self, session: SessionId) -> Option<WaitingReply>
+        ensures taken { TakesFirst session (listed self.old.by_session.entries) result (listed self.new.by_session.entries) }
     {
-        let first = take_first(self.by_session.get_mut(&who)?);
-        self.forget_room(who);
+        let first = take_first(self.by_session.get_mut(&session)?);
+        self.forget_room(session);
         first
     }
 
     /// Lets go of those of a session.
-    pub(crate) fn end_session(&mut self, who: u64)
-        ensures none { Become (listed self.old.by_session.entries) who [] (listed self.new.by_session.entries) }
+    pub(crate) fn end_session(&mut self, session: SessionId)
+        ensures none { Become (listed self.old.by_session.entries) session [] (listed self.new.by_session.entries) }
     {
         if !self.is_empty() {
-            let _let_go = self.by_session.remove(&who);
+            let _let_go = self.by_session.remove(&session);
         }
     }
 }

@@ -2,9 +2,9 @@
 #![tactic(auto)]
 
 mod backlog;
+mod error_keeping_reader;
 mod log_lines;
 mod nodes;
-mod noting;
 mod saying;
 mod schema_file;
 mod timed;

@@ -10,6 +10,7 @@ use ovs_server::{
     ExitReport, NodeRuntime, NodeServer, RelayPlan, ServerError, SourcePlan, schema_of_upstream,
 };
 use ovs_types::Schema;
+use ovs_wire::MAX_MESSAGE_BYTES;
 use std::alloc::Global;
 use std::fs::Files;
 use std::net::{Net, SocketAddr, TcpListener, TcpStream};
@@ -101,6 +102,14 @@ fn source<R: NodeRuntime + Print + Eprint + Clock + 'static>(
     Ok(closes(&rt, alloc, &*backlog, ran))
 }
 
+// How many bytes a message from an upstream may have: as many as a reader's, where that isn't said.
+fn most_bytes_of(options: &RelayOptions) -> usize {
+    match options.most_bytes {
+        Some(most_bytes) => most_bytes as usize,
+        None => MAX_MESSAGE_BYTES,
+    }
+}
+
 // The schema of a relay, or the exit status of the program, once it has told why there is none.
 fn schema_of<R: NodeRuntime + Print + Eprint + Clock + Files + 'static>(
     rt: R,
@@ -113,9 +122,10 @@ fn schema_of<R: NodeRuntime + Print + Eprint + Clock + Files + 'static>(
         SchemaOrigin::FirstUpstream(database) => database.as_str(),
     };
     let (upstreams, tries) = (options.upstreams.as_slice(), options.tries);
+    let most_bytes = most_bytes_of(options);
     let level = level_of(options.verbose, options.end_on_refusal);
     let logged = Logged::new(rt, level, LogLines::new(rt, alloc, backlog));
-    match schema_of_upstream(logged, alloc, upstreams, database, tries) {
+    match schema_of_upstream(logged, alloc, upstreams, database, tries, most_bytes) {
         Ok(schema) => Ok(schema),
         Err(error) => Err(closes(&rt, alloc, backlog, Err(error))),
     }
@@ -132,6 +142,7 @@ fn relay<R: NodeRuntime + Print + Eprint + Clock + Files + 'static>(
         upstreams: &options.upstreams,
         accepts: options.accepts,
         tries: options.tries,
+        most_bytes: most_bytes_of(options),
         ends_on_refusal: options.end_on_refusal,
         prunes: options.prunes,
     };

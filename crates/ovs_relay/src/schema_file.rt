@@ -1,6 +1,6 @@
 //! The schema of a node.
 
-use crate::noting::Noting;
+use crate::error_keeping_reader::ErrorKeepingReader;
 use crate::saying::{complains, ends_of_file};
 use ovs_command_line::Complaint;
 use ovs_script::read_schema;
@@ -26,7 +26,7 @@ pub(crate) fn schema_of_file<R: Print + Eprint + Files>(
             return Err(complains(rt, Complaint::UnopenedFor { file: path, cause }));
         }
     };
-    let mut reader = Counted::new(Noting::new(file));
+    let mut reader = Counted::new(ErrorKeepingReader::new(file));
     let mut writer = Counted::new(io::writer(rt));
     match read_schema(alloc, &mut reader, &mut writer) {
         Ok(schema) => Ok(schema),

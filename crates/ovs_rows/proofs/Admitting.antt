@@ -15,11 +15,11 @@ use Rattle.ovs_types.specs.Admitting.{admits}
 use Rattle.ovs_types.specs.Schema.{SchemaValue}
 use Rattle.ovs_types.specs.declared.schema.NamedColumn.{NamedColumn}
 use Rattle.ovs_types.specs.declared.schema.Table.{Table}
-use Rattle.ovs_rows.specs.declared.place.Place.{Place}
+use Rattle.ovs_rows.specs.declared.row_key.RowKey.{RowKey}
 use Rattle.ovs_rows.specs.declared.row.Row.{Row}
 use Rattle.ovs_rows.specs.declared.change.Action.{Action}
 use Rattle.ovs_rows.specs.Change.{Actions, IsChangeOf}
-use Rattle.ovs_rows.specs.Place.{place_cmp, place_total, place_exact}
+use Rattle.ovs_rows.specs.RowKey.{place_cmp, place_total, place_exact}
 use Rattle.ovs_rows.specs.declared.applied.Touched.{Touched}
 use Rattle.ovs_rows.specs.Applied.{AscendByPlace, seen}
 use Rattle.ovs_rows.specs.Row.{Rows, AreDataOf, AreRowsOf, IsRowAt, columns_in, columns_at}
@@ -63,7 +63,7 @@ not_past tables n lt is = by (slice_get_cases tables n).1
     by (inl (x, within, some, same)) = let clash : None ≡ Some x = sym is ∙ some in absurd cc
     by (inr (past, none)) = omega (arith, lt, past)
 
-pub row_is : (tables : List Table) (p : Place) (row : Option Row) → admitted_at tables p row ≡ true → IsRowAt tables p row
+pub row_is : (tables : List Table) (p : RowKey) (row : Option Row) → admitted_at tables p row ≡ true → IsRowAt tables p row
 row_is tables p None h = tt
 row_is tables p (Some row) h =
     elim (slice_get tables p.table) as (λ o. slice_get tables p.table ≡ o → table_admits o (Some row) ≡ true → (p.table < length tables) × AreDataOf (columns_in o) row.columns) [
@@ -71,7 +71,7 @@ row_is tables p (Some row) h =
       | Some table ↦ λ is f. (slice_get_within tables p.table table is, all_are table.columns row.columns f)
     ] refl h
 
-pub is_row : (tables : List Table) (p : Place) (row : Option Row) → IsRowAt tables p row → admitted_at tables p row ≡ true
+pub is_row : (tables : List Table) (p : RowKey) (row : Option Row) → IsRowAt tables p row → admitted_at tables p row ≡ true
 is_row tables p None h = no_row (slice_get tables p.table)
   where
     no_row : (o : Option Table) → table_admits o None ≡ true
@@ -83,7 +83,7 @@ is_row tables p (Some row) h =
       | Some table ↦ λ is f. are_all table.columns row.columns f
     ] refl h.1
 
-pub row_decides : (r : Bool) (tables : List Table) (p : Place) (row : Option Row) → r ≡ admitted_at tables p row → (r ≡ true) ↔ IsRowAt tables p row
+pub row_decides : (r : Bool) (tables : List Table) (p : RowKey) (row : Option Row) → r ≡ admitted_at tables p row → (r ≡ true) ↔ IsRowAt tables p row
 row_decides r tables p row is = (λ h. row_is tables p row (sym is ∙ h), λ h. is ∙ is_row tables p row h)
 
 -- ---- rows that a change told
@@ -119,7 +119,7 @@ pub admitted_all : (tables : List Table) (us : List TouchedRow) → ArePutOf tab
 admitted_all tables [] h = refl
 admitted_all tables (u ∷ us) h = rw (is_row tables u.place u.after h.0) (ap (λ vs. u ∷ vs) (admitted_all tables us h.1))
 
-kept_all : (P : Place → Type 0) (tables : List Table) (us : List TouchedRow) → AllByRecursion P (map (λ t. t.place) us) → AllByRecursion P (map (λ t. t.place) (admitted tables us))
+kept_all : (P : RowKey → Type 0) (tables : List Table) (us : List TouchedRow) → AllByRecursion P (map (λ t. t.place) us) → AllByRecursion P (map (λ t. t.place) (admitted tables us))
 kept_all P tables [] h = tt
 kept_all P tables (u ∷ us) h =
     elim (admitted_at tables u.place u.after) as (λ b. AllByRecursion P (map (λ t. t.place) (cond b (u ∷ admitted tables us) (admitted tables us)))) [
@@ -156,19 +156,19 @@ if_some : {X : Type 0} (o : Option X) (P : X → Type 0) → ((x : X) → o ≡ 
 if_some None P h = tt
 if_some (Some x) P h = h x refl
 
-at_place : (ts : List Table) (p : Place) (r : Option Row) → p.table < length ts → IfSome r (λ row. AreDataOf (columns_at ts p.table) row.columns) → IsRowAt ts p r
+at_place : (ts : List Table) (p : RowKey) (r : Option Row) → p.table < length ts → IfSome r (λ row. AreDataOf (columns_at ts p.table) row.columns) → IsRowAt ts p r
 at_place ts p None lt h = tt
 at_place ts p (Some row) lt h = (lt, h)
 
 -- what it did to rows of the tables may stand there
 module _ (ts : List Table) (rows : Rows) (change : Actions) (version : ℕ) (h : AreRowsOf ts rows) (k : IsChangeOf ts change) where
-  after_of : (p : Place) (a : Action) → get change p ≡ Some a → IsRowAt ts p (after_action (columns_at ts p.table) version a (get rows p))
+  after_of : (p : RowKey) (a : Action) → get change p ≡ Some a → IsRowAt ts p (after_action (columns_at ts p.table) version a (get rows p))
   after_of p a e =
       at_place ts p (after_action (columns_at ts p.table) version a (get rows p)) (k p a e).0
       (if_some (after_action (columns_at ts p.table) version a (get rows p)) (λ row. AreDataOf (columns_at ts p.table) row.columns) (λ r is.
       row_after_kept (columns_at ts p.table) version (Some a) (get rows p) r (k p a e).1 (if_some (get rows p) (λ row. AreDataOf (columns_at ts p.table) row.columns) (λ r e. (h p r e).1)) is))
 
-  each_of : (es : List (Place × Action)) → AllByRecursion (λ e. IsRowAt ts e.0 (after_action (columns_at ts e.0.table) version e.1 (get rows e.0))) es → ArePutOf ts (map (touched_row ts rows version) es)
+  each_of : (es : List (RowKey × Action)) → AllByRecursion (λ e. IsRowAt ts e.0 (after_action (columns_at ts e.0.table) version e.1 (get rows e.0))) es → ArePutOf ts (map (touched_row ts rows version) es)
   each_of [] all = tt
   each_of (e ∷ es) all = (all.0, each_of es all.1)
 

@@ -11,11 +11,11 @@ use Rattle.std.specs.Ordering.{nat_cmp, MatchOrdering, eq_by_cmp}
 use Rattle.std.specs.Cmp.{ranked}
 use Rattle.ovs_types.specs.declared.schema.NamedColumn.{NamedColumn}
 use Rattle.ovs_types.specs.declared.schema.Table.{Table}
-use Rattle.ovs_rows.specs.declared.place.Place.{Place}
+use Rattle.ovs_rows.specs.declared.row_key.RowKey.{RowKey}
 use Rattle.ovs_rows.specs.declared.row.Row.{Row}
 use Rattle.ovs_rows.specs.declared.change.Action.{Action}
 use Rattle.ovs_rows.specs.declared.change.Action.TheVariants.{Modify}
-use Rattle.ovs_rows.specs.Place.{place_cmp, place_total, place_exact}
+use Rattle.ovs_rows.specs.RowKey.{place_cmp, place_total, place_exact}
 use Rattle.ovs_rows.specs.Row.{Rows, AreDataOf, AreRowsOf, IsRowAt, columns_at}
 use Rattle.ovs_rows.specs.After.{put_at}
 use Rattle.ovs_rows.specs.Scanning.{IsAfter, IsNext, IsPastLast, NoneBelow, row_in, rows_past}
@@ -32,7 +32,7 @@ use Rattle.ovs_rows.proofs.Scanning.{next_begins, none_begins}
 use Rattle.ovs_rows.proofs.RowSteps.{no_edits_itself}
 
 -- what stands at a place
-pub get-overlaid : (rows : Rows) (over : Overlay) (p : Place) → get (overlaid rows over) p ≡ unwrap_or (get over p) (get rows p)
+pub get-overlaid : (rows : Rows) (over : Overlay) (p : RowKey) → get (overlaid rows over) p ≡ unwrap_or (get over p) (get rows p)
 unfolding overlaid
 get-overlaid rows over p = get-combined place_total place_exact (λ p before put. unwrap_or put before) (λ p. refl) rows over p
 
@@ -41,7 +41,7 @@ chosen true o x y = refl
 chosen false o x y = refl
 
 -- one more change
-pub put_over : (rows : Rows) (over : Overlay) (p : Place) (o : Option Row) → overlaid rows (insert over p o) ≡ put_at (overlaid rows over) p o
+pub put_over : (rows : Rows) (over : Overlay) (p : RowKey) (o : Option Row) → overlaid rows (insert over p o) ≡ put_at (overlaid rows over) p o
 put_over rows over p o = same_map place_total place_exact (overlaid rows (insert over p o)) (put_at (overlaid rows over) p o) (λ q.
     get-overlaid rows (insert over p o) q
     ∙ ap (λ x. unwrap_or x (get rows q)) (get-insert place_total over p o q)
@@ -55,19 +55,19 @@ nothing_over rows = same_map place_total place_exact (overlaid rows empty) rows 
     get-overlaid rows empty q ∙ ap (λ x. unwrap_or x (get rows q)) (get-empty place_cmp q))
 
 -- rows of the tables are so with one more, also where memory may have run out
-pub over_rows : {T F : Type 0} (tables : List Table) (rows : Rows) (old new : Overlay) (p : Place) (o : Option Row) (r : Result T F)
+pub over_rows : {T F : Type 0} (tables : List Table) (rows : Rows) (old new : Overlay) (p : RowKey) (o : Option Row) (r : Result T F)
     → AreRowsOf tables (overlaid rows old) → IsRowAt tables p o → OnOk r (new ≡ insert old p o) → OnErr r (new ≡ old) → AreRowsOf tables (overlaid rows new)
 over_rows tables rows old new p o (Ok t) h k done same = subst (AreRowsOf tables) (sym (ap (overlaid rows) done ∙ put_over rows old p o)) (put_rows tables (overlaid rows old) p o h k)
 over_rows tables rows old new p o (Err e) h k done same = subst (AreRowsOf tables) (sym (ap (overlaid rows) same)) h
 
-pub over_value : {T F : Type 0} (base : DatabaseValue) (old new : Overlay) (p : Place) (o : Option Row) (r : Result T F) → OnOk r (new ≡ insert old p o)
+pub over_value : {T F : Type 0} (base : DatabaseValue) (old new : Overlay) (p : RowKey) (o : Option Row) (r : Result T F) → OnOk r (new ≡ insert old p o)
     → OnOk r (◌≡◌ {A = DraftValue} (record { before = base; rows = overlaid base.rows new }) (record { before = base; rows = put_at (overlaid base.rows old) p o }))
 over_value base old new p o (Ok t) done = λ i. record { before = base; rows = (ap (overlaid base.rows) done ∙ put_over base.rows old p o) i }
 over_value base old new p o (Err e) done = tt
 
 -- ---- how many
 
-len-made : (es : List (Place × Row)) → len (from_entries {R = place_cmp} es) ≤ length es
+len-made : (es : List (RowKey × Row)) → len (from_entries {R = place_cmp} es) ≤ length es
 len-made [] = omega (arith, len-empty place_cmp Row)
 len-made (e ∷ es) = by (contains_key (from_entries {R = place_cmp} es) e.0) (len-insert place_total (from_entries {R = place_cmp} es) e.0 e.1) (len-made es)
   where
@@ -76,11 +76,11 @@ len-made (e ∷ es) = by (contains_key (from_entries {R = place_cmp} es) e.0) (l
     by true one more = omega (arith, one, more)
     by false one more = omega (arith, one, more)
 
-length-picked : (f : Place → Option (Place × Row)) (ps : List Place) → length (filter_map f ps) ≤ length ps
+length-picked : (f : RowKey → Option (RowKey × Row)) (ps : List RowKey) → length (filter_map f ps) ≤ length ps
 length-picked f [] = omega arith
 length-picked f (p ∷ ps) = by (f p) (length-picked f ps)
   where
-    by : (o : Option (Place × Row)) → length (filter_map f ps) ≤ length ps → length (cons_option o (filter_map f ps)) ≤ length (p ∷ ps)
+    by : (o : Option (RowKey × Row)) → length (filter_map f ps) ≤ length ps → length (cons_option o (filter_map f ps)) ≤ length (p ∷ ps)
     by None more = omega (arith, more)
     by (Some e) more = omega (arith, more)
 
@@ -88,7 +88,7 @@ length-picked f (p ∷ ps) = by (f p) (length-picked f ps)
 pub len-overlaid : (rows : Rows) (over : Overlay) → len (overlaid rows over) ≤ length (entries rows) + length (entries over)
 unfolding overlaid
 len-overlaid rows over =
-    let row_at : Place → Option (Place × Row) = λ p. option_map (λ row. (p, row)) (unwrap_or (get over p) (get rows p)) in
+    let row_at : RowKey → Option (RowKey × Row) = λ p. option_map (λ row. (p, row)) (unwrap_or (get over p) (get rows p)) in
     let all = keys rows ++ keys over in
     omega (arith, len-made (filter_map row_at all), length-picked row_at all, length-append (keys rows) (keys over), length-map (entries rows) (λ e. e.0), length-map (entries over) (λ e. e.0))
 
@@ -99,7 +99,7 @@ between_itself columns None = refl
 between_itself columns (Some row) = ap (λ b. cond b (Some (Modify (edits_between columns row.columns row.columns))) None) (no_edits_itself columns row.columns)
 
 -- the action at each place that is changed
-abbrev pub action_over : List Table → Rows → Place × Option Row → Option Action
+abbrev pub action_over : List Table → Rows → RowKey × Option Row → Option Action
 action_over tables rows e = action_between (columns_at tables e.0.table) (get rows e.0) e.1
 
 pub overlay_difference : (tables : List Table) (rows : Rows) (over : Overlay)
@@ -115,18 +115,18 @@ overlay_difference tables rows over = same_map place_total place_exact (gathered
     itself None = refl
     itself (Some a) = refl
 
-    by : (q : Place) (o : Option (Option Row)) → option_or (given (action_over tables rows) q o) None ≡ action_between (columns_at tables q.table) (get rows q) (unwrap_or o (get rows q))
+    by : (q : RowKey) (o : Option (Option Row)) → option_or (given (action_over tables rows) q o) None ≡ action_between (columns_at tables q.table) (get rows q) (unwrap_or o (get rows q))
     by q None = sym (between_itself (columns_at tables q.table) (get rows q))
     by q (Some row) = itself (action_between (columns_at tables q.table) (get rows q) row)
 
 -- what is put has data of its table's columns
-abbrev pub HaveRows : List Table → List (Place × Option Row) → Type 0
+abbrev pub HaveRows : List Table → List (RowKey × Option Row) → Type 0
 HaveRows tables = AllByRecursion (λ e. IfSome e.1 (λ row. AreDataOf (columns_at tables e.0.table) row.columns))
 
 pub have_rows : (tables : List Table) (rows : Rows) (over : Overlay) → AreRowsOf tables (overlaid rows over) → HaveRows tables (entries over)
 have_rows tables rows over h = All-entries place_total place_exact over (λ e. IfSome e.1 (λ row. AreDataOf (columns_at tables e.0.table) row.columns)) (λ p o at. by p o (get-overlaid rows over p ∙ ap (λ x. unwrap_or x (get rows p)) at))
   where
-    by : (p : Place) (o : Option Row) → get (overlaid rows over) p ≡ o → IfSome o (λ row. AreDataOf (columns_at tables p.table) row.columns)
+    by : (p : RowKey) (o : Option Row) → get (overlaid rows over) p ≡ o → IfSome o (λ row. AreDataOf (columns_at tables p.table) row.columns)
     by p None is = tt
     by p (Some row) is = (h p row is).1
 

@@ -11,9 +11,9 @@ use Rattle.ovs_types.specs.declared.schema.NamedColumn.{NamedColumn}
 use Rattle.ovs_types.specs.declared.schema.Table.{Table}
 use Rattle.ovs_types.specs.Id.{id_text}
 use Rattle.ovs_types.specs.Names.{IsAscendingBy}
-use Rattle.ovs_rows.specs.declared.place.Place.{Place}
+use Rattle.ovs_rows.specs.declared.row_key.RowKey.{RowKey}
 use Rattle.ovs_rows.specs.declared.row.Row.{Row}
-use Rattle.ovs_rows.specs.Place.{place_cmp}
+use Rattle.ovs_rows.specs.RowKey.{place_cmp}
 use Rattle.ovs_rows.specs.Row.{Rows}
 use Rattle.ovs_rows.specs.ObjectText.{member_text, listed_text}
 use Rattle.ovs_rows.specs.Writing.{with_member, object_of, row_member, rows_in, table_json, table_member, tables_json}
@@ -53,21 +53,21 @@ module _ {X : Type 0} (f : X → List ℕ × Data) (whole text : List ℕ) (late
 
 -- ---- the rows of a table
 
-abbrev pub HaveIds : List (Place × Row) → Type 0
+abbrev pub HaveIds : List (RowKey × Row) → Type 0
 HaveIds = AllByRecursion (λ e. e.0.id < 2 ^ 128)
 
-pub ids_next : (p : Place) (r : Row) (left rest : List (Place × Row)) (Whole : Type 0) → p.id < 2 ^ 128 → left ≡ (p, r) ∷ rest → (HaveIds left → Whole) → HaveIds rest → Whole
+pub ids_next : (p : RowKey) (r : Row) (left rest : List (RowKey × Row)) (Whole : Type 0) → p.id < 2 ^ 128 → left ≡ (p, r) ∷ rest → (HaveIds left → Whole) → HaveIds rest → Whole
 ids_next p r left rest Whole fits is all others = all (rw is (fits, others))
 
-pub ids_end : (left : List (Place × Row)) (Whole : Type 0) → left ≡ [] → (HaveIds left → Whole) → Whole
+pub ids_end : (left : List (RowKey × Row)) (Whole : Type 0) → left ≡ [] → (HaveIds left → Whole) → Whole
 ids_end left Whole is all = all (rw is tt)
 
 module _ (columns : List NamedColumn) where
-  id_first : (id : ℕ) (es : List (Place × Row)) → id < 2 ^ 128 → IsLeast id es → HaveIds es → IsFirst (id_text id) (map (row_member columns) es)
+  id_first : (id : ℕ) (es : List (RowKey × Row)) → id < 2 ^ 128 → IsLeast id es → HaveIds es → IsFirst (id_text id) (map (row_member columns) es)
   id_first id [] fits least others = tt
   id_first id (e ∷ es) fits least others = (id_text_cmp id e.0.id fits others.0 ∙ less_is id e.0.id least.0, id_first id es fits least.1 others.1)
 
-  rows_in_order : (es : List (Place × Row)) → Ascend es → HaveIds es → AreInOrder (map (row_member columns) es)
+  rows_in_order : (es : List (RowKey × Row)) → Ascend es → HaveIds es → AreInOrder (map (row_member columns) es)
   rows_in_order [] ascend all = tt
   rows_in_order (e ∷ es) ascend all = (id_first e.0.id es all.0 ascend.0 all.1, rows_in_order es ascend.1 all.1)
 

@@ -5,7 +5,7 @@ use Rattle.ovs_data.specs.declared.datum.Datum.{Datum}
 use Rattle.ovs_types.specs.Admitting.{admits}
 use Rattle.ovs_types.specs.declared.schema.NamedColumn.{NamedColumn}
 use Rattle.ovs_types.specs.declared.schema.Table.{Table}
-use Rattle.ovs_rows.specs.declared.place.Place.{Place}
+use Rattle.ovs_rows.specs.declared.row_key.RowKey.{RowKey}
 use Rattle.ovs_rows.specs.declared.row.Row.{Row}
 use Rattle.ovs_rows.specs.Row.{Rows}
 use Rattle.ovs_rows.specs.After.{TouchedRow, applied_to}
@@ -24,7 +24,7 @@ table_admits None (Some row) = false
 table_admits (Some table) (Some row) = admit_all table.columns row.columns
 
 -- whether a row, or none, may stand at the place
-abbrev pub admitted_at : List Table → Place → Option Row → Bool
+abbrev pub admitted_at : List Table → RowKey → Option Row → Bool
 admitted_at tables p row = table_admits (slice_get tables p.table) row
 
 -- ---- rows that a change told

@@ -3,7 +3,7 @@ use Rattle.std.specs.Prelude.{◌≡◌, ◌≢◌, ◌⊎◌, ℕ, List, [], �
 use Rattle.serde_json.specs.Data.{Data, null, string}
 use Rattle.ovs_json.specs.Parts.{is_word}
 use Rattle.ovs_session.specs.Moving.{Moved}
-use Rattle.ovs_session.specs.Serving.{SessionValue, fresh}
+use Rattle.ovs_session.specs.Serving.{SessionValue, fresh_within}
 use Rattle.ovs_types.specs.SchemaReading.{read_description}
 use Rattle.ovs_wire.specs.Message.{Says, IsWritten}
 use Rattle.ovs_wire.specs.declared.message.Message.{Message}
@@ -56,8 +56,9 @@ abbrev pub Asks : SchemaQuery → List ℕ → SchemaQuery → Type 0
 Asks old said new = ((said ≡ []) × (new ≡ old))
     ⊎ ((old.has_asked ≡ false) × IsWritten (request old.database) said × (new ≡ record old { has_asked = true }))
 
--- A session in which the schema of this database was asked for moved these bytes, and this is what it was replied.
-pub record HasAsked (database : List ℕ) (limit : ℕ) (input unread output written : Option (List ℕ)) (reply : Option SchemaReply) : Type 0 where
+-- A session in which the schema of this database was asked for, and whose peer's messages may have `most` bytes, moved these bytes, and
+-- this is what it was replied.
+pub record HasAsked (database : List ℕ) (most limit : ℕ) (input unread output written : Option (List ℕ)) (reply : Option SchemaReply) : Type 0 where
   pub now : SessionValue SchemaQuery
-  pub moved : Moved Hears Asks limit input unread output written (fresh (record { database = database; has_asked = false; reply = None })) now
-  pub replied : reply ≡ now.core.reply
+  pub moved : Moved Hears Asks limit input unread output written (fresh_within most (record { database = database; has_asked = false; reply = None })) now
+  pub replied : reply ≡ now.state.reply

@@ -7,7 +7,7 @@ use crate::hearing::hear;
 use crate::reply::SchemaReply;
 use crate::request::request;
 use ovs_json::Text;
-use ovs_session::{Outbox, Pace, Refusal, Service};
+use ovs_session::{Outbox, Service, ServiceError, TurnProgress};
 use std::alloc::Global;
 
 /// What is known of a session in which a schema is asked for.
@@ -60,7 +60,7 @@ impl Service for SchemaAsker {
         query: &mut SchemaQuery,
         message: &[u8],
         _out: &mut Outbox,
-    ) -> Result<(), Refusal> {
+    ) -> Result<(), ServiceError> {
         match hear(self.alloc, message) {
             Ok(Some(reply)) => {
                 query.reply = Some(reply);
@@ -71,16 +71,20 @@ impl Service for SchemaAsker {
         }
     }
 
-    fn tell(&mut self, query: &mut SchemaQuery, out: &mut Outbox) -> Result<Pace, Refusal> {
+    fn tell(
+        &mut self,
+        query: &mut SchemaQuery,
+        out: &mut Outbox,
+    ) -> Result<TurnProgress, ServiceError> {
         self.is_replied = query.reply.is_some();
         if self.is_replied {
-            return Err(Refusal::Gone);
+            return Err(ServiceError::Gone);
         }
         if !query.has_asked {
             let text = request(self.alloc, query.database.as_str())?.write(self.alloc)?;
             out.push(&text)?;
             query.has_asked = true;
         }
-        Ok(Pace::Idle)
+        Ok(TurnProgress::Idle)
     }
 }

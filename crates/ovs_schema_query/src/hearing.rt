@@ -7,21 +7,21 @@ ghost use Rattle.ovs_schema_query.specs.Query.{IsHeard, IsSaid, SaysNone};
 use crate::reply::{SchemaReply, reply_of};
 use crate::request::REQUEST_ID;
 use ovs_json::{NoMemory, is_word};
-use ovs_session::Refusal;
+use ovs_session::ServiceError;
 use ovs_wire::{Message, MessageError};
 use std::alloc::Global;
 
 // The message that a text says.
-fn read(alloc: Global, text: &[u8]) -> Result<Message, Refusal>
+fn read(alloc: Global, text: &[u8]) -> Result<Message, ServiceError>
     ensures says { IfOk result (Says text.now) }
-    ensures none { result ≡ Err Refusal.BadInput → SaysNone text.now }
-    ensures never_gone { result ≡ Err Refusal.Gone → ⊥ }
-    ensures never_epoch { result ≡ Err Refusal.Epoch → ⊥ }
+    ensures none { result ≡ Err ServiceError.BadInput → SaysNone text.now }
+    ensures never_gone { result ≡ Err ServiceError.Gone → ⊥ }
+    ensures never_epoch { result ≡ Err ServiceError.Epoch → ⊥ }
 {
     match Message::read(alloc, text) {
         Ok(message) => Ok(message),
-        Err(MessageError::NoMemory) => Err(Refusal::NoMemory),
-        Err(_) => Err(Refusal::BadInput),
+        Err(MessageError::NoMemory) => Err(ServiceError::NoMemory),
+        Err(_) => Err(ServiceError::BadInput),
     }
 }
 
@@ -41,11 +41,11 @@ fn reply_in(alloc: Global, message: &Message) -> Result<Option<SchemaReply>, NoM
 ///
 /// - `BadInput`: the text says no message.
 /// - `NoMemory`.
-pub(crate) fn hear(alloc: Global, text: &[u8]) -> Result<Option<SchemaReply>, Refusal>
+pub(crate) fn hear(alloc: Global, text: &[u8]) -> Result<Option<SchemaReply>, ServiceError>
     ensures heard { IfOk result (IsHeard text.now) }
-    ensures none { result ≡ Err Refusal.BadInput → SaysNone text.now }
-    ensures never_gone { result ≡ Err Refusal.Gone → ⊥ }
-    ensures never_epoch { result ≡ Err Refusal.Epoch → ⊥ }
+    ensures none { result ≡ Err ServiceError.BadInput → SaysNone text.now }
+    ensures never_gone { result ≡ Err ServiceError.Gone → ⊥ }
+    ensures never_epoch { result ≡ Err ServiceError.Epoch → ⊥ }
 {
     match read(alloc, text) {
         Ok(message) => Ok(reply_in(alloc, &message)?),

@@ -22,24 +22,26 @@ pub struct Queried {
 
 /// Asks a peer once for the schema of the database of this name, and hears what it says until it has replied, by so many turns at most.
 ///
-/// What came is a stream of messages, of which the last that is the reply to the request is told.
+/// What came is a stream of messages, each of `most_bytes` at most, of which the last that is the reply to the request is told.
 pub fn query_schema<R: Read, W: Write>(
     alloc: Global,
     database: Text,
     reader: &mut Counted<R>,
     writer: &mut Counted<W>,
+    most_bytes: usize,
     limits: Limits,
     most_turns: u32,
 ) -> Queried
-    ensures asked { HasAsked database limits.most_unsent (R.remaining reader.old.device) (R.remaining reader.new.device)
+    ensures asked { HasAsked database most_bytes limits.most_unsent (R.remaining reader.old.device) (R.remaining reader.new.device)
         (W.contents writer.old.device) (W.contents writer.new.device) result.reply }
 {
     let mut asker = SchemaAsker {
         alloc,
         is_replied: false,
     };
-    let mut session = Session::new(
+    let mut session = Session::with_limit(
         alloc,
+        most_bytes,
         SchemaQuery {
             database,
             has_asked: false,
@@ -47,6 +49,6 @@ pub fn query_schema<R: Read, W: Write>(
         },
     );
     let ended = serve(&mut session, &mut asker, reader, writer, limits, most_turns);
-    let SchemaQuery { reply, .. } = session.into_core();
+    let SchemaQuery { reply, .. } = session.into_state();
     Queried { reply, ended }
 }

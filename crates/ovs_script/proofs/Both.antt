@@ -1,8 +1,8 @@
 -- A script over an input and perhaps a second text.
 use Rattle.std.proofs.Common.{◌≡◌, ℕ, Option, Some, None, List, [], ◌++◌, refl, sym, ap, subst, ◌∙◌, append-nil, inl, inr, IfSome, Bool}
 use Rattle.std.specs.Prelude.{option_and_then}
-use Rattle.ovs_script.specs.declared.fault.Fault.{Fault}
-use Rattle.ovs_script.specs.declared.fault.Fault.TheVariants.{ReadFault, WriteFault, TurnsSpent, NoMemory}
+use Rattle.ovs_script.specs.declared.script_error.ScriptError.{ScriptError}
+use Rattle.ovs_script.specs.declared.script_error.ScriptError.TheVariants.{ReadFault, WriteFault, TurnsSpent, NoMemory}
 use Rattle.ovs_script.specs.Lines.{lines_of}
 use Rattle.ovs_script.specs.Sending.{AppendsAllBut}
 use Rattle.ovs_script.specs.Rules.{Rules, SaysTo, AreLastWordsSoFar}
@@ -78,7 +78,7 @@ module _ {S : Type 0} (rules : Rules S) (s : S) (start before now : Option (List
         → IfSome (texts_of start remaining second) (λ t. (said : List ℕ) × AreFirstAnswers rules s t said × (others : List ℕ) × AppendsAllBut before now (waited ++ said) (waiting ++ others))
     begun_input so_far = of_input start remaining second _ _ (λ input text is told. (told.0, inl told.1, told.2, told.3)) so_far
 
-    pub said_input : (s' : S) (left : Option (List ℕ)) (fault : Fault)
+    pub said_input : (s' : S) (left : Option (List ℕ)) (fault : ScriptError)
         → IfSome start (λ text. TellsSaid fault (HearsRead rules s s' text left) (AreAnswersToFirst rules s text) before now waited waiting)
         → IfSome (texts_of start remaining second) (λ t. TellsSaid fault (HearsAllRead rules s s' t left (option_and_then remaining second)) (AreFirstAnswers rules s t) before now waited waiting)
     said_input s' left ReadFault said = of_input start remaining second _ _ (λ input text is told. (told.0, inl (told.1, is), told.2)) said
@@ -118,7 +118,7 @@ module _ {S : Type 0} (rules : Rules S) (s : S) (start before now : Option (List
         sent_then before now new waited a.0 b.0 waiting (none ++ b.2) a.2 b.3,
       )) answered more
 
-      pub both_said : (last : S) (left second_left : Option (List ℕ)) (fault : Fault)
+      pub both_said : (last : S) (left second_left : Option (List ℕ)) (fault : ScriptError)
           → IfSome second (λ text. TellsSaid fault (HearsRead rules m last text second_left) (AreAnswersToFirst rules m text) now new waiting none)
           → IfSome (both_known start second) (λ t. TellsSaid fault (HearsAllRead rules s last t left second_left) (AreFirstAnswers rules s t) before new waited none)
       both_said last left second_left ReadFault more = of_each start second _ _ _ (λ input text a b. (

@@ -2,8 +2,8 @@
 use Rattle.std.proofs.Common.{◌≡◌, ◌≢◌, ℕ, Option, Some, None, List, [], ◌++◌, refl, sym, ap, ◌∙◌, IfSome, Result, Ok, Err, IfErr}
 use Rattle.std.specs.Io.KnownBytes.{Appends, Keeps}
 use Rattle.std.proofs.KnownBytes.{Appends-kept}
-use Rattle.ovs_script.specs.declared.fault.Fault.{Fault}
-use Rattle.ovs_script.specs.declared.fault.Fault.TheVariants.{ReadFault, WriteFault, TurnsSpent, NoMemory}
+use Rattle.ovs_script.specs.declared.script_error.ScriptError.{ScriptError}
+use Rattle.ovs_script.specs.declared.script_error.ScriptError.TheVariants.{ReadFault, WriteFault, TurnsSpent, NoMemory}
 use Rattle.ovs_script.specs.Sending.{AppendsAllBut, AppendsBeginning}
 use Rattle.ovs_script.specs.Said.{TellsSaid}
 use Rattle.ovs_script.proofs.Sent.{sent_then, sent_whole, beginning_sent}
@@ -40,7 +40,7 @@ module _ {A : Type 0} (before now : Option (List ℕ)) (waited waiting : List �
       (said, first t said all, (sent.0, Appends-kept before now new sent.0 sent.1 keeps, sent.2 ∙ ap (λ l. sent.0 ++ l) (sym is)))
 
   -- all was said, and then the run breaks off; for want of memory, with nothing written
-  pub said_behind : {T : Type 0} (of : Option A) (r : Result T Fault) (new : Option (List ℕ)) (same : List ℕ) (IsAll AtRead AtMemory : A → List ℕ → Type 0)
+  pub said_behind : {T : Type 0} (of : Option A) (r : Result T ScriptError) (new : Option (List ℕ)) (same : List ℕ) (IsAll AtRead AtMemory : A → List ℕ → Type 0)
       → r ≢ Err ReadFault → (r ≡ Err NoMemory → Keeps now new × (same ≡ waiting)) → ((t : A) (said : List ℕ) → IsAll t said → AtMemory t said)
       → IfSome of (λ t. (said : List ℕ) × IsAll t said × AppendsAllBut before now (waited ++ said) waiting)
       → IfErr r (λ fault. IfSome of (λ t. TellsSaid fault (AtRead t) (AtMemory t) before new waited same))

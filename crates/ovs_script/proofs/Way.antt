@@ -4,8 +4,8 @@ use Rattle.std.proofs.lemmas.Grind.{common_steps}
 use Rattle.std.specs.Io.KnownBytes.{Appends, prepend_known}
 use Rattle.std.proofs.KnownBytes.{Appends-nil, Appends-trans}
 use Rattle.ovs_script.specs.Sending.{AppendsAllBut, AppendsBeginning}
-use Rattle.ovs_script.specs.declared.fault.Fault.{Fault}
-use Rattle.ovs_script.specs.declared.fault.Fault.TheVariants.{ReadFault, WriteFault, TurnsSpent, NoMemory}
+use Rattle.ovs_script.specs.declared.script_error.ScriptError.{ScriptError}
+use Rattle.ovs_script.specs.declared.script_error.ScriptError.TheVariants.{ReadFault, WriteFault, TurnsSpent, NoMemory}
 use Rattle.ovs_script.specs.Lines.{lines_of, ended_lines, kept, IsUnbroken, IsCutAfter, TakesLine, TakesPart}
 use Rattle.ovs_script.specs.Rules.{Rules, SaysNothing, Says, SaysTo}
 use Rattle.ovs_script.specs.Texts.{AreAnswersToFirst, HaveAllEnded, HearsRead}
@@ -313,7 +313,7 @@ nothing_told None = tt
 nothing_told (Some text) = tt
 
 -- by any fault of reading a line
-pub stopped : {S : Type 0} (rules : Rules S) (first : S) (start before now : Option (List ℕ)) (waited waiting : List ℕ) (s : S) (n : ℕ) (left new : Option (List ℕ)) (fault : Fault)
+pub stopped : {S : Type 0} (rules : Rules S) (first : S) (start before now : Option (List ℕ)) (waited waiting : List ℕ) (s : S) (n : ℕ) (left new : Option (List ℕ)) (fault : ScriptError)
     → Progress rules first start before now waited waiting s n left → (fault ≡ ReadFault → TakesPart left new)
     → IfSome start (λ text. TellsSaid fault (HearsRead rules first s text new) (AreAnswersToFirst rules first text) before now waited waiting)
 stopped rules first start before now waited waiting s n left new ReadFault so_far took =

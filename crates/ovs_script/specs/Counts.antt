@@ -1,8 +1,8 @@
 -- What is counted of the devices of a run.
 use Rattle.std.specs.Prelude.{◌≡◌, ◌⊎◌, ℕ, ◌+◌, ◌-◌, ◌^◌, ◌≤◌, min, Result, Ok, Err, Option, Some, None, is_some}
 use Rattle.ovs_wire.specs.Counted.{Counting, one_more}
-use Rattle.ovs_script.specs.declared.fault.Fault.{Fault}
-use Rattle.ovs_script.specs.declared.fault.Fault.TheVariants.{ReadFault, WriteFault, TurnsSpent}
+use Rattle.ovs_script.specs.declared.script_error.ScriptError.{ScriptError}
+use Rattle.ovs_script.specs.declared.script_error.ScriptError.TheVariants.{ReadFault, WriteFault, TurnsSpent}
 use Rattle.ovs_script.specs.declared.run_end.RunEnd.{RunEnd}
 use Rattle.ovs_script.specs.declared.run_end.RunEnd.TheVariants as ends
 use Rattle.ovs_script.specs.Turns.{most_turns, IsSpentByCalls}
@@ -11,25 +11,25 @@ use Rattle.ovs_script.specs.RunEnd.{writes_failed_by}
 -- ---- one device
 
 -- the failures counted of a reader, which had so many before this answer: one more exactly at a read fault
-abbrev pub failed_reads : {T : Type 0} → ℕ → Result T Fault → ℕ
+abbrev pub failed_reads : {T : Type 0} → ℕ → Result T ScriptError → ℕ
 failed_reads n (Ok value) = n
 failed_reads n (Err ReadFault) = one_more n
 failed_reads n (Err _) = n
 
 -- the failures counted of a writer, which had so many before this answer: one more exactly at a write fault
-abbrev pub failed_writes : {T : Type 0} → ℕ → Result T Fault → ℕ
+abbrev pub failed_writes : {T : Type 0} → ℕ → Result T ScriptError → ℕ
 failed_writes n (Ok value) = n
 failed_writes n (Err WriteFault) = one_more n
 failed_writes n (Err _) = n
 
 -- what reading counts, from before to now: each call spends a turn, and the answer tells whether one failed
-pub record CountsReads {R T : Type 0} (before now : Counting R) (turns turns' : ℕ) (answer : Result T Fault) : Type 0 where
+pub record CountsReads {R T : Type 0} (before now : Counting R) (turns turns' : ℕ) (answer : Result T ScriptError) : Type 0 where
   pub calls : IsSpentByCalls (before.calls + turns) (now.calls + turns')
   pub spent : answer ≡ Err TurnsSpent → turns' ≡ 0
   pub failures : now.failures ≡ failed_reads before.failures answer
 
 -- what writing counts, from before to now: each call spends a turn, and the answer tells whether one failed
-pub record CountsWrites {W T : Type 0} (before now : Counting W) (turns turns' : ℕ) (answer : Result T Fault) : Type 0 where
+pub record CountsWrites {W T : Type 0} (before now : Counting W) (turns turns' : ℕ) (answer : Result T ScriptError) : Type 0 where
   pub calls : IsSpentByCalls (before.calls + turns) (now.calls + turns')
   pub spent : answer ≡ Err TurnsSpent → turns' ≡ 0
   pub failures : now.failures ≡ failed_writes before.failures answer
@@ -37,7 +37,7 @@ pub record CountsWrites {W T : Type 0} (before now : Counting W) (turns turns' :
 -- ---- a reader and a writer
 
 -- what a run over one text counts: each call on the reader and the writer spends a turn, and the answer tells which of them failed
-pub record CountsText {R W T : Type 0} (reader reader' : Counting R) (writer writer' : Counting W) (turns turns' : ℕ) (answer : Result T Fault) : Type 0 where
+pub record CountsText {R W T : Type 0} (reader reader' : Counting R) (writer writer' : Counting W) (turns turns' : ℕ) (answer : Result T ScriptError) : Type 0 where
   pub calls : IsSpentByCalls ((reader.calls + writer.calls) + turns) ((reader'.calls + writer'.calls) + turns')
   pub spent : answer ≡ Err TurnsSpent → turns' ≡ 0
   pub reads : reader'.failures ≡ failed_reads reader.failures answer
@@ -66,7 +66,7 @@ OneFailed {R} {M} reader reader' second second' =
     ⊎ ((reader'.failures ≡ reader.failures) × (counted_of (λ (m : Counting M). m.failures) second' ≡ one_more (counted_of (λ (m : Counting M). m.failures) second)))
 
 -- which of two cases an answer tells: at a read fault that a reader failed, and else that none did
-abbrev pub AnswerTells : {T : Type 0} → Result T Fault → Type 0 → Type 0 → Type 0
+abbrev pub AnswerTells : {T : Type 0} → Result T ScriptError → Type 0 → Type 0 → Type 0
 AnswerTells (Ok value) none_failed one_failed = none_failed
 AnswerTells (Err ReadFault) none_failed one_failed = one_failed
 AnswerTells (Err _) none_failed one_failed = none_failed
@@ -81,7 +81,7 @@ EndTells _ none_failed one_failed = none_failed
 
 -- what a run over all texts counts: each call spends a turn, and the answer tells which device failed
 pub record CountsTexts {R M W T : Type 0} (reader reader' : Counting R) (second second' : Option (Counting M)) (writer writer' : Counting W)
-    (turns turns' : ℕ) (answer : Result T Fault) : Type 0 where
+    (turns turns' : ℕ) (answer : Result T ScriptError) : Type 0 where
   pub calls : IsSpentByCalls (calls_of reader second writer + turns) (calls_of reader' second' writer' + turns')
   pub spent : answer ≡ Err TurnsSpent → turns' ≡ 0
   pub reads : AnswerTells answer (NoneFailed reader reader' second second') (OneFailed reader reader' second second')

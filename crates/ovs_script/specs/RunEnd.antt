@@ -4,8 +4,8 @@ use Rattle.ovs_wire.specs.Counted.{one_more}
 use Rattle.ovs_script.specs.declared.run_end.RunEnd.{RunEnd}
 use Rattle.ovs_script.specs.declared.run_end.RunEnd.TheVariants.{Clean, Refused}
 use Rattle.ovs_script.specs.declared.run_end.RunEnd.TheVariants as ends
-use Rattle.ovs_script.specs.declared.fault.Fault.{Fault}
-use Rattle.ovs_script.specs.declared.fault.Fault.TheVariants.{ReadFault, WriteFault, TurnsSpent, NoMemory}
+use Rattle.ovs_script.specs.declared.script_error.ScriptError.{ScriptError}
+use Rattle.ovs_script.specs.declared.script_error.ScriptError.TheVariants.{ReadFault, WriteFault, TurnsSpent, NoMemory}
 
 -- all was read that the script wanted to hear, and all was written
 abbrev pub is_whole : RunEnd → Bool
@@ -25,7 +25,7 @@ writes_failed_by n ends.WriteFault = one_more n
 writes_failed_by n _ = n
 
 -- the end that a fault makes
-abbrev pub end_for : Fault → RunEnd
+abbrev pub end_for : ScriptError → RunEnd
 end_for ReadFault = ends.ReadFault
 end_for WriteFault = ends.WriteFault
 end_for TurnsSpent = ends.TurnsSpent

@@ -1,8 +1,8 @@
 -- What is written of what was said.
 use Rattle.std.specs.Prelude.{ℕ, List, ◌++◌, Bool, true, false, Option}
 use Rattle.std.specs.Io.KnownBytes.{Appends}
-use Rattle.ovs_script.specs.declared.fault.Fault.{Fault}
-use Rattle.ovs_script.specs.declared.fault.Fault.TheVariants.{ReadFault, NoMemory}
+use Rattle.ovs_script.specs.declared.script_error.ScriptError.{ScriptError}
+use Rattle.ovs_script.specs.declared.script_error.ScriptError.TheVariants.{ReadFault, NoMemory}
 use Rattle.ovs_script.specs.declared.run_end.RunEnd.{RunEnd}
 use Rattle.ovs_script.specs.declared.run_end.RunEnd.TheVariants as ends
 use Rattle.ovs_script.specs.Sending.{AppendsAllBut}
@@ -18,7 +18,7 @@ WritesOutput _ IsAll before now = Unit {0}
 -- ---- where it breaks off
 
 -- of what waited and what was said all is written but what waits now; what was said is this at a read fault, and that where memory ran out
-abbrev pub TellsSaid : Fault → (List ℕ → Type 0) → (List ℕ → Type 0) → Option (List ℕ) → Option (List ℕ) → List ℕ → List ℕ → Type 0
+abbrev pub TellsSaid : ScriptError → (List ℕ → Type 0) → (List ℕ → Type 0) → Option (List ℕ) → Option (List ℕ) → List ℕ → List ℕ → Type 0
 TellsSaid ReadFault AtRead AtMemory before now waited waiting = (said : List ℕ) × AtRead said × AppendsAllBut before now (waited ++ said) waiting
 TellsSaid NoMemory AtRead AtMemory before now waited waiting = (said : List ℕ) × AtMemory said × AppendsAllBut before now (waited ++ said) waiting
 TellsSaid _ AtRead AtMemory before now waited waiting = Unit {0}

@@ -2,18 +2,18 @@
 //! answers to any writer, within a limited number of calls.
 #![tactic(auto)]
 
-mod fault;
+mod buffered;
 mod first_line;
 mod laws;
 mod line;
 mod line_json;
 mod lines;
-mod pending;
 mod refusal;
 mod run;
 mod run_end;
 mod schema_text;
 mod script;
+mod script_error;
 mod sending;
 mod turns;
 mod window;
@@ -25,4 +25,4 @@ pub use refusal::{SchemaRefusal, refused_line};
 pub use run::run_script;
 pub use run_end::RunEnd;
 pub use schema_text::read_schema;
-pub use script::{Closing, Script};
+pub use script::{Script, ScriptEnd};

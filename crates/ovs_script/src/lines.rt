@@ -4,8 +4,8 @@ ghost use Rattle.std.specs.Io.KnownBytes.{prepend_known};
 ghost use Rattle.ovs_script.specs.Lines.{most_read, kept, IsUnbroken, TakesLine, TakesPart};
 ghost use Rattle.ovs_script.specs.Counts.{CountsReads};
 
-use crate::fault::Fault;
 use crate::line::Line;
+use crate::script_error::ScriptError;
 use crate::turns::Turns;
 use crate::window::Window;
 use ovs_json::NoMemory;
@@ -50,18 +50,18 @@ pub(crate) fn next_line<R: Read>(
     window: &mut Window,
     line: &mut Line,
     turns: &mut Turns,
-) -> Result<bool, Fault>
+) -> Result<bool, ScriptError>
     ensures line { IfOk result (λ found. TakesLine
         (prepend_known window.old (R.remaining reader.old.device))
         (prepend_known window.new (R.remaining reader.new.device))
         (if found then Some line.new else None)) }
     // At a read fault nothing is left in the window, and what left the text is a part of a line.
-    ensures lost { result ≡ Err Fault.ReadFault → (window.new ≡ []) × TakesPart
+    ensures lost { result ≡ Err ScriptError.ReadFault → (window.new ≡ []) × TakesPart
         (prepend_known window.old (R.remaining reader.old.device)) (R.remaining reader.new.device) }
     // A line takes bytes that waited, or turns, of which each gives so many bytes at most.
     ensures paid { result ≡ Ok true → turns.new * most_read + length window.new < turns.old * most_read + length window.old }
     ensures counted { CountsReads reader.old reader.new turns.old turns.new result }
-    ensures not_write { result ≢ Err Fault.WriteFault }
+    ensures not_write { result ≢ Err ScriptError.WriteFault }
 {
     line.clear();
     loop {

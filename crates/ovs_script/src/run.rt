@@ -9,12 +9,12 @@ ghost use Rattle.ovs_script.specs.Texts.{texts_of, SaysToAll, IsOutput, AreAnswe
 ghost use Rattle.ovs_script.specs.Said.{TellsSaid, WritesOutput, WritesSaid};
 ghost use Rattle.ovs_script.specs.RunEnd.{is_whole, writes_failed_by};
 
-use crate::fault::Fault;
+use crate::buffered::Buffered;
 use crate::line::Line;
 use crate::lines::next_line;
-use crate::pending::Pending;
 use crate::run_end::RunEnd;
 use crate::script::Script;
+use crate::script_error::ScriptError;
 use crate::turns::Turns;
 use crate::window::Window;
 use ovs_wire::Counted;
@@ -27,9 +27,9 @@ fn run_lines<S: Script, R: Read, W: Write>(
     script: &mut S,
     reader: &mut Counted<R>,
     writer: &mut Counted<W>,
-    pending: &mut Pending,
+    pending: &mut Buffered,
     turns: &mut Turns,
-) -> Result<(), Fault>
+) -> Result<(), ScriptError>
     ensures answers { OnOk result (IfSome (R.remaining reader.old.device) (λ text. (said : List ℕ)
         × SaysTo S.rules script.old text said script.new
         × AppendsAllBut (W.contents writer.old.device) (W.contents writer.new.device) (pending.old ++ said) pending.new)) }
@@ -63,7 +63,7 @@ fn run_lines<S: Script, R: Read, W: Write>(
             pending.send(writer, turns)?;
         }
     }
-    Err(Fault::TurnsSpent)
+    Err(ScriptError::TurnsSpent)
 }
 
 // Reads the lines of all texts, and puts the answers behind what waits already.
@@ -73,9 +73,9 @@ fn run_texts<S: Script, R: Read, M: Read, W: Write>(
     reader: &mut Counted<R>,
     second: &mut Option<Counted<M>>,
     writer: &mut Counted<W>,
-    pending: &mut Pending,
+    pending: &mut Buffered,
     turns: &mut Turns,
-) -> Result<(), Fault>
+) -> Result<(), ScriptError>
     ensures answers { OnOk result (IfSome (texts_of (R.remaining reader.old.device) (λ m. M.remaining m.device) second.old) (λ t. (said : List ℕ)
         × SaysToAll S.rules script.old t said script.new
         × AppendsAllBut (W.contents writer.old.device) (W.contents writer.new.device) (pending.old ++ said) pending.new)) }
@@ -107,9 +107,9 @@ fn finish<S: Script, W: Write>(
     alloc: Global,
     script: &mut S,
     writer: &mut Counted<W>,
-    pending: &mut Pending,
+    pending: &mut Buffered,
     turns: &mut Turns,
-) -> Result<bool, Fault>
+) -> Result<bool, ScriptError>
     ensures whole { IfOk result (λ is_content. (words : List ℕ) × S.rules.Closes script.old words is_content
         × Appends (W.contents writer.old.device) (W.contents writer.new.device) (pending.old ++ words)) }
 
@@ -117,11 +117,11 @@ fn finish<S: Script, W: Write>(
     ensures begun { OnErr result ((words : List ℕ) × AreLastWordsSoFar S.rules script.old words × (others : List ℕ)
         × AppendsAllBut (W.contents writer.old.device) (W.contents writer.new.device) (pending.old ++ words) (pending.new ++ others)) }
     // Without memory nothing is written, and the same waits.
-    ensures unwritten { result ≡ Err Fault.NoMemory
+    ensures unwritten { result ≡ Err ScriptError.NoMemory
         → Keeps (W.contents writer.old.device) (W.contents writer.new.device) × (pending.new ≡ pending.old) }
 
     ensures counted { CountsWrites writer.old writer.new turns.old turns.new result }
-    ensures not_read { result ≢ Err Fault.ReadFault }
+    ensures not_read { result ≢ Err ScriptError.ReadFault }
 {
     let closing = script.close(alloc)?;
     pending.push(&closing.text)?;
@@ -136,9 +136,9 @@ fn run_to_end<S: Script, R: Read, M: Read, W: Write>(
     reader: &mut Counted<R>,
     second: &mut Option<Counted<M>>,
     writer: &mut Counted<W>,
-    pending: &mut Pending,
+    pending: &mut Buffered,
     turns: &mut Turns,
-) -> Result<bool, Fault>
+) -> Result<bool, ScriptError>
     ensures whole { IfOk result (λ is_content. IfSome (texts_of (R.remaining reader.old.device) (λ m. M.remaining m.device) second.old) (λ t. (output : List ℕ)
         × IsOutput S.rules script.old t output is_content
         × Appends (W.contents writer.old.device) (W.contents writer.new.device) (pending.old ++ output))) }
@@ -163,28 +163,28 @@ fn run_to_end<S: Script, R: Read, M: Read, W: Write>(
 // then comes in the place of the other.
 fn give_up<W: Write>(
     writer: &mut Counted<W>,
-    pending: &mut Pending,
+    pending: &mut Buffered,
     turns: &mut Turns,
-    fault: Fault,
+    fault: ScriptError,
 ) -> RunEnd
     ensures not_whole { is_whole result ≡ false }
     ensures begun { AppendsBeginning (W.contents writer.old.device) (W.contents writer.new.device) pending.old }
     // A read fault and want of memory are answered only where all that waited is written.
-    ensures read_fault { result ≡ RunEnd.ReadFault → (fault ≡ Fault.ReadFault)
+    ensures read_fault { result ≡ RunEnd.ReadFault → (fault ≡ ScriptError.ReadFault)
         × Appends (W.contents writer.old.device) (W.contents writer.new.device) pending.old }
-    ensures no_memory { result ≡ RunEnd.NoMemory → (fault ≡ Fault.NoMemory)
+    ensures no_memory { result ≡ RunEnd.NoMemory → (fault ≡ ScriptError.NoMemory)
         × Appends (W.contents writer.old.device) (W.contents writer.new.device) pending.old }
     ensures calls { IsSpentByCalls (writer.old.calls + turns.old) (writer.new.calls + turns.new) }
     // A run that ends for want of turns has none left, where that fault says so truly.
-    ensures spent { result ≡ RunEnd.TurnsSpent → (fault ≡ Fault.TurnsSpent → turns.old ≡ 0) → turns.new ≡ 0 }
+    ensures spent { result ≡ RunEnd.TurnsSpent → (fault ≡ ScriptError.TurnsSpent → turns.old ≡ 0) → turns.new ≡ 0 }
     ensures write_failures { (n : ℕ) → writer.old.failures ≡ failed_writes {T = Unit {0}} n (Err fault) → writer.new.failures ≡ writes_failed_by n result }
 {
     match fault {
-        Fault::ReadFault | Fault::NoMemory => match pending.send(writer, turns) {
+        ScriptError::ReadFault | ScriptError::NoMemory => match pending.send(writer, turns) {
             Ok(()) => RunEnd::from(fault),
             Err(other) => RunEnd::from(other),
         },
-        Fault::WriteFault | Fault::TurnsSpent => RunEnd::from(fault),
+        ScriptError::WriteFault | ScriptError::TurnsSpent => RunEnd::from(fault),
     }
 }
 
@@ -219,7 +219,7 @@ pub fn run_script<S: Script, R: Read, M: Read, W: Write>(
     // Where the script hears no line of a text, its reader isn't called.
     ensures unread { LeavesUnread S.rules script.old (R.remaining reader.old.device) reader.old reader.new second.old second.new }
 {
-    let mut pending = Pending::new(alloc);
+    let mut pending = Buffered::new(alloc);
     let mut turns = Turns::new();
     match run_to_end(
         alloc,

@@ -2,7 +2,7 @@
 ghost use Rattle.std.specs.Prelude.{◌≡◌};
 ghost use Rattle.ovs_script.specs.RunEnd.{status_of};
 
-use crate::fault::Fault;
+use crate::script_error::ScriptError;
 
 /// How a run ended.
 #[derive(Clone, Copy, Debug, PartialEq, Eq)]
@@ -35,17 +35,17 @@ impl RunEnd {
     }
 }
 
-impl From<Fault> for RunEnd {
+impl From<ScriptError> for RunEnd {
     ghost use Rattle.ovs_script.specs.RunEnd.{end_for};
 
     ghost from_gives = { λ fault end. end ≡ end_for fault };
 
-    fn from(fault: Fault) -> RunEnd {
+    fn from(fault: ScriptError) -> RunEnd {
         match fault {
-            Fault::ReadFault => RunEnd::ReadFault,
-            Fault::WriteFault => RunEnd::WriteFault,
-            Fault::TurnsSpent => RunEnd::TurnsSpent,
-            Fault::NoMemory => RunEnd::NoMemory,
+            ScriptError::ReadFault => RunEnd::ReadFault,
+            ScriptError::WriteFault => RunEnd::WriteFault,
+            ScriptError::TurnsSpent => RunEnd::TurnsSpent,
+            ScriptError::NoMemory => RunEnd::NoMemory,
         }
     }
 }

@@ -6,14 +6,14 @@ ghost use Rattle.ovs_script.specs.Counts.{CountsReads, CountsWrites};
 ghost use Rattle.ovs_script.specs.Refusal.{schema_line};
 ghost use Rattle.ovs_script.specs.SchemaText.{schema_of_text, GivesSchema, WritesRefusal, CountsSchema, EndCounts};
 
-use crate::fault::Fault;
+use crate::buffered::Buffered;
 use crate::first_line::schema_of_line;
 use crate::line::Line;
 use crate::line_json::LineFault;
 use crate::lines::next_line;
-use crate::pending::Pending;
 use crate::refusal::SchemaRefusal;
 use crate::run_end::RunEnd;
+use crate::script_error::ScriptError;
 use crate::turns::Turns;
 use crate::window::Window;
 use ovs_json::NoMemory;
@@ -27,10 +27,10 @@ fn hear_schema<R: Read>(
     alloc: Global,
     reader: &mut Counted<R>,
     turns: &mut Turns,
-) -> Result<Result<Schema, SchemaRefusal>, Fault>
+) -> Result<Result<Schema, SchemaRefusal>, ScriptError>
     ensures value { IfOk result (λ answer. IfSome (R.remaining reader.old.device) (λ text. answer ≡ schema_of_text text)) }
     ensures counted { CountsReads reader.old reader.new turns.old turns.new result }
-    ensures not_write { result ≢ Err Fault.WriteFault }
+    ensures not_write { result ≢ Err ScriptError.WriteFault }
 {
     let mut window = Window::new(alloc)?;
     let mut line = Line::new(alloc);
@@ -53,12 +53,12 @@ fn write_refusal<W: Write>(
     refusal: SchemaRefusal,
     writer: &mut Counted<W>,
     turns: &mut Turns,
-) -> Result<(), Fault>
+) -> Result<(), ScriptError>
     ensures told { OnOk result (Appends (W.contents writer.old.device) (W.contents writer.new.device) (schema_line refusal)) }
     ensures counted { CountsWrites writer.old writer.new turns.old turns.new result }
-    ensures not_read { result ≢ Err Fault.ReadFault }
+    ensures not_read { result ≢ Err ScriptError.ReadFault }
 {
-    let mut pending = Pending::new(alloc);
+    let mut pending = Buffered::new(alloc);
     let line = refusal_line(alloc, refusal)?;
     pending.push(line.as_str())?;
     pending.send(writer, turns)

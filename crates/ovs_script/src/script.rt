@@ -6,7 +6,7 @@ use std::alloc::Global;
 
 /// The last words of a script.
 #[derive(Debug, Drop)]
-pub struct Closing {
+pub struct ScriptEnd {
     /// What is written behind the answers.
     pub text: String,
     /// Whether the script is content with what it heard.
@@ -42,6 +42,6 @@ pub trait Script {
         ensures value { result ≡ rules.is_over self.now };
 
     /// Says the last words. After this the script is not asked again.
-    fn close(&mut self, alloc: Global) -> Result<Closing, NoMemory>
+    fn close(&mut self, alloc: Global) -> Result<ScriptEnd, NoMemory>
         ensures closes { IfOk result (λ closing. rules.Closes self.old (string_bytes closing.text) closing.is_content) };
 }

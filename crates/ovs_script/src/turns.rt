@@ -2,7 +2,7 @@
 ghost use Rattle.std.specs.Prelude.{◌≡◌, ◌+◌, OnOk, OnErr, IfErr};
 ghost use Rattle.ovs_script.specs.Turns.{most_turns};
 
-use crate::fault::Fault;
+use crate::script_error::ScriptError;
 use std::marker::Model;
 
 /// How many read and write calls one run makes at most.
@@ -38,13 +38,13 @@ impl Turns {
     }
 
     /// Spends a turn; `TurnsSpent` where none is left.
-    pub(crate) fn take(&mut self) -> Result<(), Fault>
+    pub(crate) fn take(&mut self) -> Result<(), ScriptError>
         ensures one { OnOk result (self.new + 1 ≡ self.old) }
         ensures none { OnErr result ((self.old ≡ 0) × (self.new ≡ 0)) }
-        ensures fault { IfErr result (λ fault. fault ≡ Fault.TurnsSpent) }
+        ensures fault { IfErr result (λ fault. fault ≡ ScriptError.TurnsSpent) }
     {
         if self.left == 0 {
-            return Err(Fault::TurnsSpent);
+            return Err(ScriptError::TurnsSpent);
         }
         self.left -= 1;
         Ok(())

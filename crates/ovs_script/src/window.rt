@@ -5,7 +5,7 @@ ghost use Rattle.std.specs.Io.KnownBytes.{prepend_known, Keeps, IsAtEnd, ReadCon
 ghost use Rattle.ovs_script.specs.Lines.{most_read};
 ghost use Rattle.ovs_script.specs.Counts.{CountsReads};
 
-use crate::fault::Fault;
+use crate::script_error::ScriptError;
 use crate::turns::Turns;
 use ovs_json::NoMemory;
 use ovs_wire::{Counted, is_passing};
@@ -69,7 +69,7 @@ impl Window {
         &mut self,
         reader: &mut Counted<R>,
         turns: &mut Turns,
-    ) -> Result<bool, Fault>
+    ) -> Result<bool, ScriptError>
         requires taken { self.old ≡ [] }
         ensures bytes { OnOk result (Keeps (R.remaining reader.old.device) (prepend_known self.new (R.remaining reader.new.device))) }
         ensures none { OnErr result ((self.new ≡ []) × Keeps (R.remaining reader.old.device) (R.remaining reader.new.device)) }
@@ -77,7 +77,7 @@ impl Window {
         ensures room { OnOk result (length self.new ≤ most_read) }
         ensures turn { OnOk result (turns.new + 1 ≤ turns.old) }
         ensures counted { CountsReads reader.old reader.new turns.old turns.new result }
-        ensures fault { IfErr result (λ fault. (fault ≡ Fault.ReadFault) ⊎ (fault ≡ Fault.TurnsSpent)) }
+        ensures fault { IfErr result (λ fault. (fault ≡ ScriptError.ReadFault) ⊎ (fault ≡ ScriptError.TurnsSpent)) }
     {
         let len = read_some(reader, self.room.as_mut_slice(), turns)?;
         self.from = 0;
@@ -97,19 +97,19 @@ fn read_some<R: Read>(
     reader: &mut Counted<R>,
     room: &mut [u8],
     turns: &mut Turns,
-) -> Result<usize, Fault>
+) -> Result<usize, ScriptError>
     ensures bound { ReadsAtMost result room.new }
     ensures bytes { ReadConsumes (R.remaining reader.old.device) (R.remaining reader.new.device) result room.new }
     ensures turn { OnOk result (turns.new + 1 ≤ turns.old) }
     ensures counted { CountsReads reader.old reader.new turns.old turns.new result }
-    ensures fault { IfErr result (λ fault. (fault ≡ Fault.ReadFault) ⊎ (fault ≡ Fault.TurnsSpent)) }
+    ensures fault { IfErr result (λ fault. (fault ≡ ScriptError.ReadFault) ⊎ (fault ≡ ScriptError.TurnsSpent)) }
 {
     loop {
         turns.take()?;
         match reader.read(room) {
             Ok(len) => return Ok(len),
             Err(error) if is_passing(&error) => {}
-            Err(_) => return Err(Fault::ReadFault),
+            Err(_) => return Err(ScriptError::ReadFault),
         }
     }
 }

@@ -1,7 +1,7 @@
 //! Why a node over sockets can't be run.
 
 use ovs_node::NodeError;
-use ovs_node_threads::NotRun;
+use ovs_node_threads::RunError;
 use ovs_types::NoMemory;
 use std::alloc::{AllocError, AllocFailed};
 use std::io;
@@ -58,11 +58,11 @@ impl From<NodeError> for ServerError {
     }
 }
 
-impl From<NotRun> for ServerError {
-    fn from(error: NotRun) -> ServerError {
+impl From<RunError> for ServerError {
+    fn from(error: RunError) -> ServerError {
         match error {
-            NotRun::NoMemory => ServerError::NoMemory,
-            NotRun::NotBack => ServerError::NotBack,
+            RunError::NoMemory => ServerError::NoMemory,
+            RunError::NotBack => ServerError::NotBack,
         }
     }
 }

@@ -78,7 +78,14 @@ impl<R: NodeRuntime + Log> NodeServer<R> {
     pub fn relay(rt: R, alloc: Global, plan: RelayPlan<'_>) -> Result<NodeServer<R>, ServerError> {
         let shutdown_flag = ShutdownFlag::new(alloc)?;
         let sockets = WorkerSockets::new(rt, alloc, plan.listen, plan.accepts, &shutdown_flag)?;
-        let upstreams = Upstreams::new(rt, alloc, plan.upstreams, plan.tries, &shutdown_flag)?;
+        let upstreams = Upstreams::new(
+            rt,
+            alloc,
+            plan.upstreams,
+            plan.tries,
+            plan.most_bytes,
+            &shutdown_flag,
+        )?;
         let mut shutdown = Shutdown::new(alloc, shutdown_flag);
         shutdown.add(&upstreams.wakers)?;
         shutdown.add(&upstreams.pause_wakers)?;

@@ -20,8 +20,8 @@ use ovs_node::{
     Parts, Report, View,
 };
 use ovs_node_threads::{
-    Counters, ForwardingDesk, LockedDesk, NodeThreads, RelayThreads, Shared, SharedSide,
-    UnusedPoller, Upstream, UpstreamSender, run_relay,
+    Counters, ForwardingDesk, LockedForwarder, NodeThreads, RelayThreads, Shared,
+    SharedUpstreamHandler, UnusedPoller, Upstream, UpstreamSender, run_relay,
 };
 use ovs_recorded_desk::{DeskName, DeskStep, RecordedDesk, relay_desk_sends};
 use ovs_sockets::{Shutdown, SocketPoller, SocketWaker};
@@ -45,6 +45,8 @@ pub struct RelayPlan<'a> {
     pub accepts: Option<u32>,
     /// How many connections with each upstream are tried at most, where there is a bound.
     pub tries: Option<u32>,
+    /// How many bytes a message of an upstream may have.
+    pub most_bytes: usize,
     /// Whether it comes to its end once a link was refused, an upstream can't be followed, or none is tried any more.
     pub ends_on_refusal: bool,
     /// Whether it drops the links of older epochs once a newer one is published.
@@ -84,11 +86,11 @@ impl<R: Net + Log + Copy + Drop> RelayRole<R> {
 // What a relay's threads share beside its node's own.
 #[derive(Drop)]
 struct RelayShared<'x, N: DeskName, R: Wait> {
-    desk: LockedDesk<'x, N, R>,
+    desk: LockedForwarder<'x, N, R>,
     // Of the workers.
     wakers: Vec<SocketWaker>,
     // Of the source's thread.
-    upward: SocketWaker,
+    uplink_waker: SocketWaker,
     counters: Counters,
 }
 
@@ -100,17 +102,19 @@ impl<'x, N: DeskName, R: Wait> RelayShared<'x, N, R> {
         database: Text,
         opened: Opened<DeskStep>,
         wakers: Vec<SocketWaker>,
-        upward: Vec<SocketWaker>,
+        uplink_wakers: Vec<SocketWaker>,
     ) -> Result<RelayShared<'x, N, R>, ServerError>
         requires name { (opened.seen.book ≡ N.book) × (database ≡ N.database) }
     {
         let (desk, _known) = RecordedDesk::new(alloc, database, opened);
-        let mut upward = upward.into_iter();
-        let upward = upward.next().ok_or(ServerError::Node(NodeError::BadCount))?;
+        let mut uplink_wakers = uplink_wakers.into_iter();
+        let uplink_waker = uplink_wakers
+            .next()
+            .ok_or(ServerError::Node(NodeError::BadCount))?;
         Ok(RelayShared {
-            desk: LockedDesk::new(rt, desk),
+            desk: LockedForwarder::new(rt, desk),
             wakers,
-            upward,
+            uplink_waker,
             counters: Counters::new(),
         })
     }
@@ -135,7 +139,7 @@ type RelaySocketThreads<'a, 'x, K, Q, N, R> = RelayThreads<
     Q,
     UpstreamSockets<R>,
     SocketPoller<R>,
-    LockedDesk<'x, N, R>,
+    LockedForwarder<'x, N, R>,
     SocketWaker,
 >;
 
@@ -177,7 +181,7 @@ fn add_upstreams<'a, 'x, K: NodeName, Q: FeedName, N: DeskName + Send, R: Wait +
         let upstream = Upstream {
             sender,
             connector,
-            source: SharedSide::new(alloc, source.take()),
+            source: SharedUpstreamHandler::new(alloc, source.take()),
         };
         threads.add_feed(upstream, view)?;
     }
@@ -265,7 +269,7 @@ pub(crate) fn run_relay_node<
     } = sockets;
     let Upstreams {
         connectors,
-        wakers: upward,
+        wakers: uplink_wakers,
         ..
     } = upstreams;
     let own = OwnParts {
@@ -274,7 +278,7 @@ pub(crate) fn run_relay_node<
         connectors,
         views,
     };
-    let common = RelayShared::<'x, N, R>::new(rt, alloc, database, opened, wakers, upward)?;
+    let common = RelayShared::<'x, N, R>::new(rt, alloc, database, opened, wakers, uplink_wakers)?;
     let observer = LogObserver::new(rt, &*shutdown, UNFED, ends_on_refusal, ends_on_refusal);
     let report = run_threads(
         rt, alloc, schema, &queue, &board, &common, &observer, node, own,
@@ -319,7 +323,7 @@ fn run_threads<
         board: &*board,
         desk: &common.desk,
         wakers: &common.wakers,
-        upward: &common.upward,
+        uplink_waker: &common.uplink_waker,
         counters: &common.counters,
         observer: &*observer,
         limits: LIMITS,

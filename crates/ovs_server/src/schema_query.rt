@@ -7,7 +7,7 @@ use log::{Log, error};
 use ovs_json::Text;
 use ovs_node::NodeError;
 use ovs_schema_query::{SchemaReply, query_schema};
-use ovs_sockets::{ShutdownFlag, Upward};
+use ovs_sockets::{ShutdownFlag, Uplink};
 use ovs_types::Schema;
 use ovs_wire::Counted;
 use std::alloc::Global;
@@ -32,7 +32,8 @@ fn tell<R: Log>(rt: &R, upstream: Option<SocketAddr>, database: &str, reply: &Sc
 }
 
 /// The schema of the database of this name at the first of these upstreams, whose addresses are asked in turn, with growing pauses, until
-/// one tells it. So many connections are tried at most, or any number. The first reply that is none is told on the log.
+/// one tells it. So many connections are tried at most, or any number. A message of the upstream may have `most_bytes`. The first reply that
+/// is none is told on the log.
 ///
 /// # Errors
 /// `Node` where there is no upstream, or no address of it; `NoSchema` where no connection is left to try; `System`; `NoMemory`.
@@ -42,36 +43,52 @@ pub fn schema_of_upstream<R: NodeRuntime + Log>(
     upstreams: &[Vec<SocketAddr>],
     database: &str,
     tries: Option<u32>,
+    most_bytes: usize,
 ) -> Result<Schema, ServerError> {
     let Some(addresses) = upstreams.first() else {
         return Err(ServerError::Node(NodeError::BadCount));
     };
     let shutdown_flag = ShutdownFlag::new(alloc)?;
     let addresses = addresses.as_slice();
-    let (mut upward, _wakers) = Upward::new(rt, alloc, addresses, tries, &shutdown_flag)?;
+    let (mut uplink, _wakers) = Uplink::new(
+        rt,
+        alloc,
+        addresses,
+        tries,
+        most_bytes,
+        &shutdown_flag,
+    )?;
     let mut has_told = false;
     for _ in rt.forever() {
-        if !upward.next() {
+        if !uplink.next() {
             break;
         }
-        let Some((reader, writer)) = upward.open() else {
+        let Some((reader, writer)) = uplink.open() else {
             continue;
         };
         let name = Text::new(alloc, database)?;
         let (mut reader, mut writer) = (Counted::new(reader), Counted::new(writer));
-        let queried = query_schema(alloc, name, &mut reader, &mut writer, LIMITS, MOST_TURNS);
+        let queried = query_schema(
+            alloc,
+            name,
+            &mut reader,
+            &mut writer,
+            most_bytes,
+            LIMITS,
+            MOST_TURNS,
+        );
         match queried.reply {
             Some(SchemaReply::Schema(schema)) => return Ok(schema),
             Some(reply) => {
                 if !has_told {
-                    tell(&rt, upward.address(), database, &reply);
+                    tell(&rt, uplink.address(), database, &reply);
                 }
                 has_told = true;
             }
-            None => upward.lost(queried.ended),
+            None => uplink.lost(queried.ended),
         }
     }
-    match upward.address() {
+    match uplink.address() {
         Some(upstream) => Err(ServerError::NoSchema(upstream)),
         None => Err(ServerError::Node(NodeError::BadCount)),
     }

@@ -206,7 +206,7 @@ fn run_threads<
         queue: &*queue,
         board: &*board,
         desk: &common.desk,
-        upward: &common.desk,
+        uplink_waker: &common.desk,
         wakers: &common.wakers,
         counters: &common.counters,
         observer: &*observer,

@@ -6,10 +6,10 @@ use log::{Log, error, info};
 use ovs_follow::InputFault;
 use ovs_node_threads::Connector;
 use ovs_session::Ended;
-use ovs_sockets::{FromUpstream, ShutdownFlag, SocketWaker, ToUpstream, Upward, UpwardWakers};
+use ovs_sockets::{FromUpstream, ShutdownFlag, SocketWaker, ToUpstream, Uplink, UpwardWakers};
 use ovs_types::TxnId;
 use ovs_upstream::UpError;
-use ovs_wire::{FrameError, MAX_MESSAGE_BYTES};
+use ovs_wire::FrameError;
 use std::alloc::{AllocError, Global};
 use std::net::{Net, SocketAddr};
 use std::sync::Arc;
@@ -18,7 +18,9 @@ use std::sync::Arc;
 #[derive(Drop)]
 pub(crate) struct UpstreamSockets<R: Net + Log + Drop> {
     rt: R,
-    upward: Upward<R>,
+    // How many bytes a message of it may have.
+    most_bytes: usize,
+    uplink: Uplink<R>,
     // What was wrong with what it said in the session before, if anything was.
     fault: Option<InputFault>,
     refusals: Option<Arc<UpstreamRefusals>>,
@@ -46,15 +48,16 @@ impl<R: Net + Log + Drop> UpstreamSockets<R> {
         if self.fault == Some(fault) {
             return;
         }
-        let (rt, Some(address)) = (&self.rt, self.upward.address()) else {
+        let (rt, Some(address)) = (&self.rt, self.uplink.address()) else {
             return;
         };
+        let most_bytes = self.most_bytes;
         match fault {
             InputFault::Message(UpError::OtherSchema) => {
                 error!(rt; "upstream {address} has another schema");
             }
             InputFault::Stream(FrameError::TooLong) => {
-                error!(rt; "upstream {address} sent a message above {MAX_MESSAGE_BYTES} bytes");
+                error!(rt; "upstream {address} sent a message above {most_bytes} bytes");
             }
             other => info!(rt; "upstream {address} is refused: {other}"),
         }
@@ -68,16 +71,20 @@ impl<R: Net + Log + Drop> Connector for UpstreamSockets<R> {
 
     ghost admits = { λ _ _. Unit {0} };
 
+    fn most_bytes(&self) -> usize {
+        self.most_bytes
+    }
+
     fn next(&mut self) -> bool {
-        self.upward.next()
+        self.uplink.next()
     }
 
     fn open(&mut self, _asked: TxnId) -> Option<(FromUpstream, ToUpstream)> {
-        self.upward.open()
+        self.uplink.open()
     }
 
     fn lost(&mut self, ended: Ended, fault: Option<InputFault>) {
-        self.upward.lost(ended);
+        self.uplink.lost(ended);
         if let Some(fault) = fault {
             self.tell(fault);
             if is_unfit(fault) {
@@ -97,22 +104,31 @@ pub(crate) struct Upstreams<R: Net + Log + Drop> {
 }
 
 impl<R: Net + Log + Copy + Drop> Upstreams<R> {
-    /// Each at its addresses, so many connections with each, or any number.
+    /// Each at its addresses, so many connections with each, or any number. A message of theirs may have `most_bytes`.
     pub(crate) fn new(
         rt: R,
         alloc: Global,
         upstreams: &[Vec<SocketAddr>],
         tries: Option<u32>,
+        most_bytes: usize,
         shutdown_flag: &ShutdownFlag,
     ) -> Result<Upstreams<R>, ServerError> {
         let mut connectors = Vec::new(alloc);
         let (mut wakers, mut pause_wakers) = (Vec::new(alloc), Vec::new(alloc));
         for addresses in upstreams {
             let addresses = addresses.as_slice();
-            let (upward, woken_by) = Upward::new(rt, alloc, addresses, tries, shutdown_flag)?;
+            let (uplink, woken_by) = Uplink::new(
+                rt,
+                alloc,
+                addresses,
+                tries,
+                most_bytes,
+                shutdown_flag,
+            )?;
             connectors.push(UpstreamSockets {
                 rt,
-                upward,
+                most_bytes,
+                uplink,
                 fault: None,
                 refusals: None,
             })?;

@@ -11,31 +11,31 @@ use Rattle.ovs_reader.specs.Telling.{told_some, reached, moved_past, after_some}
 use Rattle.ovs_reader.specs.declared.subscription.Subscription.{Subscription}
 use Rattle.ovs_reader.proofs.Parts.{all_told, all_past}
 use Rattle.ovs_views.specs.Published.{GoesOn, ViewSessionValue}
-use Rattle.ovs_service.specs.declared.asker.DeskCall.{DeskCall}
-use Rattle.ovs_service.specs.declared.due.Due.{Due}
+use Rattle.ovs_service.specs.declared.session_token.AuthorityCall.{AuthorityCall}
+use Rattle.ovs_service.specs.declared.pending.Pending.{Pending}
 use Rattle.ovs_service.specs.Calls.{AreTasksOf, IsAllTold, most_told, shown_to}
 use Rattle.ovs_service.specs.Client.{ClientValue, Hears}
 use Rattle.ovs_service.specs.Deeds.{tasks}
 
-abbrev client : ViewSessionValue → ℕ → List DeskCall → List Due → ClientValue
-client session who calls due = record { session = session; who = who; calls = calls; due = due }
+abbrev client : ViewSessionValue → ℕ → List AuthorityCall → List Pending → ClientValue
+client session session_id calls due = record { session = session; session_id = session_id; calls = calls; due = due }
 
-pub hears_at : (schema : SchemaValue) (message : Message) (old : ClientValue) (session now : ViewSessionValue) (shown : List Step) (who : ℕ) (calls : List DeskCall)
-    (due room new : List Due) (t : TurnValue)
-    → record { session = session; who = who; calls = calls; due = due } ≡ old → GoesOn schema session.last shown
+pub hears_at : (schema : SchemaValue) (message : Message) (old : ClientValue) (session now : ViewSessionValue) (shown : List Step) (session_id : ℕ) (calls : List AuthorityCall)
+    (due room new : List Pending) (t : TurnValue)
+    → record { session = session; session_id = session_id; calls = calls; due = due } ≡ old → GoesOn schema session.last shown
     → is_over session.session.start (folded_by schema shown) ≡ false
     → t ≡ turn session.session (folded_by schema shown) message → now ≡ shown_to shown (after_turn session.session (folded_by schema shown) message)
-    → room ≡ due → (added : List Due) × AreTasksOf t (tasks added) × (new ≡ room ++ added)
-    → Hears schema shown message old (record { session = now; who = who; calls = calls; due = new })
-hears_at schema message old session now shown who calls due room new t is goes_on lasts turned after same (added, gives, e) =
-    subst (λ (o : ClientValue). Hears schema shown message o (record { session = now; who = who; calls = calls; due = new })) is (record {
+    → room ≡ due → (added : List Pending) × AreTasksOf t (tasks added) × (new ≡ room ++ added)
+    → Hears schema shown message old (record { session = now; session_id = session_id; calls = calls; due = new })
+hears_at schema message old session now shown session_id calls due room new t is goes_on lasts turned after same (added, gives, e) =
+    subst (λ (o : ClientValue). Hears schema shown message o (record { session = now; session_id = session_id; calls = calls; due = new })) is (record {
       goes_on = goes_on;
       lasts = lasts;
       added = added;
       gives = subst (λ (made : TurnValue). AreTasksOf made (tasks added)) turned gives;
-      after = ap (λ (s : ViewSessionValue). client s who calls new) after
-          ∙ ap (λ (d : List Due). client (shown_to shown (after_turn session.session (folded_by schema shown) message)) who calls d)
-          (e ∙ ap (λ (l : List Due). l ++ added) same);
+      after = ap (λ (s : ViewSessionValue). client s session_id calls new) after
+          ∙ ap (λ (d : List Pending). client (shown_to shown (after_turn session.session (folded_by schema shown) message)) session_id calls d)
+          (e ∙ ap (λ (l : List Pending). l ++ added) same);
     })
 
 -- where one call told fewer than it may, all that is shown is told

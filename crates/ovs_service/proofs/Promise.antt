@@ -3,6 +3,7 @@ use Rattle.std.proofs.Common.{inl, inr, ◌≡◌, ℕ, Bool, List, [], ◌∷�
 use Rattle.ovs_types.specs.Schema.{SchemaValue}
 use Rattle.ovs_links.specs.declared.step.Step.{Step}
 use Rattle.ovs_authority.specs.declared.ask.Ask.{Ask}
+use Rattle.ovs_wire.specs.Limits.{most_bytes}
 use Rattle.ovs_wire.specs.Frames.{AreFrames, Ending}
 use Rattle.ovs_wire.specs.declared.message.Message.{Message}
 use Rattle.ovs_session.specs.Counting.{IsAfter}
@@ -12,7 +13,7 @@ use Rattle.ovs_session.specs.Whole.{Answers, AnswersAll}
 use Rattle.ovs_session.specs.declared.ended.Ended.{Ended}
 use Rattle.ovs_session.specs.declared.ended.Ended.TheVariants.{Closed, BadInput}
 use Rattle.ovs_session.proofs.Whole.{answers_from_new, answers_all}
-use Rattle.ovs_service.specs.declared.asker.DeskCall.{DeskCall}
+use Rattle.ovs_service.specs.declared.session_token.AuthorityCall.{AuthorityCall}
 use Rattle.ovs_service.specs.Texts.{AreTextsOf}
 use Rattle.ovs_service.specs.Deeds.{Task, ToSay, task_of, tasks, Settles}
 use Rattle.ovs_views.specs.Published.{ViewSessionValue}
@@ -37,10 +38,10 @@ no_task (m ∷ ms) left e = cc
 
 module _ (schema : SchemaValue) (replies : Ask → Option Message → Type 0) (owes : Bool → List Step → Message → Type 0) where
   -- where nothing is to be done then, all is done
-  all_done : (calls : List Call) (start : ViewSessionValue) (ending : Ending) (came went : List ℕ) (now : ClientValue) (todo : List Task)
-      → AreFrames came (heard calls) ending → Give schema owes calls start todo now.session
-      → Settles replies todo now.calls went (tasks now.due) → now.due ≡ [] → WritesAll schema replies owes start came went now
-  all_done calls start ending came went now todo frames gives p settled =
+  all_done : (calls : List Call) (start : ViewSessionValue) (ending : Ending) (bytes_read bytes_written : List ℕ) (now : ClientValue) (todo : List Task)
+      → AreFrames most_bytes bytes_read (heard calls) ending → Give schema owes calls start todo now.session
+      → Settles replies todo now.calls bytes_written (tasks now.due) → now.due ≡ [] → WritesAll schema replies owes start bytes_read bytes_written now
+  all_done calls start ending bytes_read bytes_written now todo frames gives p settled =
       let none : [] ≡ map ToSay p.unsaid ++ p.left = sym (ap tasks settled) ∙ p.then in
       record {
         calls = calls;
@@ -51,16 +52,16 @@ module _ (schema : SchemaValue) (replies : Ask → Option Message → Type 0) (o
             (p.does ∙ ap (λ (l : List Task). map task_of p.deeds ++ l) (no_task p.unsaid p.left none) ∙ append_nil (map task_of p.deeds)) gives;
         made = p.calls;
         replied = p.replied;
-        texts = subst (λ (l : List Message). AreTextsOf l went)
+        texts = subst (λ (l : List Message). AreTextsOf l bytes_written)
             (sym (p.gives ∙ ap (λ (l : List Message). p.given ++ l) (no_message p.unsaid p.left none) ∙ append_nil p.given)) p.texts;
       }
 
 module _ (schema : SchemaValue) (replies : ℕ → Ask → Option Message → Type 0) (owes : Bool → ℕ → List Step → Message → Type 0) where
-  beginning_of : (who : ℕ) (last : List Step) (came went : List ℕ) (now : SessionValue ClientValue) (ended : Ended)
-      → (ended ≡ BadInput → IsBad {C = ClientValue} (λ client text. SaysNothing text) now) → Answers (AnswersTo schema replies owes) (TellsNew schema replies owes) (new_client who last) came went now
-      → WritesBeginning schema (replies who) (λ held. owes held who) (new_view last) now.counts ended came went now.core
-  beginning_of who last came went now ended bad a =
-      let run = run_of schema replies owes a.said (new_client who last) now.core a.runs in
+  beginning_of : (session_id : ℕ) (last : List Step) (bytes_read bytes_written : List ℕ) (now : SessionValue ClientValue) (ended : Ended)
+      → (ended ≡ BadInput → IsBad {C = ClientValue} (λ client text. SaysNothing text) now) → Answers (AnswersTo schema replies owes) (TellsNew schema replies owes) most_bytes (new_client session_id last) bytes_read bytes_written now
+      → WritesBeginning schema (replies session_id) (λ held. owes held session_id) (new_view last) now.counts ended bytes_read bytes_written now.state
+  beginning_of session_id last bytes_read bytes_written now ended bad a =
+      let run = run_of schema replies owes a.said (new_client session_id last) now.state a.runs in
       let serves = run.serves in
       record {
         framed = a.framed;
@@ -70,44 +71,44 @@ module _ (schema : SchemaValue) (replies : ℕ → Ask → Option Message → Ty
         held = now.held;
         waiting = now.framing.waiting;
         ending = now.framing.ending;
-        frames = subst (λ (found : List (List ℕ)). AreFrames a.framed ((found ++ holding now.held) ++ now.framing.waiting) now.framing.ending) (sym run.heard_all) a.frames;
+        frames = subst (λ (found : List (List ℕ)). AreFrames most_bytes a.framed ((found ++ holding now.held) ++ now.framing.waiting) now.framing.ending) (sym run.heard_all) a.frames;
         todo = serves.todo;
         gives = serves.gives;
         text = text a.said;
-        settles = subst (λ (l : List DeskCall). Settles (replies who) serves.todo l (text a.said) (tasks now.core.due)) (sym serves.all) serves.settles;
+        settles = subst (λ (l : List AuthorityCall). Settles (replies session_id) serves.todo l (text a.said) (tasks now.state.due)) (sym serves.all) serves.settles;
         begins = (now.unsent, sym a.written);
         bad = λ (e : ended ≡ BadInput). bad_of now (bad e);
         messages_counted = subst (λ (found : List (List ℕ)). IsAfter now.counts.messages 0 (length (found ++ holding now.held))) (sym run.heard_all) a.messages_counted;
         bytes_counted = a.bytes_counted;
       }
 
-  all_of : (who : ℕ) (last : List Step) (came went : List ℕ) (now : SessionValue ClientValue)
-      → AnswersAll (AnswersTo schema replies owes) (TellsNew schema replies owes) (new_client who last) came went now
-      → now.core.due ≡ [] → WritesAll schema (replies who) (λ held. owes held who) (new_view last) came went now.core
-  all_of who last came went now a settled =
-      let run = run_of schema replies owes a.said (new_client who last) now.core a.runs in
+  all_of : (session_id : ℕ) (last : List Step) (bytes_read bytes_written : List ℕ) (now : SessionValue ClientValue)
+      → AnswersAll (AnswersTo schema replies owes) (TellsNew schema replies owes) most_bytes (new_client session_id last) bytes_read bytes_written now
+      → now.state.due ≡ [] → WritesAll schema (replies session_id) (λ held. owes held session_id) (new_view last) bytes_read bytes_written now.state
+  all_of session_id last bytes_read bytes_written now a settled =
+      let run = run_of schema replies owes a.said (new_client session_id last) now.state a.runs in
       let serves = run.serves in
-      let settles = subst (λ (l : List DeskCall). Settles (replies who) serves.todo l (text a.said) (tasks now.core.due)) (sym serves.all) serves.settles in
-      all_done schema (replies who) (λ held. owes held who) run.calls (new_view last) now.framing.ending came went now.core serves.todo
-      (subst (λ (found : List (List ℕ)). AreFrames came found now.framing.ending) (sym run.heard_all) a.frames) serves.gives
-      (subst (λ (t : List ℕ). Settles (replies who) serves.todo now.core.calls t (tasks now.core.due)) (sym a.written) settles) settled
+      let settles = subst (λ (l : List AuthorityCall). Settles (replies session_id) serves.todo l (text a.said) (tasks now.state.due)) (sym serves.all) serves.settles in
+      all_done schema (replies session_id) (λ held. owes held session_id) run.calls (new_view last) now.framing.ending bytes_read bytes_written now.state serves.todo
+      (subst (λ (found : List (List ℕ)). AreFrames most_bytes bytes_read found now.framing.ending) (sym run.heard_all) a.frames) serves.gives
+      (subst (λ (t : List ℕ). Settles (replies session_id) serves.todo now.state.calls t (tasks now.state.due)) (sym a.written) settles) settled
 
-  pub kept_by : (limit who : ℕ) (last : List Step) (input unread output written : Option (List ℕ)) (old now : SessionValue ClientValue) (ended : Ended)
+  pub kept_by : (limit session_id : ℕ) (last : List Step) (input unread output written : Option (List ℕ)) (old now : SessionValue ClientValue) (ended : Ended)
       → Moved (AnswersTo schema replies owes) (TellsNew schema replies owes) limit input unread output written old now
-      → old ≡ fresh (new_client who last) → (ended ≡ Closed → IsDone now × (now.core.due ≡ []))
+      → old ≡ fresh (new_client session_id last) → (ended ≡ Closed → IsDone now × (now.state.due ≡ []))
       → (ended ≡ BadInput → IsBad {C = ClientValue} (λ client text. SaysNothing text) now)
-      → Kept schema (replies who) (λ held. owes held who) (new_view last) input unread output written now.counts ended now.core
-  kept_by limit who last input unread output written old now ended moved began closed bad =
+      → Kept schema (replies session_id) (λ held. owes held session_id) (new_view last) input unread output written now.counts ended now.state
+  kept_by limit session_id last input unread output written old now ended moved began closed bad =
       let served = subst (λ (s : SessionValue ClientValue).
-      Served (AnswersTo schema replies owes) (TellsNew schema replies owes) s moved.came moved.went now) began moved.served in
+      Served (AnswersTo schema replies owes) (TellsNew schema replies owes) s moved.bytes_read moved.bytes_written now) began moved.served in
       record {
-        came = moved.came;
-        went = moved.went;
+        bytes_read = moved.bytes_read;
+        bytes_written = moved.bytes_written;
         reads = moved.reads;
         writes = moved.writes;
-        beginning = beginning_of who last moved.came moved.went now ended bad
-            (answers_from_new (AnswersTo schema replies owes) (TellsNew schema replies owes) (new_client who last) moved.came moved.went now served);
-        all = λ (e : ended ≡ Closed). all_of who last moved.came moved.went now
-            (answers_all (AnswersTo schema replies owes) (TellsNew schema replies owes) (new_client who last) moved.came moved.went now served (closed e).0)
+        beginning = beginning_of session_id last moved.bytes_read moved.bytes_written now ended bad
+            (answers_from_new (AnswersTo schema replies owes) (TellsNew schema replies owes) (new_client session_id last) moved.bytes_read moved.bytes_written now served);
+        all = λ (e : ended ≡ Closed). all_of session_id last moved.bytes_read moved.bytes_written now
+            (answers_all (AnswersTo schema replies owes) (TellsNew schema replies owes) (new_client session_id last) moved.bytes_read moved.bytes_written now served (closed e).0)
             (closed e).1;
       }

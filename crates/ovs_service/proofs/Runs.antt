@@ -9,12 +9,12 @@ use Rattle.ovs_wire.specs.declared.message.Message.{Message}
 use Rattle.ovs_reader.specs.Telling.{told_some}
 use Rattle.ovs_session.specs.Serving.{Said, Answered, Told, messages, text, Runs}
 use Rattle.ovs_views.specs.Published.{ViewSessionValue}
-use Rattle.ovs_service.specs.declared.asker.DeskCall.{DeskCall}
-use Rattle.ovs_service.specs.declared.due.Due.{Due}
-use Rattle.ovs_service.specs.Asking.{AskerValue, HasNothingMore}
+use Rattle.ovs_service.specs.declared.session_token.AuthorityCall.{AuthorityCall}
+use Rattle.ovs_service.specs.declared.pending.Pending.{Pending}
+use Rattle.ovs_service.specs.Asking.{SessionTokenValue, HasNothingMore}
 use Rattle.ovs_service.specs.Deeds.{Task, ToSay, ToGive, tasks, Settles, Does, Collects, given_by}
 use Rattle.ovs_service.specs.Calls.{Call, Answer, Pump, Collect, CallGives, Give, IsAllTold, IsCollecting, IsTelling, heard, most_told}
-use Rattle.ovs_service.specs.Client.{ClientValue, asker_of, Hears, IsTold, Serves, AnswersFrom, AnswersTo, TellsOf, TellsNew, HasAll}
+use Rattle.ovs_service.specs.Client.{ClientValue, token_of, Hears, IsTold, Serves, AnswersFrom, AnswersTo, TellsOf, TellsNew, HasAll}
 use Rattle.ovs_service.proofs.Settled.{append_nil, tasks_both, settles_none, settles_more, settles_before, settles_collected, said_behind, no_call_made}
 
 module _ (schema : SchemaValue) (owes : Bool → List Step → Message → Type 0) where
@@ -58,40 +58,40 @@ nothing_heard shown (Collect held taken ∷ calls) is = absurd is
 
 module _ (schema : SchemaValue) (replies : ℕ → Ask → Option Message → Type 0) (owes : Bool → ℕ → List Step → Message → Type 0) where
   -- what is added is due
-  still_due : (a b : ClientValue) (added : List Due) → b.due ≡ a.due ++ added → Settles (replies a.who) (tasks a.due ++ tasks added) [] [] (tasks b.due)
+  still_due : (a b : ClientValue) (added : List Pending) → b.due ≡ a.due ++ added → Settles (replies a.session_id) (tasks a.due ++ tasks added) [] [] (tasks b.due)
   still_due a b added e =
-      subst (λ (l : List Task). Settles (replies a.who) (tasks a.due ++ tasks added) [] [] l) (sym (ap tasks e ∙ tasks_both a.due added))
-      (settles_none (replies a.who) (tasks a.due ++ tasks added))
+      subst (λ (l : List Task). Settles (replies a.session_id) (tasks a.due ++ tasks added) [] [] l) (sym (ap tasks e ∙ tasks_both a.due added))
+      (settles_none (replies a.session_id) (tasks a.due ++ tasks added))
 
   serves_nothing : (a b : ClientValue) → b ≡ a → Serves schema replies owes [] a [] b
   serves_nothing a b e = record {
     todo = [];
     gives = (refl, ap (λ (c : ClientValue). c.session) e);
     made = [];
-    settles = subst (λ (l : List Task). Settles (replies a.who) l [] [] (tasks b.due)) (sym (append_nil (tasks a.due)))
-        (subst (λ (l : List Task). Settles (replies a.who) (tasks a.due) [] [] l) (sym (ap (λ (c : ClientValue). tasks c.due) e))
-        (settles_none (replies a.who) (tasks a.due)));
-    who = ap (λ (c : ClientValue). c.who) e;
+    settles = subst (λ (l : List Task). Settles (replies a.session_id) l [] [] (tasks b.due)) (sym (append_nil (tasks a.due)))
+        (subst (λ (l : List Task). Settles (replies a.session_id) (tasks a.due) [] [] l) (sym (ap (λ (c : ClientValue). tasks c.due) e))
+        (settles_none (replies a.session_id) (tasks a.due)));
+    session_id = ap (λ (c : ClientValue). c.session_id) e;
     all = ap (λ (c : ClientValue). c.calls) e ∙ sym (append_nil a.calls);
   }
 
   -- what is due is done
-  serves_due : (a b : ClientValue) (o p : List ℕ) (f : Does replies (tasks a.due) (asker_of a) o (tasks b.due) (asker_of b) p) → b.session ≡ a.session
+  serves_due : (a b : ClientValue) (o p : List ℕ) (f : Does replies (tasks a.due) (token_of a) o (tasks b.due) (token_of b) p) → b.session ≡ a.session
       → Serves schema replies owes [] a f.said b
   serves_due a b o p f e = record {
     todo = [];
     gives = (refl, e);
     made = f.made;
-    settles = subst (λ (l : List Task). Settles (replies a.who) l f.made f.said (tasks b.due)) (sym (append_nil (tasks a.due))) f.settles;
-    who = ap (λ (k : AskerValue). k.who) f.calls;
-    all = ap (λ (k : AskerValue). k.calls) f.calls;
+    settles = subst (λ (l : List Task). Settles (replies a.session_id) l f.made f.said (tasks b.due)) (sym (append_nil (tasks a.due))) f.settles;
+    session_id = ap (λ (k : SessionTokenValue). k.session_id) f.calls;
+    all = ap (λ (k : SessionTokenValue). k.calls) f.calls;
   }
 
   serves_heard : (a b : ClientValue) (text : List ℕ) (message : Message) (shown : List Step) → Says text message → Hears schema shown message a b
       → Serves schema replies owes (Answer text shown ∷ []) a [] b
   serves_heard a b text message shown says p = record {
     todo = tasks p.added;
-    gives = give_one schema (λ held. owes held a.who) (Answer text shown) a.session b.session (tasks p.added) (record {
+    gives = give_one schema (λ held. owes held a.session_id) (Answer text shown) a.session b.session (tasks p.added) (record {
       message = message;
       says = says;
       goes_on = p.goes_on;
@@ -101,14 +101,14 @@ module _ (schema : SchemaValue) (replies : ℕ → Ask → Option Message → Ty
     });
     made = [];
     settles = still_due a b p.added (ap (λ (c : ClientValue). c.due) p.after);
-    who = ap (λ (c : ClientValue). c.who) p.after;
+    session_id = ap (λ (c : ClientValue). c.session_id) p.after;
     all = ap (λ (c : ClientValue). c.calls) p.after ∙ sym (append_nil a.calls);
   }
 
   serves_told : (a b : ClientValue) (shown : List Step) (p : IsTold schema shown a b) → Serves schema replies owes (Pump shown ∷ []) a [] b
   serves_told a b shown p = record {
     todo = tasks p.added;
-    gives = give_one schema (λ held. owes held a.who) (Pump shown) a.session b.session (tasks p.added) (record {
+    gives = give_one schema (λ held. owes held a.session_id) (Pump shown) a.session b.session (tasks p.added) (record {
       goes_on = p.goes_on;
       lasts = p.lasts;
       gives = p.gives;
@@ -116,45 +116,45 @@ module _ (schema : SchemaValue) (replies : ℕ → Ask → Option Message → Ty
     });
     made = [];
     settles = still_due a b p.added (ap (λ (c : ClientValue). c.due) p.after);
-    who = ap (λ (c : ClientValue). c.who) p.after;
+    session_id = ap (λ (c : ClientValue). c.session_id) p.after;
     all = ap (λ (c : ClientValue). c.calls) p.after ∙ sym (append_nil a.calls);
   }
 
   -- messages are collected where nothing but messages is due
   serves_collected : (held : Bool) (a b : ClientValue) (ms : List Message) → IsAllTold a.session → tasks a.due ≡ map ToSay ms
-      → (f : Collects (λ who. owes held who a.session.last) held a.due (asker_of a) b.due (asker_of b)) → b.session ≡ a.session
+      → (f : Collects (λ session_id. owes held session_id a.session.last) held a.due (token_of a) b.due (token_of b)) → b.session ≡ a.session
       → Serves schema replies owes (Collect held f.taken ∷ []) a [] b
   serves_collected held a b ms all says f e = record {
     todo = map (ToGive held) f.taken;
-    gives = give_one schema (λ held. owes held a.who) (Collect held f.taken) a.session b.session (map (ToGive held) f.taken)
+    gives = give_one schema (λ held. owes held a.session_id) (Collect held f.taken) a.session b.session (map (ToGive held) f.taken)
         (all, f.owed, refl, e);
     made = _;
-    settles = settles_collected (replies a.who) held a.due b.due ms f.taken says f.due;
-    who = ap (λ (k : AskerValue). k.who) f.calls;
-    all = ap (λ (k : AskerValue). k.calls) f.calls;
+    settles = settles_collected (replies a.session_id) held a.due b.due ms f.taken says f.due;
+    session_id = ap (λ (k : SessionTokenValue). k.session_id) f.calls;
+    all = ap (λ (k : SessionTokenValue). k.calls) f.calls;
   }
 
   -- one piece after another
   serves_more : (calls more : List Call) (a b c : ClientValue) (s t : List ℕ) → Serves schema replies owes calls a s b
       → Serves schema replies owes more b t c → Serves schema replies owes (calls ++ more) a (s ++ t) c
   serves_more calls more a b c s t p q =
-      let R = replies a.who in
-      let rest_gives = subst (λ (w : ℕ). Give schema (λ held. owes held w) more b.session q.todo c.session) p.who q.gives in
-      let rest_settles = subst (λ (w : ℕ). Settles (replies w) (tasks b.due ++ q.todo) q.made t (tasks c.due)) p.who q.settles in
+      let R = replies a.session_id in
+      let rest_gives = subst (λ (w : ℕ). Give schema (λ held. owes held w) more b.session q.todo c.session) p.session_id q.gives in
+      let rest_settles = subst (λ (w : ℕ). Settles (replies w) (tasks b.due ++ q.todo) q.made t (tasks c.due)) p.session_id q.settles in
       record {
         todo = p.todo ++ q.todo;
-        gives = give_both schema (λ held. owes held a.who) calls more a.session b.session c.session p.todo q.todo p.gives rest_gives;
+        gives = give_both schema (λ held. owes held a.session_id) calls more a.session b.session c.session p.todo q.todo p.gives rest_gives;
         made = p.made ++ q.made;
         settles = subst (λ (l : List Task). Settles R l (p.made ++ q.made) (s ++ t) (tasks c.due)) (append_assoc (tasks a.due) p.todo q.todo)
             (settles_more R ((tasks a.due ++ p.todo) ++ q.todo) (tasks b.due ++ q.todo) (tasks c.due) p.made q.made s t
             (settles_before R (tasks a.due ++ p.todo) (tasks b.due) q.todo p.made s p.settles) rest_settles);
-        who = q.who ∙ p.who;
-        all = q.all ∙ ap (λ (l : List DeskCall). l ++ q.made) p.all ∙ append_assoc a.calls p.made q.made;
+        session_id = q.session_id ∙ p.session_id;
+        all = q.all ∙ ap (λ (l : List AuthorityCall). l ++ q.made) p.all ∙ append_assoc a.calls p.made q.made;
       }
 
   -- a message is heard, and what is due is done
   pub heard_then : (a b c : ClientValue) (o q text : List ℕ) (message : Message) (shown : List Step) → Says text message → Hears schema shown message a b
-      → Does replies (tasks b.due) (asker_of b) o (tasks c.due) (asker_of c) q → c.session ≡ b.session
+      → Does replies (tasks b.due) (token_of b) o (tasks c.due) (token_of c) q → c.session ≡ b.session
       → (t : List ℕ) × AnswersFrom schema replies owes shown a text t c × (q ≡ o ++ t)
   heard_then a b c o q text message shown says heard does same =
       (does.said, serves_more (Answer text shown ∷ []) [] a b c [] does.said (serves_heard a b text message shown says heard) (serves_due b c o q does same), does.text)
@@ -163,12 +163,12 @@ module _ (schema : SchemaValue) (replies : ℕ → Ask → Option Message → Ty
   told_alone : (a b : ClientValue) (shown : List Step) → a.due ≡ [] → (told : IsTold schema shown a b)
       → tasks b.due ≡ map ToSay (told_some most_told a.session.session.monitors (folded_by schema shown).steps)
   told_alone a b shown settled told =
-      ap (λ (x : ClientValue). tasks x.due) told.after ∙ ap (λ (l : List Due). tasks (l ++ told.added)) settled ∙ told.gives
+      ap (λ (x : ClientValue). tasks x.due) told.after ∙ ap (λ (l : List Pending). tasks (l ++ told.added)) settled ∙ told.gives
 
   -- what is new is told: what monitors tell, what is collected where that is all, and what is due then
   pub told_new : (is_all : Bool) (a b c d : ClientValue) (o q : List ℕ) (shown known : List Step) → known ≡ shown → a.due ≡ [] → IsTold schema shown a b → (is_all ≡ true → IsAllTold b.session)
-      → (held : Bool) × Collects (λ who. owes held who b.session.last) held b.due (asker_of b) c.due (asker_of c) × (c.session ≡ b.session) → (is_all ≡ false → c ≡ b)
-      → Does replies (tasks c.due) (asker_of c) o (tasks d.due) (asker_of d) q → d.session ≡ c.session
+      → (held : Bool) × Collects (λ session_id. owes held session_id b.session.last) held b.due (token_of b) c.due (token_of c) × (c.session ≡ b.session) → (is_all ≡ false → c ≡ b)
+      → Does replies (tasks c.due) (token_of c) o (tasks d.due) (token_of d) q → d.session ≡ c.session
       → (t : List ℕ) × TellsOf schema replies owes known a t d × (q ≡ o ++ t)
   told_new true a b c d o q shown known same_view settled told all (held, taken, stays) none does same = (
     does.said,
@@ -197,17 +197,17 @@ module _ (schema : SchemaValue) (replies : ℕ → Ask → Option Message → Ty
 
   -- all is told, where monitors told all that is new, the desk had nothing more, and nothing is due then
   pub has_all : (is_all is_told : Bool) (a b c d : ClientValue) (o q : List ℕ) (shown known : List Step) → known ≡ shown → a.due ≡ [] → IsTold schema shown a b → (is_told ≡ true → IsAllTold b.session)
-      → (held : Bool) × Collects (λ who. owes held who b.session.last) held b.due (asker_of b) c.due (asker_of c) × (c.session ≡ b.session)
+      → (held : Bool) × Collects (λ session_id. owes held session_id b.session.last) held b.due (token_of b) c.due (token_of c) × (c.session ≡ b.session)
       → (is_all ≡ true → (is_told ≡ true) × HasNothingMore c.calls)
-      → Does replies (tasks c.due) (asker_of c) o (tasks d.due) (asker_of d) q → d.session ≡ c.session
+      → Does replies (tasks c.due) (token_of c) o (tasks d.due) (token_of d) q → d.session ≡ c.session
       → (is_all ≡ true) × (d.due ≡ []) → HasAll known d
   has_all is_all is_told a b c d o q shown known same_view settled told all (held, taken, stays) nothing does same (is, none) =
       let found = nothing is in
       let says = said_behind b.due c.due (told_some most_told a.session.session.monitors (folded_by schema shown).steps) (given_by taken.taken)
       (told_alone a b shown settled told) taken.due in
-      let made = no_call_made (replies c.who) (told_some most_told a.session.session.monitors (folded_by schema shown).steps ++ given_by taken.taken)
+      let made = no_call_made (replies c.session_id) (told_some most_told a.session.session.monitors (folded_by schema shown).steps ++ given_by taken.taken)
       (tasks c.due) (tasks d.due) does.made does.said says does.settles in
-      let calls : d.calls ≡ c.calls = ap (λ (k : AskerValue). k.calls) does.calls ∙ ap (λ (l : List DeskCall). c.calls ++ l) made ∙ append_nil c.calls in
+      let calls : d.calls ≡ c.calls = ap (λ (k : SessionTokenValue). k.calls) does.calls ∙ ap (λ (l : List AuthorityCall). c.calls ++ l) made ∙ append_nil c.calls in
       record {
         due = none;
         shown = ap (λ (s : ViewSessionValue). s.last) (same ∙ stays) ∙ ap (λ (x : ClientValue). x.session.last) told.after ∙ sym same_view;
@@ -225,7 +225,7 @@ module _ (schema : SchemaValue) (replies : ℕ → Ask → Option Message → Ty
   from_some shown a b o q text (t, answers, e) = (t, (shown, answers), e)
 
   -- all that is due is done, and then what is new is told
-  pub told_then : (a b c : ClientValue) (o p q : List ℕ) (shown : List Step) → Does replies (tasks a.due) (asker_of a) o (tasks b.due) (asker_of b) p
+  pub told_then : (a b c : ClientValue) (o p q : List ℕ) (shown : List Step) → Does replies (tasks a.due) (token_of a) o (tasks b.due) (token_of b) p
       → b.session ≡ a.session → b.due ≡ [] → (t : List ℕ) × TellsOf schema replies owes shown b t c × (q ≡ p ++ t)
       → (t : List ℕ) × TellsOf schema replies owes shown a t c × (q ≡ o ++ t)
   told_then a b c o p q shown does same all (t, tells, f) = (
@@ -240,7 +240,7 @@ module _ (schema : SchemaValue) (replies : ℕ → Ask → Option Message → Ty
   )
 
   -- something was due, and of it is done what can be, and nothing more
-  pub told_due : (a b c : ClientValue) (o p q : List ℕ) (shown : List Step) → Does replies (tasks a.due) (asker_of a) o (tasks b.due) (asker_of b) p
+  pub told_due : (a b c : ClientValue) (o p q : List ℕ) (shown : List Step) → Does replies (tasks a.due) (token_of a) o (tasks b.due) (token_of b) p
       → b.session ≡ a.session → c ≡ b → q ≡ p → (a.due ≡ [] → ⊥) → (t : List ℕ) × TellsOf schema replies owes shown a t c × (q ≡ o ++ t)
   told_due a b c o p q shown does same still f some = (
     does.said,

@@ -5,13 +5,13 @@ use Rattle.std.proofs.lemmas.Result.{IfOk-weaker}
 use Rattle.std.specs.List.{AllByRecursion}
 use Rattle.ovs_authority.specs.declared.ask.Ask.{Ask}
 use Rattle.ovs_wire.specs.declared.message.Message.{Message}
-use Rattle.ovs_service.specs.declared.due.Due.{Due}
-use Rattle.ovs_service.specs.declared.due.Due.TheVariants.{Say, Tell, Put}
-use Rattle.ovs_service.specs.declared.asker.DeskCall.{DeskCall}
-use Rattle.ovs_service.specs.declared.asker.DeskCall.TheVariants.{Asked, Collected}
+use Rattle.ovs_service.specs.declared.pending.Pending.{Pending}
+use Rattle.ovs_service.specs.declared.pending.Pending.TheVariants.{Say, Tell, Put}
+use Rattle.ovs_service.specs.declared.session_token.AuthorityCall.{AuthorityCall}
+use Rattle.ovs_service.specs.declared.session_token.AuthorityCall.TheVariants.{Asked, Collected}
 use Rattle.ovs_service.specs.Texts.{IsTextOf, AreTextsOf}
 use Rattle.ovs_service.specs.Replies.{IsOwed}
-use Rattle.ovs_service.specs.Asking.{AskerValue, with_calls}
+use Rattle.ovs_service.specs.Asking.{SessionTokenValue, with_calls}
 use Rattle.ovs_service.specs.Deeds.{Task, ToSay, ToAsk, ToGive, Deed, Gave, Called, task_of, messages_of, calls_of, tasks, Replies, IsReplied, Settles, Does, SaysFirst, PutsTo, given_by, Collects}
 
 pub append_nil : {A : Type 0} (xs : List A) → xs ++ [] ≡ xs
@@ -31,7 +31,7 @@ pub map_both : {A B : Type 0} (f : A → B) (xs ys : List A) → map f (xs ++ ys
 map_both f [] ys = refl
 map_both f (x ∷ xs) ys = ap (λ l. f x ∷ l) (map_both f xs ys)
 
-pub tasks_both : (a b : List Due) → tasks (a ++ b) ≡ tasks a ++ tasks b
+pub tasks_both : (a b : List Pending) → tasks (a ++ b) ≡ tasks a ++ tasks b
 tasks_both [] b = refl
 tasks_both (Say m ∷ a) b = ap (λ (l : List Task). ToSay m ∷ l) (tasks_both a b)
 tasks_both (Tell ms ∷ a) b = ap (λ (l : List Task). map ToSay ms ++ l) (tasks_both a b) ∙ sym (append_assoc (map ToSay ms) (tasks a) (tasks b))
@@ -40,7 +40,7 @@ tasks_both (Put ask ∷ a) b = ap (λ (l : List Task). ToAsk ask ∷ l) (tasks_b
 pub calls_both : (a b : List Deed) → calls_of (a ++ b) ≡ calls_of a ++ calls_of b
 calls_both [] b = refl
 calls_both (Gave m ∷ a) b = calls_both a b
-calls_both (Called call ∷ a) b = ap (λ (l : List DeskCall). call ∷ l) (calls_both a b)
+calls_both (Called call ∷ a) b = ap (λ (l : List AuthorityCall). call ∷ l) (calls_both a b)
 
 pub messages_both : (a b : List Deed) → messages_of (a ++ b) ≡ messages_of a ++ messages_of b
 messages_both [] b = refl
@@ -143,7 +143,7 @@ module _ (replies : Ask → Option Message → Type 0) where
     then = refl;
   }
 
-  pub settles_more : (a b c : List Task) (m n : List DeskCall) (s t : List ℕ) → Settles replies a m s b → Settles replies b n t c
+  pub settles_more : (a b c : List Task) (m n : List AuthorityCall) (s t : List ℕ) → Settles replies a m s b → Settles replies b n t c
       → Settles replies a (m ++ n) (s ++ t) c
   settles_more a b c m n s t p q =
       let g = gone_on p.unsaid p.left q.deeds q.left (sym p.then ∙ q.does) in
@@ -152,7 +152,7 @@ module _ (replies : Ask → Option Message → Type 0) where
         left = g.undone;
         does = p.does ∙ ap (λ (l : List Task). map task_of p.deeds ++ l) g.does ∙ sym (append_assoc (map task_of p.deeds) (map task_of g.more) g.undone)
             ∙ ap (λ (l : List Task). l ++ g.undone) (sym (map_both task_of p.deeds g.more));
-        calls = ap (λ (l : List DeskCall). l ++ n) p.calls ∙ ap (λ (l : List DeskCall). calls_of p.deeds ++ l) (q.calls ∙ g.calls)
+        calls = ap (λ (l : List AuthorityCall). l ++ n) p.calls ∙ ap (λ (l : List AuthorityCall). calls_of p.deeds ++ l) (q.calls ∙ g.calls)
             ∙ sym (calls_both p.deeds g.more);
         replied = all_both (IsReplied replies) m n p.replied q.replied;
         given = p.given ++ q.given;
@@ -167,7 +167,7 @@ module _ (replies : Ask → Option Message → Type 0) where
       }
 
   -- what stands behind stays behind
-  pub settles_before : (a b x : List Task) (m : List DeskCall) (s : List ℕ) → Settles replies a m s b → Settles replies (a ++ x) m s (b ++ x)
+  pub settles_before : (a b x : List Task) (m : List AuthorityCall) (s : List ℕ) → Settles replies a m s b → Settles replies (a ++ x) m s (b ++ x)
   settles_before a b x m s p = record {
     deeds = p.deeds;
     left = p.left ++ x;
@@ -228,109 +228,109 @@ says_one m o p (t, text, e) = record {
 }
 
 module _ (replies : ℕ → Ask → Option Message → Type 0) where
-  pub does_more : (a b c : List Task) (x y z : AskerValue) (o p q : List ℕ) → Does replies a x o b y p → Does replies b y p c z q
+  pub does_more : (a b c : List Task) (x y z : SessionTokenValue) (o p q : List ℕ) → Does replies a x o b y p → Does replies b y p c z q
       → Does replies a x o c z q
   does_more a b c x y z o p q f g =
-      let who : y.who ≡ x.who = ap (λ (k : AskerValue). k.who) f.calls in
+      let session_id : y.session_id ≡ x.session_id = ap (λ (k : SessionTokenValue). k.session_id) f.calls in
       record {
         made = f.made ++ g.made;
         said = f.said ++ g.said;
-        settles = settles_more (replies x.who) a b c f.made g.made f.said g.said f.settles
-            (subst (λ (w : ℕ). Settles (replies w) b g.made g.said c) who g.settles);
-        calls = g.calls ∙ ap (λ (k : AskerValue). with_calls k g.made) f.calls
-            ∙ ap (λ (l : List DeskCall). record { who = x.who; calls = l }) (append_assoc x.calls f.made g.made);
+        settles = settles_more (replies x.session_id) a b c f.made g.made f.said g.said f.settles
+            (subst (λ (w : ℕ). Settles (replies w) b g.made g.said c) session_id g.settles);
+        calls = g.calls ∙ ap (λ (k : SessionTokenValue). with_calls k g.made) f.calls
+            ∙ ap (λ (l : List AuthorityCall). record { session_id = x.session_id; calls = l }) (append_assoc x.calls f.made g.made);
         text = g.text ∙ ap (λ (l : List ℕ). l ++ g.said) f.text ∙ append_assoc o f.said g.said;
       }
 
   -- the first that is due is done, and this is due in its place
-  pub does_first : (due : Due) (next dues old new : List Due) (x y : AskerValue) (o p : List ℕ)
-      → Does replies (tasks (due ∷ [])) x o (tasks next) y p → old ≡ due ∷ dues → new ≡ next ++ dues → Does replies (tasks old) x o (tasks new) y p
-  does_first due next dues old new x y o p f before after = record {
+  pub does_first : (due : Pending) (next pending old new : List Pending) (x y : SessionTokenValue) (o p : List ℕ)
+      → Does replies (tasks (due ∷ [])) x o (tasks next) y p → old ≡ due ∷ pending → new ≡ next ++ pending → Does replies (tasks old) x o (tasks new) y p
+  does_first due next pending old new x y o p f before after = record {
     made = f.made;
     said = f.said;
-    settles = subst (λ (l : List Task). Settles (replies x.who) l f.made f.said (tasks new)) (sym (ap tasks before ∙ tasks_both (due ∷ []) dues))
-        (subst (λ (l : List Task). Settles (replies x.who) (tasks (due ∷ []) ++ tasks dues) f.made f.said l) (sym (ap tasks after ∙ tasks_both next dues))
-        (settles_before (replies x.who) (tasks (due ∷ [])) (tasks next) (tasks dues) f.made f.said f.settles));
+    settles = subst (λ (l : List Task). Settles (replies x.session_id) l f.made f.said (tasks new)) (sym (ap tasks before ∙ tasks_both (due ∷ []) pending))
+        (subst (λ (l : List Task). Settles (replies x.session_id) (tasks (due ∷ []) ++ tasks pending) f.made f.said l) (sym (ap tasks after ∙ tasks_both next pending))
+        (settles_before (replies x.session_id) (tasks (due ∷ [])) (tasks next) (tasks pending) f.made f.said f.settles));
     calls = f.calls;
     text = f.text;
   }
 
-  with_none : (x : AskerValue) → x ≡ with_calls x []
-  with_none x = ap (λ (l : List DeskCall). record { who = x.who; calls = l }) (sym (append_nil x.calls))
+  with_none : (x : SessionTokenValue) → x ≡ with_calls x []
+  with_none x = ap (λ (l : List AuthorityCall). record { session_id = x.session_id; calls = l }) (sym (append_nil x.calls))
 
-  pub does_said : (messages : List Message) (old new : List Task) (x y : AskerValue) (o p : List ℕ) → old ≡ map ToSay messages
+  pub does_said : (messages : List Message) (old new : List Task) (x y : SessionTokenValue) (o p : List ℕ) → old ≡ map ToSay messages
       → SaysFirst messages o new p → y ≡ x → Does replies old x o new y p
   does_said messages old new x y o p e f same = record {
     made = [];
     said = f.said;
-    settles = subst (λ (l : List Task). Settles (replies x.who) l [] f.said new) (sym e)
-        (subst (λ (l : List Task). Settles (replies x.who) (map ToSay messages) [] f.said l) (sym f.then)
-        (settles_told (replies x.who) messages f.first f.rest f.said f.whole f.texts));
+    settles = subst (λ (l : List Task). Settles (replies x.session_id) l [] f.said new) (sym e)
+        (subst (λ (l : List Task). Settles (replies x.session_id) (map ToSay messages) [] f.said l) (sym f.then)
+        (settles_told (replies x.session_id) messages f.first f.rest f.said f.whole f.texts));
     calls = same ∙ with_none x;
     text = f.text;
   }
 
-  pub does_ask : (ask : Ask) (new : List Task) (x y : AskerValue) (o p : List ℕ) → PutsTo replies ask x new y → p ≡ o
+  pub does_ask : (ask : Ask) (new : List Task) (x y : SessionTokenValue) (o p : List ℕ) → PutsTo replies ask x new y → p ≡ o
       → Does replies (ToAsk ask ∷ []) x o new y p
   does_ask ask new x y o p f same = record {
     made = Asked ask f.reply ∷ [];
     said = [];
-    settles = subst (λ (l : List Task). Settles (replies x.who) (ToAsk ask ∷ []) (Asked ask f.reply ∷ []) [] l) (sym f.then)
-        (settles_asked (replies x.who) ask f.reply f.replied);
+    settles = subst (λ (l : List Task). Settles (replies x.session_id) (ToAsk ask ∷ []) (Asked ask f.reply ∷ []) [] l) (sym f.then)
+        (settles_asked (replies x.session_id) ask f.reply f.replied);
     calls = f.call;
     text = same ∙ sym (append_nil o);
   }
 
-  pub does_nothing : (old new : List Task) (x y : AskerValue) (o p : List ℕ) → new ≡ old → y ≡ x → p ≡ o → Does replies old x o new y p
+  pub does_nothing : (old new : List Task) (x y : SessionTokenValue) (o p : List ℕ) → new ≡ old → y ≡ x → p ≡ o → Does replies old x o new y p
   does_nothing old new x y o p e f g = record {
     made = [];
     said = [];
-    settles = subst (λ (l : List Task). Settles (replies x.who) old [] [] l) (sym e) (settles_none (replies x.who) old);
+    settles = subst (λ (l : List Task). Settles (replies x.session_id) old [] [] l) (sym e) (settles_none (replies x.session_id) old);
     calls = f ∙ with_none x;
     text = g ∙ sym (append_nil o);
   }
 
   -- it is done, and nothing is due in its place
-  pub does_gone : (due : Due) (next : Option Due) (dues old new : List Due) (x y : AskerValue) (o p : List ℕ)
-      → Does replies (tasks (due ∷ [])) x o (tasks (option_to_list next)) y p → next ≡ None → old ≡ due ∷ dues → new ≡ dues
+  pub does_gone : (due : Pending) (next : Option Pending) (pending old new : List Pending) (x y : SessionTokenValue) (o p : List ℕ)
+      → Does replies (tasks (due ∷ [])) x o (tasks (option_to_list next)) y p → next ≡ None → old ≡ due ∷ pending → new ≡ pending
       → Does replies (tasks old) x o (tasks new) y p
-  does_gone due next dues old new x y o p f none before after =
-      does_first due (option_to_list next) dues old new x y o p f before (after ∙ ap (λ (n : Option Due). option_to_list n ++ dues) (sym none))
+  does_gone due next pending old new x y o p f none before after =
+      does_first due (option_to_list next) pending old new x y o p f before (after ∙ ap (λ (n : Option Pending). option_to_list n ++ pending) (sym none))
 
   -- it is done, and this is due in its place
-  pub does_left : (due left : Due) (next : Option Due) (dues old new : List Due) (x y : AskerValue) (o p : List ℕ)
-      → Does replies (tasks (due ∷ [])) x o (tasks (option_to_list next)) y p → next ≡ Some left → old ≡ due ∷ dues → new ≡ left ∷ dues
+  pub does_left : (due left : Pending) (next : Option Pending) (pending old new : List Pending) (x y : SessionTokenValue) (o p : List ℕ)
+      → Does replies (tasks (due ∷ [])) x o (tasks (option_to_list next)) y p → next ≡ Some left → old ≡ due ∷ pending → new ≡ left ∷ pending
       → Does replies (tasks old) x o (tasks new) y p
-  does_left due left next dues old new x y o p f some before after =
-      does_first due (option_to_list next) dues old new x y o p f before (after ∙ ap (λ (n : Option Due). option_to_list n ++ dues) (sym some))
+  does_left due left next pending old new x y o p f some before after =
+      does_first due (option_to_list next) pending old new x y o p f before (after ∙ ap (λ (n : Option Pending). option_to_list n ++ pending) (sym some))
 
-  pub done_saying : (due : Due) (m : Message) (done : Result (Option Due) Due) (x : AskerValue) (o p : List ℕ) → due ≡ Say m
+  pub done_saying : (due : Pending) (m : Message) (done : Result (Option Pending) Pending) (x : SessionTokenValue) (o p : List ℕ) → due ≡ Say m
       → IfOk done (λ next. SaysFirst (m ∷ []) o (tasks (option_to_list next)) p)
       → IfOk done (λ next. Does replies (tasks (due ∷ [])) x o (tasks (option_to_list next)) x p)
   done_saying due m done x o p is says = IfOk-weaker done
       (λ next. SaysFirst (m ∷ []) o (tasks (option_to_list next)) p)
       (λ next. Does replies (tasks (due ∷ [])) x o (tasks (option_to_list next)) x p)
-      (λ (next : Option Due) (f : SaysFirst (m ∷ []) o (tasks (option_to_list next)) p).
-      does_said (m ∷ []) (tasks (due ∷ [])) (tasks (option_to_list next)) x x o p (ap (λ (d : Due). tasks (d ∷ [])) is) f refl) says
+      (λ (next : Option Pending) (f : SaysFirst (m ∷ []) o (tasks (option_to_list next)) p).
+      does_said (m ∷ []) (tasks (due ∷ [])) (tasks (option_to_list next)) x x o p (ap (λ (d : Pending). tasks (d ∷ [])) is) f refl) says
 
-  pub done_telling : (due : Due) (ms : List Message) (done : Result (Option Due) Due) (x : AskerValue) (o p : List ℕ) → due ≡ Tell ms
+  pub done_telling : (due : Pending) (ms : List Message) (done : Result (Option Pending) Pending) (x : SessionTokenValue) (o p : List ℕ) → due ≡ Tell ms
       → IfOk done (λ next. SaysFirst ms o (tasks (option_to_list next)) p)
       → IfOk done (λ next. Does replies (tasks (due ∷ [])) x o (tasks (option_to_list next)) x p)
   done_telling due ms done x o p is says = IfOk-weaker done
       (λ next. SaysFirst ms o (tasks (option_to_list next)) p)
       (λ next. Does replies (tasks (due ∷ [])) x o (tasks (option_to_list next)) x p)
-      (λ (next : Option Due) (f : SaysFirst ms o (tasks (option_to_list next)) p).
+      (λ (next : Option Pending) (f : SaysFirst ms o (tasks (option_to_list next)) p).
       does_said ms (tasks (due ∷ [])) (tasks (option_to_list next)) x x o p
-      (ap (λ (d : Due). tasks (d ∷ [])) is ∙ append_nil (map ToSay ms)) f refl) says
+      (ap (λ (d : Pending). tasks (d ∷ [])) is ∙ append_nil (map ToSay ms)) f refl) says
 
-  pub done_asking : (due : Due) (ask : Ask) (done : Result (Option Due) Due) (x y : AskerValue) (o : List ℕ) → due ≡ Put ask
+  pub forward_ask : (due : Pending) (ask : Ask) (done : Result (Option Pending) Pending) (x y : SessionTokenValue) (o : List ℕ) → due ≡ Put ask
       → IfOk done (λ next. PutsTo replies ask x (tasks (option_to_list next)) y)
       → IfOk done (λ next. Does replies (tasks (due ∷ [])) x o (tasks (option_to_list next)) y o)
-  done_asking due ask done x y o is puts = IfOk-weaker done
+  forward_ask due ask done x y o is puts = IfOk-weaker done
       (λ next. PutsTo replies ask x (tasks (option_to_list next)) y)
       (λ next. Does replies (tasks (due ∷ [])) x o (tasks (option_to_list next)) y o)
-      (λ (next : Option Due) (f : PutsTo replies ask x (tasks (option_to_list next)) y).
-      subst (λ (d : Due). Does replies (tasks (d ∷ [])) x o (tasks (option_to_list next)) y o) (sym is)
+      (λ (next : Option Pending) (f : PutsTo replies ask x (tasks (option_to_list next)) y).
+      subst (λ (d : Pending). Does replies (tasks (d ∷ [])) x o (tasks (option_to_list next)) y o) (sym is)
       (does_ask ask (tasks (option_to_list next)) x y o o f refl)) puts
 
 given_both : (a b : List (Option Message)) → given_by (a ++ b) ≡ given_by a ++ given_by b
@@ -338,37 +338,37 @@ given_both [] b = refl
 given_both (m ∷ a) b = ap (λ (l : List Message). option_to_list m ++ l) (given_both a b) ∙ sym (append_assoc (option_to_list m) (given_by a) (given_by b))
 
 module _ (owes : ℕ → Message → Type 0) (held : Bool) where
-  pub collects_nothing : (a b : List Due) (x y : AskerValue) → b ≡ a → y ≡ x → Collects owes held a x b y
+  pub collects_nothing : (a b : List Pending) (x y : SessionTokenValue) → b ≡ a → y ≡ x → Collects owes held a x b y
   collects_nothing a b x y e f = record {
     taken = [];
     owed = tt;
-    calls = f ∙ ap (λ (l : List DeskCall). record { who = x.who; calls = l }) (sym (append_nil x.calls));
+    calls = f ∙ ap (λ (l : List AuthorityCall). record { session_id = x.session_id; calls = l }) (sym (append_nil x.calls));
     due = e ∙ sym (append_nil a);
   }
 
-  pub collects_one : (a b c : List Due) (x y : AskerValue) (m : Option Message) → b ≡ a → c ≡ b ++ map Say (option_to_list m)
-      → y ≡ with_calls x (Collected held m ∷ []) → IfSome m (IsOwed (owes x.who)) → Collects owes held a x c y
+  pub collects_one : (a b c : List Pending) (x y : SessionTokenValue) (m : Option Message) → b ≡ a → c ≡ b ++ map Say (option_to_list m)
+      → y ≡ with_calls x (Collected held m ∷ []) → IfSome m (IsOwed (owes x.session_id)) → Collects owes held a x c y
   collects_one a b c x y m e f g owed = record {
     taken = m ∷ [];
     owed = (owed, tt);
     calls = g;
-    due = f ∙ ap (λ (l : List Due). l ++ map Say (option_to_list m)) e
+    due = f ∙ ap (λ (l : List Pending). l ++ map Say (option_to_list m)) e
         ∙ ap (λ (l : List Message). a ++ map Say l) (sym (append_nil (option_to_list m)));
   }
 
-  pub collects_more : (a b c : List Due) (x y z : AskerValue) → Collects owes held a x b y → Collects owes held b y c z → Collects owes held a x c z
+  pub collects_more : (a b c : List Pending) (x y z : SessionTokenValue) → Collects owes held a x b y → Collects owes held b y c z → Collects owes held a x c z
   collects_more a b c x y z f g =
-      let who : y.who ≡ x.who = ap (λ (k : AskerValue). k.who) f.calls in
+      let session_id : y.session_id ≡ x.session_id = ap (λ (k : SessionTokenValue). k.session_id) f.calls in
       record {
         taken = f.taken ++ g.taken;
-        owed = all_both (λ m. IfSome m (IsOwed (owes x.who))) f.taken g.taken f.owed
-            (subst (λ (w : ℕ). AllByRecursion (λ m. IfSome m (IsOwed (owes w))) g.taken) who g.owed);
-        calls = g.calls ∙ ap (λ (k : AskerValue). with_calls k (map (Collected held) g.taken)) f.calls
-            ∙ ap (λ (l : List DeskCall). record { who = x.who; calls = l })
+        owed = all_both (λ m. IfSome m (IsOwed (owes x.session_id))) f.taken g.taken f.owed
+            (subst (λ (w : ℕ). AllByRecursion (λ m. IfSome m (IsOwed (owes w))) g.taken) session_id g.owed);
+        calls = g.calls ∙ ap (λ (k : SessionTokenValue). with_calls k (map (Collected held) g.taken)) f.calls
+            ∙ ap (λ (l : List AuthorityCall). record { session_id = x.session_id; calls = l })
             (append_assoc x.calls (map (Collected held) f.taken) (map (Collected held) g.taken)
-            ∙ ap (λ (l : List DeskCall). x.calls ++ l) (sym (map_both (Collected held) f.taken g.taken)));
-        due = g.due ∙ ap (λ (l : List Due). l ++ map Say (given_by g.taken)) f.due ∙ append_assoc a (map Say (given_by f.taken)) (map Say (given_by g.taken))
-            ∙ ap (λ (l : List Due). a ++ l) (sym (map_both Say (given_by f.taken) (given_by g.taken))
+            ∙ ap (λ (l : List AuthorityCall). x.calls ++ l) (sym (map_both (Collected held) f.taken g.taken)));
+        due = g.due ∙ ap (λ (l : List Pending). l ++ map Say (given_by g.taken)) f.due ∙ append_assoc a (map Say (given_by f.taken)) (map Say (given_by g.taken))
+            ∙ ap (λ (l : List Pending). a ++ l) (sym (map_both Say (given_by f.taken) (given_by g.taken))
             ∙ ap (map Say) (sym (given_both f.taken g.taken)));
       }
 
@@ -382,7 +382,7 @@ no_calls (m ∷ ms) (Called (Asked ask reply) ∷ deeds) left e =
 no_calls (m ∷ ms) (Called (Collected held message) ∷ deeds) left e =
     absurd (subst (λ (l : List Task). IsSaying (first_of_tasks l (ToSay m))) e tt)
 
-pub no_call_made : (replies : Ask → Option Message → Type 0) (ms : List Message) (old new : List Task) (made : List DeskCall) (said : List ℕ)
+pub no_call_made : (replies : Ask → Option Message → Type 0) (ms : List Message) (old new : List Task) (made : List AuthorityCall) (said : List ℕ)
     → old ≡ map ToSay ms → Settles replies old made said new → made ≡ []
 no_call_made replies ms old new made said e p = p.calls ∙ no_calls ms p.deeds p.left (sym e ∙ p.does)
 
@@ -391,7 +391,7 @@ said_tasks [] = refl
 said_tasks (m ∷ ms) = ap (λ (l : List Task). ToSay m ∷ l) (said_tasks ms)
 
 -- messages behind messages that are to be said
-pub said_behind : (old new : List Due) (ms more : List Message) → tasks old ≡ map ToSay ms → new ≡ old ++ map Say more
+pub said_behind : (old new : List Pending) (ms more : List Message) → tasks old ≡ map ToSay ms → new ≡ old ++ map Say more
     → tasks new ≡ map ToSay (ms ++ more)
 said_behind old new ms more says e =
     ap tasks e ∙ tasks_both old (map Say more) ∙ ap (λ (l : List Task). l ++ tasks (map Say more)) says
@@ -407,7 +407,7 @@ module _ (replies : Ask → Option Message → Type 0) (held : Bool) where
 
   taking_calls : (taken : List (Option Message)) → calls_of (map taking taken) ≡ map (Collected held) taken
   taking_calls [] = refl
-  taking_calls (m ∷ taken) = ap (λ (l : List DeskCall). Collected held m ∷ l) (taking_calls taken)
+  taking_calls (m ∷ taken) = ap (λ (l : List AuthorityCall). Collected held m ∷ l) (taking_calls taken)
 
   taking_messages : (taken : List (Option Message)) → messages_of (map taking taken) ≡ given_by taken
   taking_messages [] = refl
@@ -417,7 +417,7 @@ module _ (replies : Ask → Option Message → Type 0) (held : Bool) where
   all_replied [] = tt
   all_replied (m ∷ taken) = (tt, all_replied taken)
 
-  pub settles_collected : (old new : List Due) (ms : List Message) (taken : List (Option Message)) → tasks old ≡ map ToSay ms
+  pub settles_collected : (old new : List Pending) (ms : List Message) (taken : List (Option Message)) → tasks old ≡ map ToSay ms
       → new ≡ old ++ map Say (given_by taken)
       → Settles replies (tasks old ++ map (ToGive held) taken) (map (Collected held) taken) [] (tasks new)
   settles_collected old new ms taken says e = record {
@@ -426,7 +426,7 @@ module _ (replies : Ask → Option Message → Type 0) (held : Bool) where
     does = ap (λ (l : List Task). l ++ map (ToGive held) taken) (says ∙ sym (all_gave ms))
         ∙ ap (λ (l : List Task). map task_of (map Gave ms) ++ l) (sym (taking_tasks taken))
         ∙ sym (map_both task_of (map Gave ms) (map taking taken)) ∙ sym (append_nil (map task_of (map Gave ms ++ map taking taken)));
-    calls = sym (calls_both (map Gave ms) (map taking taken) ∙ ap (λ (l : List DeskCall). l ++ calls_of (map taking taken)) (gave_no_call ms)
+    calls = sym (calls_both (map Gave ms) (map taking taken) ∙ ap (λ (l : List AuthorityCall). l ++ calls_of (map taking taken)) (gave_no_call ms)
         ∙ taking_calls taken);
     replied = all_replied taken;
     given = [];

@@ -10,22 +10,22 @@ use Rattle.ovs_reader.specs.Session.{is_over, new_session}
 use Rattle.ovs_reader.specs.Turns.{turn, after_turn}
 use Rattle.ovs_reader.specs.Telling.{told_some, after_some}
 use Rattle.ovs_views.specs.Published.{GoesOn, ViewSessionValue}
-use Rattle.ovs_service.specs.Asking.{AskerValue, HasNothingMore, most_unanswered, without_reply}
+use Rattle.ovs_service.specs.Asking.{SessionTokenValue, HasNothingMore, most_unanswered, without_reply}
 use Rattle.ovs_service.specs.Calls.{Call, Answer, Give, AreTasksOf, IsTelling, IsAllTold, most_told, shown_to}
 use Rattle.ovs_service.specs.Deeds.{Task, ToSay, Settles, tasks}
-use Rattle.ovs_service.specs.declared.asker.DeskCall.{DeskCall}
-use Rattle.ovs_service.specs.declared.due.Due.{Due}
+use Rattle.ovs_service.specs.declared.session_token.AuthorityCall.{AuthorityCall}
+use Rattle.ovs_service.specs.declared.pending.Pending.{Pending}
 
 -- its session, its number, all calls that were made for it at the desk, and what is due to it
 pub record ClientValue : Type 0 where
   pub session : ViewSessionValue
-  pub who : ℕ
-  pub calls : List DeskCall
-  pub due : List Due
+  pub session_id : ℕ
+  pub calls : List AuthorityCall
+  pub due : List Pending
 
 -- the session as the desk knows it
-abbrev pub asker_of : ClientValue → AskerValue
-asker_of c = record { who = c.who; calls = c.calls }
+abbrev pub token_of : ClientValue → SessionTokenValue
+token_of c = record { session_id = c.session_id; calls = c.calls }
 
 -- nothing is due, and one more may be asked
 abbrev pub MayAsk : ClientValue → Type 0
@@ -41,7 +41,7 @@ new_view last = record { session = new_session; last = last }
 
 -- nothing was heard of it yet
 abbrev pub new_client : ℕ → List Step → ClientValue
-new_client who last = record { session = new_view last; who = who; calls = []; due = [] }
+new_client session_id last = record { session = new_view last; session_id = session_id; calls = []; due = [] }
 
 -- these steps begin anew behind those that the client was shown: what it was told doesn't go on in them
 abbrev pub HasBegunAnew : SchemaValue → List Step → ClientValue → Type 0
@@ -52,11 +52,11 @@ HasBegunAnew schema shown c = is_over c.session.session.start (folded_by schema 
 pub record Hears (schema : SchemaValue) (shown : List Step) (message : Message) (old new : ClientValue) : Type 0 where
   pub goes_on : GoesOn schema old.session.last shown
   pub lasts : is_over old.session.session.start (folded_by schema shown) ≡ false
-  pub added : List Due
+  pub added : List Pending
   pub gives : AreTasksOf (turn old.session.session (folded_by schema shown) message) (tasks added)
   pub after : new ≡ record {
     session = shown_to shown (after_turn old.session.session (folded_by schema shown) message);
-    who = old.who;
+    session_id = old.session_id;
     calls = old.calls;
     due = old.due ++ added;
   }
@@ -66,11 +66,11 @@ pub record Hears (schema : SchemaValue) (shown : List Step) (message : Message) 
 pub record IsTold (schema : SchemaValue) (shown : List Step) (old new : ClientValue) : Type 0 where
   pub goes_on : GoesOn schema old.session.last shown
   pub lasts : is_over old.session.session.start (folded_by schema shown) ≡ false
-  pub added : List Due
+  pub added : List Pending
   pub gives : tasks added ≡ map ToSay (told_some most_told old.session.session.monitors (folded_by schema shown).steps)
   pub after : new ≡ record {
     session = shown_to shown (after_some most_told old.session.session (folded_by schema shown));
-    who = old.who;
+    session_id = old.session_id;
     calls = old.calls;
     due = old.due ++ added;
   }
@@ -84,10 +84,10 @@ module _ (schema : SchemaValue) (replies : ℕ → Ask → Option Message → Ty
   -- desk, of which none was made before, and the rest is due.
   pub record Serves (calls : List Call) (old : ClientValue) (said : List ℕ) (new : ClientValue) : Type 0 where
     pub todo : List Task
-    pub gives : Give schema (λ held. owes held old.who) calls old.session todo new.session
-    pub made : List DeskCall
-    pub settles : Settles (replies old.who) (tasks old.due ++ todo) made said (tasks new.due)
-    pub who : new.who ≡ old.who
+    pub gives : Give schema (λ held. owes held old.session_id) calls old.session todo new.session
+    pub made : List AuthorityCall
+    pub settles : Settles (replies old.session_id) (tasks old.due ++ todo) made said (tasks new.due)
+    pub session_id : new.session_id ≡ old.session_id
     pub all : new.calls ≡ old.calls ++ made
 
   -- the text is answered from these steps

@@ -3,20 +3,20 @@
 #![tactic(auto)]
 
 mod adding;
-mod asker;
 mod client;
 mod collecting;
-mod desk;
-mod due;
+mod flushing;
 mod laws;
+mod pending;
 mod saying;
 mod service;
-mod settling;
+mod service_authority;
+mod session_token;
 mod unshared;
 
-pub use asker::{Asker, DeskCall};
 pub use client::Client;
-pub use desk::Desk;
 pub use laws::{answers_come_behind_what_they_stand_for, reader_laws};
 pub use service::NodeService;
+pub use service_authority::ServiceAuthority;
+pub use session_token::{AuthorityCall, SessionToken};
 pub use unshared::{Unshared, copy_ask};

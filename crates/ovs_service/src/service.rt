@@ -6,43 +6,44 @@ ghost use Rattle.ovs_links.specs.declared.step.Step.{Step};
 ghost use Rattle.ovs_service.specs.Calls.{IsAllTold};
 ghost use Rattle.ovs_service.specs.Client.{new_client, SaysNothing, AnswersFrom, AnswersTo, TellsOf, TellsNew, MayAsk, IsAnswered, HasAll, HasBegunAnew, Hears, IsTold, ClientValue};
 
-use crate::asker::Asker;
 use crate::client::Client;
-use crate::desk::Desk;
-use ovs_session::{Outbox, Pace, Refusal, Service};
+use crate::service_authority::ServiceAuthority;
+use crate::session_token::SessionToken;
+use ovs_json::SessionId;
+use ovs_session::{Outbox, Service, ServiceError, TurnProgress};
 use ovs_views::{NodeName, Told, View};
 use ovs_wire::{Message, MessageError};
 use ovs_worker::SessionHost;
 use std::alloc::Global;
 
 // The message that a text says.
-fn read(alloc: Global, text: &[u8]) -> Result<Message, Refusal>
+fn read(alloc: Global, text: &[u8]) -> Result<Message, ServiceError>
     ensures says { IfOk result (Says text.now) }
-    ensures bad { result ≡ Err Refusal.BadInput → SaysNothing text.now }
-    ensures never_gone { result ≡ Err Refusal.Gone → ⊥ }
-    ensures never_epoch { result ≡ Err Refusal.Epoch → ⊥ }
+    ensures bad { result ≡ Err ServiceError.BadInput → SaysNothing text.now }
+    ensures never_gone { result ≡ Err ServiceError.Gone → ⊥ }
+    ensures never_epoch { result ≡ Err ServiceError.Epoch → ⊥ }
 {
     match Message::read(alloc, text) {
         Ok(message) => Ok(message),
-        Err(MessageError::NoMemory) => Err(Refusal::NoMemory),
-        Err(_) => Err(Refusal::BadInput),
+        Err(MessageError::NoMemory) => Err(ServiceError::NoMemory),
+        Err(_) => Err(ServiceError::BadInput),
     }
 }
 
 // Whether a session is to be told more, where this was all that is new, or wasn't.
-fn pace_of<K: NodeName>(is_all: bool, client: &Client<K>) -> Pace
-    ensures all { result ≡ Pace.Idle → (is_all ≡ true) × (client.now.due ≡ []) }
+fn progress_of<K: NodeName>(is_all: bool, client: &Client<K>) -> TurnProgress
+    ensures all { result ≡ TurnProgress.Idle → (is_all ≡ true) × (client.now.due ≡ []) }
 {
     if is_all && client.is_settled() {
-        Pace::Idle
+        TurnProgress::Idle
     } else {
-        Pace::Busy
+        TurnProgress::Busy
     }
 }
 
 /// A node's service of its readers: each message is answered from a view of what is published, or by the authority where only
 /// the source can answer, and each reader is told what its monitors show and what the authority owes it.
-pub struct NodeService<K: NodeName, D: Desk<K>> {
+pub struct NodeService<K: NodeName, D: ServiceAuthority<K>> {
     alloc: Global,
     view: View<K>,
     desk: D,
@@ -50,7 +51,7 @@ pub struct NodeService<K: NodeName, D: Desk<K>> {
     is_gone: bool,
 }
 
-impl<K: NodeName, D: Desk<K>> NodeService<K, D> {
+impl<K: NodeName, D: ServiceAuthority<K>> NodeService<K, D> {
     /// The service by this view and this authority.
     pub fn new(alloc: Global, view: View<K>, desk: D) -> NodeService<K, D>
         ensures view { result.view ≡ view }
@@ -81,10 +82,10 @@ impl<K: NodeName, D: Desk<K>> NodeService<K, D> {
 
     /// A reader of which nothing was heard yet, which is shown no less than what the view knows. The authority knows it by this
     /// number, which is to be one that no other reader has or had.
-    pub fn client(&self, who: u64) -> Client<K>
-        ensures value { result ≡ new_client who self.now.view }
+    pub fn client(&self, session_id: SessionId) -> Client<K>
+        ensures value { result ≡ new_client session_id self.now.view }
     {
-        Client::new(self.alloc, Asker::new(who), self.view.known())
+        Client::new(self.alloc, SessionToken::new(session_id), self.view.known())
     }
 
     /// From now on readers are shown no less than this.
@@ -98,55 +99,59 @@ impl<K: NodeName, D: Desk<K>> NodeService<K, D> {
     }
 
     // Hears a message, and notes where the view is gone. After a refusal nothing has changed of the client.
-    fn hear(&mut self, client: &mut Client<K>, message: Message) -> Result<(), Refusal>
+    fn hear(&mut self, client: &mut Client<K>, message: Message) -> Result<(), ServiceError>
         ensures heard { OnOk result (Hears K.schema self.new.view message client.old client.new) }
         ensures unchanged { OnErr result (client.new ≡ client.old) }
-        ensures never_bad { result ≡ Err Refusal.BadInput → ⊥ }
-        ensures gone { result ≡ Err Refusal.Gone → self.new.is_gone ≡ true }
-        ensures epoch { result ≡ Err Refusal.Epoch → HasBegunAnew K.schema self.new.view client.new }
+        ensures never_bad { result ≡ Err ServiceError.BadInput → ⊥ }
+        ensures gone { result ≡ Err ServiceError.Gone → self.new.is_gone ≡ true }
+        ensures epoch { result ≡ Err ServiceError.Epoch → HasBegunAnew K.schema self.new.view client.new }
         ensures desk { self.new.desk ≡ self.old.desk }
     {
         let heard = client.hear(self.alloc, &mut self.view, message);
-        self.is_gone = matches!(heard, Err(Refusal::Gone));
+        self.is_gone = matches!(heard, Err(ServiceError::Gone));
         heard
     }
 
     // What monitors tell in one call is due then, and it is noted where the view is gone. After a refusal nothing has changed of the
     // client.
-    fn pump(&mut self, client: &mut Client<K>) -> Result<bool, Refusal>
+    fn pump(&mut self, client: &mut Client<K>) -> Result<bool, ServiceError>
         ensures told { OnOk result (IsTold K.schema self.new.view client.old client.new) }
         ensures all { IfOk result (λ is_all. is_all ≡ true → IsAllTold client.new.session) }
         ensures unchanged { OnErr result (client.new ≡ client.old) }
-        ensures never_bad { result ≡ Err Refusal.BadInput → ⊥ }
-        ensures gone { result ≡ Err Refusal.Gone → self.new.is_gone ≡ true }
-        ensures epoch { result ≡ Err Refusal.Epoch → HasBegunAnew K.schema self.new.view client.new }
+        ensures never_bad { result ≡ Err ServiceError.BadInput → ⊥ }
+        ensures gone { result ≡ Err ServiceError.Gone → self.new.is_gone ≡ true }
+        ensures epoch { result ≡ Err ServiceError.Epoch → HasBegunAnew K.schema self.new.view client.new }
         ensures desk { self.new.desk ≡ self.old.desk }
     {
         let is_all_told = client.pump(self.alloc, &mut self.view);
-        self.is_gone = matches!(is_all_told, Err(Refusal::Gone));
+        self.is_gone = matches!(is_all_told, Err(ServiceError::Gone));
         is_all_told
     }
 
     // Tells what its monitors show, as much as one call tells, and where that is all what the authority owes it. It is idle only
     // where nothing more is to be told now. After a refusal nothing has changed of the client.
-    fn tell_new(&mut self, client: &mut Client<K>, out: &mut Outbox) -> Result<Pace, Refusal>
+    fn tell_new(
+        &mut self,
+        client: &mut Client<K>,
+        out: &mut Outbox,
+    ) -> Result<TurnProgress, ServiceError>
         requires settled { client.old.due ≡ [] }
         ensures told { OnOk result ((said : List ℕ) × TellsOf K.schema D.replies D.owes self.new.view client.old said client.new × (out.new ≡ out.old ++ said)) }
-        ensures all { result ≡ Ok Pace.Idle → HasAll self.new.view client.new }
+        ensures all { result ≡ Ok TurnProgress.Idle → HasAll self.new.view client.new }
         ensures unchanged { OnErr result ((client.new ≡ client.old) × (out.new ≡ out.old)) }
-        ensures never_bad { result ≡ Err Refusal.BadInput → ⊥ }
-        ensures gone { result ≡ Err Refusal.Gone → self.new.is_gone ≡ true }
-        ensures epoch { result ≡ Err Refusal.Epoch → HasBegunAnew K.schema self.new.view client.new }
+        ensures never_bad { result ≡ Err ServiceError.BadInput → ⊥ }
+        ensures gone { result ≡ Err ServiceError.Gone → self.new.is_gone ≡ true }
+        ensures epoch { result ≡ Err ServiceError.Epoch → HasBegunAnew K.schema self.new.view client.new }
         ensures none_ended { D.ended self.new.desk ≡ D.ended self.old.desk }
     {
         let is_all_told = self.pump(client)?;
         let is_all = client.collect(self.alloc, is_all_told, &mut self.view, &mut self.desk);
-        client.settle(self.alloc, &mut self.desk, out);
-        Ok(pace_of(is_all, client))
+        client.flush(self.alloc, &mut self.desk, out);
+        Ok(progress_of(is_all, client))
     }
 }
 
-impl<K: NodeName, D: Desk<K>> Service for NodeService<K, D> {
+impl<K: NodeName, D: ServiceAuthority<K>> Service for NodeService<K, D> {
     type Session = Client<K>;
 
     ghost answers = { λ old text said new. AnswersTo K.schema D.replies D.owes old text said new };
@@ -186,22 +191,22 @@ impl<K: NodeName, D: Desk<K>> Service for NodeService<K, D> {
         client: &mut Client<K>,
         text: &[u8],
         out: &mut Outbox,
-    ) -> Result<(), Refusal>
+    ) -> Result<(), ServiceError>
         ensures ok { OnOk result ((said : List ℕ) × AnswersTo K.schema D.replies D.owes client.old text.now said client.new × (out.new ≡ out.old ++ said)) }
         ensures err { OnErr result ((client.new ≡ client.old) × (out.new ≡ out.old)) }
-        ensures bad { result ≡ Err Refusal.BadInput → SaysNothing text.now }
-        ensures gone { result ≡ Err Refusal.Gone → self.new.is_gone ≡ true }
-        ensures epoch { result ≡ Err Refusal.Epoch → HasBegunAnew K.schema self.new.view client.new }
+        ensures bad { result ≡ Err ServiceError.BadInput → SaysNothing text.now }
+        ensures gone { result ≡ Err ServiceError.Gone → self.new.is_gone ≡ true }
+        ensures epoch { result ≡ Err ServiceError.Epoch → HasBegunAnew K.schema self.new.view client.new }
         ensures shown { OnOk result ((said : List ℕ) × AnswersFrom K.schema D.replies D.owes self.new.view client.old text.now said client.new × (out.new ≡ out.old ++ said)) }
-        ensures still_gone { self.old.is_gone ≡ true → result ≡ Err Refusal.Gone }
+        ensures still_gone { self.old.is_gone ≡ true → result ≡ Err ServiceError.Gone }
         ensures none_ended { D.ended self.new.desk ≡ D.ended self.old.desk }
     {
         if self.is_gone {
-            return Err(Refusal::Gone);
+            return Err(ServiceError::Gone);
         }
         let message = read(self.alloc, text)?;
         self.hear(client, message)?;
-        client.settle(self.alloc, &mut self.desk, out);
+        client.flush(self.alloc, &mut self.desk, out);
         Ok(())
     }
 
@@ -209,47 +214,51 @@ impl<K: NodeName, D: Desk<K>> Service for NodeService<K, D> {
     /// where that is cut short: by the bounds of a call, or since memory ran out after something was done.
     ///
     /// `NoMemory` where memory ran out before something was done; `Gone` and `Epoch` as `answer`.
-    fn tell(&mut self, client: &mut Client<K>, out: &mut Outbox) -> Result<Pace, Refusal>
+    fn tell(
+        &mut self,
+        client: &mut Client<K>,
+        out: &mut Outbox,
+    ) -> Result<TurnProgress, ServiceError>
         ensures ok { OnOk result ((said : List ℕ) × TellsNew K.schema D.replies D.owes client.old said client.new × (out.new ≡ out.old ++ said)) }
         ensures err { OnErr result ((client.new ≡ client.old) × (out.new ≡ out.old)) }
-        ensures bad { result ≡ Err Refusal.BadInput → ⊥ }
-        ensures told { result ≡ Ok Pace.Idle → HasAll self.new.view client.new }
-        ensures more { result ≡ Ok Pace.Busy → Unit {0} }
-        ensures gone { result ≡ Err Refusal.Gone → self.new.is_gone ≡ true }
-        ensures epoch { result ≡ Err Refusal.Epoch → HasBegunAnew K.schema self.new.view client.new }
+        ensures bad { result ≡ Err ServiceError.BadInput → ⊥ }
+        ensures told { result ≡ Ok TurnProgress.Idle → HasAll self.new.view client.new }
+        ensures more { result ≡ Ok TurnProgress.Busy → Unit {0} }
+        ensures gone { result ≡ Err ServiceError.Gone → self.new.is_gone ≡ true }
+        ensures epoch { result ≡ Err ServiceError.Epoch → HasBegunAnew K.schema self.new.view client.new }
         ensures shown { OnOk result ((said : List ℕ) × TellsOf K.schema D.replies D.owes self.new.view client.old said client.new × (out.new ≡ out.old ++ said)) }
-        ensures still_gone { self.old.is_gone ≡ true → result ≡ Err Refusal.Gone }
+        ensures still_gone { self.old.is_gone ≡ true → result ≡ Err ServiceError.Gone }
         ensures none_ended { D.ended self.new.desk ≡ D.ended self.old.desk }
     {
         if self.is_gone {
-            return Err(Refusal::Gone);
+            return Err(ServiceError::Gone);
         }
-        let is_changed = client.settle(self.alloc, &mut self.desk, out);
+        let is_changed = client.flush(self.alloc, &mut self.desk, out);
         if !client.is_settled() {
             return if is_changed {
-                Ok(Pace::Busy)
+                Ok(TurnProgress::Busy)
             } else {
-                Err(Refusal::NoMemory)
+                Err(ServiceError::NoMemory)
             };
         }
         match self.tell_new(client, out) {
-            Ok(pace) => Ok(pace),
-            Err(_) if is_changed => Ok(Pace::Busy),
+            Ok(progress) => Ok(progress),
+            Err(_) if is_changed => Ok(TurnProgress::Busy),
             Err(refusal) => Err(refusal),
         }
     }
 }
 
-impl<K: NodeName, D: Desk<K>> SessionHost for NodeService<K, D> {
-    ghost begins = { λ client. (who : ℕ) × (last : List Step) × (client ≡ new_client who last) };
+impl<K: NodeName, D: ServiceAuthority<K>> SessionHost for NodeService<K, D> {
+    ghost begins = { λ client. (session_id : ℕ) × (last : List Step) × (client ≡ new_client session_id last) };
 
-    ghost is_silent = { λ service client. Contains (D.ended service.desk) client.who };
+    ghost is_silent = { λ service client. Contains (D.ended service.desk) client.session_id };
 
     fn end(&mut self, client: &Client<K>)
-        ensures silent { Contains (D.ended self.new.desk) client.now.who }
-        ensures stays { (other : ClientValue) → Contains (D.ended self.old.desk) other.who → Contains (D.ended self.new.desk) other.who }
-        ensures ended { D.ended self.new.desk ≡ D.ended self.old.desk ++ client.now.who ∷ [] }
+        ensures silent { Contains (D.ended self.new.desk) client.now.session_id }
+        ensures stays { (other : ClientValue) → Contains (D.ended self.old.desk) other.session_id → Contains (D.ended self.new.desk) other.session_id }
+        ensures ended { D.ended self.new.desk ≡ D.ended self.old.desk ++ client.now.session_id ∷ [] }
     {
-        self.desk.end_session(client.asker());
+        self.desk.end_session(client.token());
     }
 }

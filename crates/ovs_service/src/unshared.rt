@@ -2,15 +2,15 @@
 ghost use Rattle.std.specs.Prelude.{◌≡◌, ◌<◌, ◌++◌, ◌∷◌, [], IfOk, IfSome, OnErr};
 ghost use Rattle.ovs_authority.specs.Owing.{AsksTo, CollectsTo, IsSame, silent};
 ghost use Rattle.ovs_reader.specs.Answers.{seen_verb};
-ghost use Rattle.ovs_service.specs.declared.asker.DeskCall.TheVariants as calls;
+ghost use Rattle.ovs_service.specs.declared.session_token.AuthorityCall.TheVariants as calls;
 ghost use Rattle.ovs_service.specs.Asking.{with_calls, most_unanswered, without_reply};
 ghost use Rattle.ovs_service.specs.Replies.{RepliesTo, IsAnswer, seen_ask};
 
-use crate::asker::Asker;
-use crate::desk::Desk;
+use crate::service_authority::ServiceAuthority;
+use crate::session_token::SessionToken;
 use ovs_authority::{Ask, Authority, Verb};
 use ovs_history::GhostList;
-use ovs_json::NoMemory;
+use ovs_json::{NoMemory, SessionId};
 use ovs_views::{NodeName, View, ViewError, ViewSession};
 use ovs_wire::Message;
 use std::alloc::Global;
@@ -44,7 +44,7 @@ pub fn copy_ask(ask: &Ask) -> Result<Ask, NoMemory>
 pub struct Unshared<A: Authority> {
     authority: A,
     // The numbers of the sessions that were ended.
-    ended: GhostList<u64>,
+    ended: GhostList<SessionId>,
 }
 
 impl<A: Authority> Unshared<A> {
@@ -71,7 +71,7 @@ impl<A: Authority> Unshared<A> {
     }
 }
 
-impl<K: NodeName, A: Authority> Desk<K> for Unshared<A> {
+impl<K: NodeName, A: Authority> ServiceAuthority<K> for Unshared<A> {
     ghost replies = { λ _ ask reply. RepliesTo ask.id reply };
 
     ghost owes = { λ _ _ _ message. IsAnswer message };
@@ -81,20 +81,20 @@ impl<K: NodeName, A: Authority> Desk<K> for Unshared<A> {
     fn ask(
         &mut self,
         alloc: Global,
-        asker: &mut Asker,
+        token: &mut SessionToken,
         ask: &Ask,
     ) -> Result<Option<Message>, NoMemory>
-        requires room { without_reply asker.old.calls < most_unanswered }
+        requires room { without_reply token.old.calls < most_unanswered }
         ensures replied { IfOk result (λ r. RepliesTo ask.now.id r × RepliesTo ask.now.id r) }
-        ensures asked { IfOk result (λ r. asker.new ≡ with_calls asker.old (calls.Asked ask.now r ∷ [])) }
-        ensures unchanged { OnErr result (asker.new ≡ asker.old) }
+        ensures asked { IfOk result (λ r. token.new ≡ with_calls token.old (calls.Asked ask.now r ∷ [])) }
+        ensures unchanged { OnErr result (token.new ≡ token.old) }
         ensures none_ended { self.new.ended ≡ self.old.ended }
-        ensures once { IfOk result (λ r. AsksTo (A.owing self.old.authority asker.old.who) ask.now.id r (A.owing self.new.authority asker.old.who)) }
+        ensures once { IfOk result (λ r. AsksTo (A.owing self.old.authority token.old.session_id) ask.now.id r (A.owing self.new.authority token.old.session_id)) }
         ensures nothing { OnErr result (IsSame (A.owing self.old.authority) (A.owing self.new.authority)) }
     {
         let copy = copy_ask(ask)?;
-        let reply = self.authority.ask(alloc, asker.who(), copy)?;
-        asker.note_asked(ask, &reply);
+        let reply = self.authority.ask(alloc, token.session_id(), copy)?;
+        token.note_asked(ask, &reply);
         Ok(reply)
     }
 
@@ -106,30 +106,30 @@ impl<K: NodeName, A: Authority> Desk<K> for Unshared<A> {
     fn collect(
         &mut self,
         alloc: Global,
-        asker: &mut Asker,
+        token: &mut SessionToken,
         is_held_back: bool,
         _view: &mut View<K>,
         _session: &ViewSession<K>,
     ) -> Result<Option<Message>, ViewError>
         ensures given { IfOk result (λ r. IfSome r (λ m. IsAnswer m × IsAnswer m)) }
-        ensures collected { IfOk result (λ r. asker.new ≡ with_calls asker.old (calls.Collected is_held_back r ∷ [])) }
-        ensures unchanged { OnErr result (asker.new ≡ asker.old) }
+        ensures collected { IfOk result (λ r. token.new ≡ with_calls token.old (calls.Collected is_held_back r ∷ [])) }
+        ensures unchanged { OnErr result (token.new ≡ token.old) }
         ensures view { _view.new ≡ _view.old }
         ensures none_ended { self.new.ended ≡ self.old.ended }
-        ensures once { IfOk result (λ r. CollectsTo (A.owing self.old.authority asker.old.who) r (A.owing self.new.authority asker.old.who)) }
+        ensures once { IfOk result (λ r. CollectsTo (A.owing self.old.authority token.old.session_id) r (A.owing self.new.authority token.old.session_id)) }
         ensures nothing { OnErr result (IsSame (A.owing self.old.authority) (A.owing self.new.authority)) }
     {
-        let message = self.authority.collect(alloc, asker.who())?;
-        asker.note_collected(is_held_back, &message);
+        let message = self.authority.collect(alloc, token.session_id())?;
+        token.note_collected(is_held_back, &message);
         Ok(message)
     }
 
-    fn end_session(&mut self, asker: &Asker)
-        ensures ended { self.new.ended ≡ self.old.ended ++ asker.now.who ∷ [] }
-        ensures silent { A.owing self.new.authority asker.now.who ≡ silent }
+    fn end_session(&mut self, token: &SessionToken)
+        ensures ended { self.new.ended ≡ self.old.ended ++ token.now.session_id ∷ [] }
+        ensures silent { A.owing self.new.authority token.now.session_id ≡ silent }
     {
-        let who = asker.who();
-        self.authority.end_session(who);
-        self.ended.push(&who);
+        let session_id = token.session_id();
+        self.authority.end_session(session_id);
+        self.ended.push(&session_id);
     }
 }

@@ -3,8 +3,8 @@ use Rattle.std.proofs.Common.{◌≡◌, ◌⊎◌, ◌<◌, length, ⊎_elim, �
 use Rattle.std.specs.Prelude.{Result}
 use Rattle.ovs_session.specs.declared.ended.Ended.{Ended}
 use Rattle.ovs_session.specs.declared.ended.Ended.TheVariants.{Closed, BadInput, WriteFault, Gone, Epoch, TurnsSpent}
-use Rattle.ovs_session.specs.declared.limits.Pace.{Pace}
-use Rattle.ovs_session.specs.declared.limits.Pace.TheVariants.{Idle}
+use Rattle.ovs_session.specs.declared.limits.TurnProgress.{TurnProgress}
+use Rattle.ovs_session.specs.declared.limits.TurnProgress.TheVariants.{Idle}
 use Rattle.ovs_session.specs.Moving.{IsAnswer, IsBad}
 use Rattle.ovs_session.specs.Serving.{SessionValue, IsDone, IsIdle}
 
@@ -17,10 +17,10 @@ no_error {X} {E} x e is = subst (λ (r : Result X E). OnlyOk r) is tt
 
 -- why a session has ended may be noted
 pub answer_noted : {C : Type 0} (refuses : C → List ℕ → Type 0) (may_answer is_answered is_told is_over : C → Type 0) (is_gone : Type 0)
-    (r : Result Pace Ended) (a b : SessionValue C) (e : Option Ended)
-    → b ≡ record a { ended = e } → (r ≡ Err Closed → IsDone a × is_answered a.core) → (r ≡ Err BadInput → IsBad refuses a × is_answered a.core)
+    (r : Result TurnProgress Ended) (a b : SessionValue C) (e : Option Ended)
+    → b ≡ record a { ended = e } → (r ≡ Err Closed → IsDone a × is_answered a.state) → (r ≡ Err BadInput → IsBad refuses a × is_answered a.state)
     → ((x : Ended) → r ≡ Err x → (x ≡ WriteFault → ⊥) → a.unsent ≡ []) → (r ≡ Ok Idle → IsIdle may_answer is_answered a)
-    → (r ≡ Ok Idle → is_told a.core ⊎ (0 < length a.unsent)) → (r ≡ Err Gone → is_gone) → (r ≡ Err Epoch → is_over a.core)
+    → (r ≡ Ok Idle → is_told a.state ⊎ (0 < length a.unsent)) → (r ≡ Err Gone → is_gone) → (r ≡ Err Epoch → is_over a.state)
     → (r ≡ Err TurnsSpent → ⊥) → IsAnswer refuses may_answer is_answered is_told is_over is_gone r b
 answer_noted refuses may_answer is_answered is_told is_over is_gone r a b e is closed bad written idle told gone epoch unspent =
     subst (λ (z : SessionValue _). IsAnswer refuses may_answer is_answered is_told is_over is_gone r z) (sym is) (record {

@@ -59,11 +59,11 @@ module _ {C : Type 0} (answers : C → List ℕ → List ℕ → C → Type 0) (
   pub moved_more : (i j k o p q : Option (List ℕ)) (a b c : SessionValue C) → Moved answers tells limit i j o p a b → Moved answers tells limit j k p q b c
       → Moved answers tells limit i k o q a c
   moved_more i j k o p q a b c m n = record {
-    came = m.came ++ n.came;
-    went = m.went ++ n.went;
-    reads = consumes_more i j k m.came n.came m.reads n.reads;
-    writes = appends_more o p q m.went n.went m.writes n.writes;
-    served = served_more answers tells a b c m.came n.came m.went n.went m.served n.served;
+    bytes_read = m.bytes_read ++ n.bytes_read;
+    bytes_written = m.bytes_written ++ n.bytes_written;
+    reads = consumes_more i j k m.bytes_read n.bytes_read m.reads n.reads;
+    writes = appends_more o p q m.bytes_written n.bytes_written m.writes n.writes;
+    served = served_more answers tells a b c m.bytes_read n.bytes_read m.bytes_written n.bytes_written m.served n.served;
     bounded = bounded_more answers tells limit a b c m.bounded n.bounded;
     ends = ends_more j k a.is_at_end b.is_at_end c.is_at_end m.ends n.ends n.stays;
     stays = λ e. let first = m.stays e in let then = n.stays first.0 in (then.0, then.1 ∙ first.1);
@@ -71,8 +71,8 @@ module _ {C : Type 0} (answers : C → List ℕ → List ℕ → C → Type 0) (
 
   pub moved_worked : (i o : Option (List ℕ)) (a b : SessionValue C) → Worked answers tells limit a b → Moved answers tells limit i i o o a b
   moved_worked i o a b w = record {
-    came = [];
-    went = [];
+    bytes_read = [];
+    bytes_written = [];
     reads = consumes_none i;
     writes = appends_none o;
     served = w.served;
@@ -92,12 +92,12 @@ module _ {C : Type 0} (answers : C → List ℕ → List ℕ → C → Type 0) (
 
   -- a write
   pub moved_wrote : (i o p : Option (List ℕ)) (a b : SessionValue C)
-      → (went rest : List ℕ) × Appends o p went × (a.unsent ≡ went ++ rest) × (b ≡ record a { unsent = rest; counts = b.counts })
-      × HasWritten (length went) a.counts b.counts
+      → (bytes_written rest : List ℕ) × Appends o p bytes_written × (a.unsent ≡ bytes_written ++ rest) × (b ≡ record a { unsent = rest; counts = b.counts })
+      × HasWritten (length bytes_written) a.counts b.counts
       → Moved answers tells limit i i o p a b
   moved_wrote i o p a b w = record {
-    came = [];
-    went = w.0;
+    bytes_read = [];
+    bytes_written = w.0;
     reads = consumes_none i;
     writes = w.2;
     served = served_wrote answers tells a b w.0 w.1 w.3 w.5 w.4;
@@ -108,11 +108,11 @@ module _ {C : Type 0} (answers : C → List ℕ → List ℕ → C → Type 0) (
 
   -- a read before the end
   pub moved_read : (i j o : Option (List ℕ)) (a b : SessionValue C) → a.is_at_end ≡ false → HasCalled a.counts b.counts
-      → (came : List ℕ) × Consumes i j came × (b ≡ record a { unfed = a.unfed ++ came; counts = b.counts })
+      → (bytes_read : List ℕ) × Consumes i j bytes_read × (b ≡ record a { unfed = a.unfed ++ bytes_read; counts = b.counts })
       → Moved answers tells limit i j o o a b
   moved_read i j o a b was counted r = record {
-    came = r.0;
-    went = [];
+    bytes_read = r.0;
+    bytes_written = [];
     reads = r.1;
     writes = appends_none o;
     served = served_read answers tells a b r.0 counted r.2;
@@ -125,8 +125,8 @@ module _ {C : Type 0} (answers : C → List ℕ → List ℕ → C → Type 0) (
   pub moved_end : (j o : Option (List ℕ)) (b c : SessionValue C) (is_end : Bool) → (is_end ≡ true → IsAtEnd j)
       → c ≡ record b { is_at_end = b.is_at_end || is_end } → Moved answers tells limit j j o o b c
   moved_end j o b c is_end found noted = record {
-    came = [];
-    went = [];
+    bytes_read = [];
+    bytes_written = [];
     reads = consumes_none j;
     writes = appends_none o;
     served = served_end answers tells b c (b.is_at_end || is_end) noted;

@@ -4,7 +4,6 @@ use Rattle.std.specs.Prelude.{All}
 use Rattle.std.proofs.lemmas.Bool.{cases_lt}
 use Rattle.std.proofs.lemmas.List.{take-append-le, take_all}
 use Rattle.std.proofs.lemmas.List.Elements.{All-nil, All-cons, All-head, All-tail, All-drop}
-use Rattle.ovs_wire.specs.Limits.{most_bytes}
 use Rattle.ovs_wire.specs.Depth.{depth}
 use Rattle.ovs_wire.specs.Frames.{Ending, Rest, Fault, EndsAs, IsSpace, IsObject, IsUnfinished, Part, Space, Object, IsPart, joined, objects}
 use Rattle.ovs_wire.specs.Framing.{Framing, Feeds, FeedsAfter, without_first}
@@ -20,16 +19,16 @@ rest_of_fits : (n j k m : ℕ) → n ≡ j + k → n ≤ m → k ≤ m
 rest_of_fits n j k m e p = omega arith
 
 -- no object is longer than the parts together
-objects_fit : (k : ℕ) (parts : List Part) → All IsPart parts → length (joined parts) ≤ k → All (AtMost (min k most_bytes)) (objects parts)
-objects_fit k [] each p = All-nil (AtMost (min k most_bytes))
-objects_fit k (Space b ∷ parts) each p =
-    objects_fit k parts (All-tail IsPart (Space b) parts each)
+objects_fit : (limit k : ℕ) (parts : List Part) → All (IsPart limit) parts → length (joined parts) ≤ k → All (AtMost (min k limit)) (objects parts)
+objects_fit limit k [] each p = All-nil (AtMost (min k limit))
+objects_fit limit k (Space b ∷ parts) each p =
+    objects_fit limit k parts (All-tail (IsPart limit) (Space b) parts each)
     (rest_of_fits (length (joined (Space b ∷ parts))) 1 (length (joined parts)) k (length-append (b ∷ []) (joined parts)) p)
-objects_fit k (Object o ∷ parts) each p =
+objects_fit limit k (Object o ∷ parts) each p =
     let whole = length-append o (joined parts) in
-    All-cons (AtMost (min k most_bytes)) o (objects parts)
-    (both_at_most (length o) k most_bytes (first_fits (length (o ++ joined parts)) (length o) (length (joined parts)) k whole p) (All-head IsPart (Object o) parts each).limits.fits)
-    (objects_fit k parts (All-tail IsPart (Object o) parts each) (rest_of_fits (length (o ++ joined parts)) (length o) (length (joined parts)) k whole p))
+    All-cons (AtMost (min k limit)) o (objects parts)
+    (both_at_most (length o) k limit (first_fits (length (o ++ joined parts)) (length o) (length (joined parts)) k whole p) (All-head (IsPart limit) (Object o) parts each).limits.fits)
+    (objects_fit limit k parts (All-tail (IsPart limit) (Object o) parts each) (rest_of_fits (length (o ++ joined parts)) (length o) (length (joined parts)) k whole p))
 
 -- what is unfinished begins with no space
 no_space : (b : ℕ) → b ≡ 123 → IsSpace b → ⊥
@@ -42,7 +41,7 @@ heads : (a b : ℕ) (xs ys : List ℕ) → a ∷ xs ≡ b ∷ ys → a ≡ b
 heads a b xs ys e = cc
 
 -- an object that begins where what is unfinished does ends behind it
-ends_behind : (left piece o more : List ℕ) → IsUnfinished left → IsObject o → left ++ piece ≡ o ++ more → length left ≤ length o
+ends_behind : {limit : ℕ} (left piece o more : List ℕ) → IsUnfinished limit left → IsObject limit o → left ++ piece ≡ o ++ more → length left ≤ length o
 ends_behind left piece o more begun is e = ⊎_elim
     (λ (lt : length left < length o). omega arith)
     (λ (le : length o ≤ length left).
@@ -67,17 +66,17 @@ le_then : (a b c : ℕ) → a ≤ b → b ≤ c → a ≤ c
 le_then a b c p q = omega arith
 
 -- where a message became whole, the rest came with the piece
-past_left : (left piece : List ℕ) (parts : List Part) (rest : List ℕ) → IsUnfinished left → left ++ piece ≡ joined parts ++ rest → All IsPart parts
+past_left : (limit : ℕ) (left piece : List ℕ) (parts : List Part) (rest : List ℕ) → IsUnfinished limit left → left ++ piece ≡ joined parts ++ rest → All (IsPart limit) parts
     → (objects parts ≡ [] → ⊥) → length left ≤ length (joined parts)
-past_left [] piece parts rest begun e each some = omega arith
-past_left (a ∷ left) piece [] rest begun e each some = absurd (some refl)
-past_left (a ∷ left) piece (Space b ∷ parts) rest begun e each some =
+past_left limit [] piece parts rest begun e each some = omega arith
+past_left limit (a ∷ left) piece [] rest begun e each some = absurd (some refl)
+past_left limit (a ∷ left) piece (Space b ∷ parts) rest begun e each some =
     let first : a ≡ 123 = begun.begun.begins (omega arith) in
     let same : a ≡ b = heads a b (left ++ piece) (joined parts ++ rest) e in
-    absurd (no_space b (sym same ∙ first) (All-head IsPart (Space b) parts each))
-past_left (a ∷ left) piece (Object o ∷ parts) rest begun e each some =
+    absurd (no_space b (sym same ∙ first) (All-head (IsPart limit) (Space b) parts each))
+past_left limit (a ∷ left) piece (Object o ∷ parts) rest begun e each some =
     le_then (length (a ∷ left)) (length o) (length (o ++ joined parts))
-    (ends_behind (a ∷ left) piece o (joined parts ++ rest) begun (All-head IsPart (Object o) parts each) (e ∙ append_assoc o (joined parts) rest))
+    (ends_behind (a ∷ left) piece o (joined parts ++ rest) begun (All-head (IsPart limit) (Object o) parts each) (e ∙ append_assoc o (joined parts) rest))
     (at_least (length o) (length (joined parts)) (length (o ++ joined parts)) (length-append o (joined parts)))
 
 lengths : (left piece front rest : List ℕ) → left ++ piece ≡ front ++ rest → length left + length piece ≡ length front + length rest
@@ -89,60 +88,60 @@ within l p j r k e le = omega arith
 within_rest : (l p j r k : ℕ) → l + p ≡ j + r → l ≤ k → r ≤ k + p
 within_rest l p j r k e le = omega arith
 
-ends_fit : (k : ℕ) (r : List ℕ) (ending : Ending) → EndsAs r ending → length r ≤ k → AtMost (min k most_bytes) (rest_of ending)
-ends_fit k r (Rest s) h le = subst (AtMost (min k most_bytes)) h.0 (both_at_most (length r) k most_bytes le h.1.limits.fits)
-ends_fit k r (Fault f) h le = omega arith
+ends_fit : (limit k : ℕ) (r : List ℕ) (ending : Ending) → EndsAs limit r ending → length r ≤ k → AtMost (min k limit) (rest_of ending)
+ends_fit limit k r (Rest s) h le = subst (AtMost (min k limit)) h.0 (both_at_most (length r) k limit le h.1.limits.fits)
+ends_fit limit k r (Fault f) h le = omega arith
 
-ends_short : (k : ℕ) (r : List ℕ) (ending : Ending) → EndsAs r ending → length r ≤ k → AtMost k (rest_of ending)
-ends_short k r (Rest s) h le = subst (AtMost k) h.0 le
-ends_short k r (Fault f) h le = omega arith
+ends_short : (limit k : ℕ) (r : List ℕ) (ending : Ending) → EndsAs limit r ending → length r ≤ k → AtMost k (rest_of ending)
+ends_short limit k r (Rest s) h le = subst (AtMost k) h.0 le
+ends_short limit k r (Fault f) h le = omega arith
 
-ends_open : (r : List ℕ) (ending : Ending) → EndsAs r ending → IsOpen ending
-ends_open r (Rest s) h = subst IsUnfinished h.0 h.1
-ends_open r (Fault f) h = tt
+ends_open : (limit : ℕ) (r : List ℕ) (ending : Ending) → EndsAs limit r ending → IsOpen limit ending
+ends_open limit r (Rest s) h = subst (IsUnfinished limit) h.0 h.1
+ends_open limit r (Fault f) h = tt
 
 zero_at_most : (k : ℕ) → AtMost k []
 zero_at_most k = omega arith
 
 fed_room : (ending : Ending) (old new : Framing) (piece : List ℕ) (rest : ℕ) → old.ending ≡ ending → FeedsAfter ending old piece new → old.waiting ≡ []
-    → IsOpen ending → AtMost rest (rest_of ending)
-    → HasRoom new (min (rest + length piece) most_bytes) (min (rest + length piece) most_bytes) (length piece)
+    → IsOpen old.limit ending → AtMost rest (rest_of ending)
+    → HasRoom new (min (rest + length piece) old.limit) (min (rest + length piece) old.limit) (length piece)
 fed_room (Rest left) old new piece rest is h none begun le =
     let f = h.frames in
     let k = rest + length piece in
     let sum = lengths left piece (joined f.parts) f.rest f.whole in
     let waiting : new.waiting ≡ h.found = h.waiting ∙ ap (λ (l : List (List ℕ)). l ++ h.found) none in
-    let fits = objects_fit k f.parts f.each (within (length left) (length piece) (length (joined f.parts)) (length f.rest) rest sum le) in
+    let fits = objects_fit old.limit k f.parts f.each (within (length left) (length piece) (length (joined f.parts)) (length f.rest) rest sum le) in
     record {
-      messages_fit = subst (All (AtMost (min k most_bytes))) (f.found_are ∙ sym waiting) fits;
-      rest_fits = ends_fit k f.rest new.ending f.ends (within_rest (length left) (length piece) (length (joined f.parts)) (length f.rest) rest sum le);
-      last_fits = λ waits. ends_short (length piece) f.rest new.ending f.ends
+      messages_fit = subst (All (AtMost (min k old.limit))) (f.found_are ∙ sym waiting) fits;
+      rest_fits = ends_fit old.limit k f.rest new.ending f.ends (within_rest (length left) (length piece) (length (joined f.parts)) (length f.rest) rest sum le);
+      last_fits = λ waits. ends_short old.limit (length piece) f.rest new.ending f.ends
           (sums (length left) (length piece) (length (joined f.parts)) (length f.rest) sum
-          (past_left left piece f.parts f.rest begun f.whole f.each (λ nothing. waits (waiting ∙ sym f.found_are ∙ nothing))));
-      open_end = ends_open f.rest new.ending f.ends;
+          (past_left old.limit left piece f.parts f.rest begun f.whole f.each (λ nothing. waits (waiting ∙ sym f.found_are ∙ nothing))));
+      open_end = subst (λ (n : ℕ). IsOpen n new.ending) (sym h.limit) (ends_open old.limit f.rest new.ending f.ends);
     }
 fed_room (Fault fault) old new piece rest is h none begun le =
-    let k = min (rest + length piece) most_bytes in
+    let k = min (rest + length piece) old.limit in
     subst (λ (f : Framing). HasRoom f k k (length piece)) (sym h) (record {
       messages_fit = subst (All (AtMost k)) (sym none) (All-nil (AtMost k));
       rest_fits = subst (λ (e : Ending). AtMost k (rest_of e)) (sym is) (zero_at_most k);
       last_fits = λ waits. absurd (waits none);
-      open_end = subst IsOpen (sym is) tt;
+      open_end = subst (IsOpen old.limit) (sym is) tt;
     })
 
 -- after a feed, where none waited
 pub feeds_room : (old new : Framing) (piece : List ℕ) (most rest before k : ℕ) → HasRoom old most rest before → Feeds old piece new → old.waiting ≡ []
-    → k ≡ min (rest + length piece) most_bytes → HasRoom new k k (length piece)
+    → k ≡ min (rest + length piece) old.limit → HasRoom new k k (length piece)
 feeds_room old new piece most rest before k room h none is =
     subst (λ (n : ℕ). HasRoom new n n (length piece)) (sym is) (fed_room old.ending old new piece rest refl h none room.open_end room.rest_fits)
 
 -- nothing waits in a new framer
-pub new_room : (now : Framing) → now.waiting ≡ [] → now.ending ≡ Rest [] → IsUnfinished [] → HasRoom now 0 0 0
+pub new_room : (now : Framing) → now.waiting ≡ [] → now.ending ≡ Rest [] → IsUnfinished now.limit [] → HasRoom now 0 0 0
 new_room now none empty begun = record {
   messages_fit = subst (All (AtMost 0)) (sym none) (All-nil (AtMost 0));
   rest_fits = subst (λ (e : Ending). AtMost 0 (rest_of e)) (sym empty) (zero_at_most 0);
   last_fits = λ waits. absurd (waits none);
-  open_end = subst IsOpen (sym empty) begun;
+  open_end = subst (IsOpen now.limit) (sym empty) begun;
 }
 
 abbrev OnlyMore : List (List ℕ) → Type 0

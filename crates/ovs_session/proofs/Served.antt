@@ -52,10 +52,10 @@ lt_below a b k p q = omega arith
 pub changed : {C : Type 0} (x : List ℕ) (f : Framing) (h j : Option (List ℕ)) (c d : C) (u w : List ℕ) (a : Bool) (n : Counts) (e : Option Ended)
     → h ≡ j → c ≡ d → u ≡ w
     → ◌≡◌ {A = SessionValue C}
-    (record { unfed = x; framing = f; held = h; core = c; unsent = u; is_at_end = a; counts = n; ended = e })
-    (record { unfed = x; framing = f; held = j; core = d; unsent = w; is_at_end = a; counts = n; ended = e })
+    (record { unfed = x; framing = f; held = h; state = c; unsent = u; is_at_end = a; counts = n; ended = e })
+    (record { unfed = x; framing = f; held = j; state = d; unsent = w; is_at_end = a; counts = n; ended = e })
 changed x f h j c d u w a n e p q r =
-    λ i. record { unfed = x; framing = f; held = p i; core = q i; unsent = r i; is_at_end = a; counts = n; ended = e }
+    λ i. record { unfed = x; framing = f; held = p i; state = q i; unsent = r i; is_at_end = a; counts = n; ended = e }
 
 -- the framer was fed all that was read
 pub fed_all : {C : Type 0} (v a : SessionValue C) (u : List ℕ) (f : Framing) → v ≡ a → u ≡ []
@@ -80,7 +80,7 @@ module _ {C : Type 0} (answers : C → List ℕ → List ℕ → C → Type 0) (
     frames = leads_more p.calls q.calls a.framing b.framing c.framing p.frames q.frames;
     read = glue a.unfed x (fed p.calls) b.unfed y (fed q.calls) c.unfed p.read q.read ∙ ap (λ (l : List ℕ). l ++ c.unfed) (sym (fed_more p.calls q.calls));
     said = p.said ++ q.said;
-    runs = runs_more p.said q.said a.core b.core c.core p.runs q.runs;
+    runs = runs_more p.said q.said a.state b.state c.state p.runs q.runs;
     answered = ap (λ (l : List (List ℕ)). holding a.held ++ l) (taken_more p.calls q.calls)
         ∙ glue (holding a.held) (taken p.calls) (messages p.said) (holding b.held) (taken q.calls) (messages q.said) (holding c.held) p.answered q.answered
         ∙ ap (λ (l : List (List ℕ)). l ++ holding c.held) (sym (messages_more p.said q.said));
@@ -180,8 +180,8 @@ module _ {C : Type 0} (answers : C → List ℕ → List ℕ → C → Type 0) (
     bytes_counted = refl;
   })
 
-  pub served_answered : (a b : SessionValue C) (m t : List ℕ) (c : C) → a.held ≡ Some m → answers a.core m t c
-      → b ≡ record a { held = None; core = c; unsent = a.unsent ++ t } → Served answers tells a [] [] b
+  pub served_answered : (a b : SessionValue C) (m t : List ℕ) (c : C) → a.held ≡ Some m → answers a.state m t c
+      → b ≡ record a { held = None; state = c; unsent = a.unsent ++ t } → Served answers tells a [] [] b
   served_answered a b m t c held p e = subst (λ (z : SessionValue C). Served answers tells a [] [] z) (sym e) (record {
     calls = [];
     frames = refl;
@@ -194,7 +194,7 @@ module _ {C : Type 0} (answers : C → List ℕ → List ℕ → C → Type 0) (
     bytes_counted = refl;
   })
 
-  pub served_told : (a b : SessionValue C) (t : List ℕ) (c : C) → tells a.core t c → b ≡ record a { core = c; unsent = a.unsent ++ t }
+  pub served_told : (a b : SessionValue C) (t : List ℕ) (c : C) → tells a.state t c → b ≡ record a { state = c; unsent = a.unsent ++ t }
       → Served answers tells a [] [] b
   served_told a b t c p e = subst (λ (z : SessionValue C). Served answers tells a [] [] z) (sym e) (record {
     calls = [];
@@ -257,22 +257,22 @@ module _ {C : Type 0} (answers : C → List ℕ → List ℕ → C → Type 0) (
     same_turns = ap (λ z. z.counts.turns) h.now;
   }
 
-  pub answered_at : (limit : ℕ) (v a b : SessionValue C) (m t : List ℕ) (c : C) → v ≡ a → v.held ≡ Some m → answers v.core m t c
-      → b ≡ record v { held = None; core = c; unsent = v.unsent ++ t } → length a.unsent < limit → Worked answers tells limit a b
+  pub answered_at : (limit : ℕ) (v a b : SessionValue C) (m t : List ℕ) (c : C) → v ≡ a → v.held ≡ Some m → answers v.state m t c
+      → b ≡ record v { held = None; state = c; unsent = v.unsent ++ t } → length a.unsent < limit → Worked answers tells limit a b
   answered_at limit v a b m t c is held p e below = subst (λ (z : SessionValue C). length z.unsent < limit → Worked answers tells limit z b) is
       (λ short. record {
         served = served_answered v b m t c held p e;
-        bounded = inr (t, (Answered m t, v.core, c, p, append_nil t), subst (λ (l : List ℕ). length l < limit + length t) (ap (λ z. z.unsent) (sym e)) (below_and limit 0 v.unsent t short));
+        bounded = inr (t, (Answered m t, v.state, c, p, append_nil t), subst (λ (l : List ℕ). length l < limit + length t) (ap (λ z. z.unsent) (sym e)) (below_and limit 0 v.unsent t short));
         same_end = ap (λ z. z.is_at_end) e;
         same_turns = ap (λ z. z.counts.turns) e;
       }) below
 
-  pub told_at : (limit : ℕ) (v a b : SessionValue C) (t : List ℕ) (c : C) → v ≡ a → tells v.core t c
-      → b ≡ record v { core = c; unsent = v.unsent ++ t } → length a.unsent < limit → Worked answers tells limit a b
+  pub told_at : (limit : ℕ) (v a b : SessionValue C) (t : List ℕ) (c : C) → v ≡ a → tells v.state t c
+      → b ≡ record v { state = c; unsent = v.unsent ++ t } → length a.unsent < limit → Worked answers tells limit a b
   told_at limit v a b t c is p e below = subst (λ (z : SessionValue C). length z.unsent < limit → Worked answers tells limit z b) is
       (λ short. record {
         served = served_told v b t c p e;
-        bounded = inr (t, (Told t, v.core, c, p, append_nil t), subst (λ (l : List ℕ). length l < limit + length t) (ap (λ z. z.unsent) (sym e)) (below_and limit 0 v.unsent t short));
+        bounded = inr (t, (Told t, v.state, c, p, append_nil t), subst (λ (l : List ℕ). length l < limit + length t) (ap (λ z. z.unsent) (sym e)) (below_and limit 0 v.unsent t short));
         same_end = ap (λ z. z.is_at_end) e;
         same_turns = ap (λ z. z.counts.turns) e;
       }) below

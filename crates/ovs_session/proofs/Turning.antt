@@ -5,8 +5,8 @@ use Rattle.std.specs.Option.{is_some}
 use Rattle.std.proofs.lemmas.Bool.{false≢true}
 use Rattle.ovs_wire.specs.Counted.{one_more}
 use Rattle.ovs_session.specs.declared.ended.Ended.{Ended}
-use Rattle.ovs_session.specs.declared.limits.Pace.{Pace}
-use Rattle.ovs_session.specs.declared.limits.Pace.TheVariants.{Busy}
+use Rattle.ovs_session.specs.declared.limits.TurnProgress.{TurnProgress}
+use Rattle.ovs_session.specs.declared.limits.TurnProgress.TheVariants.{Busy}
 use Rattle.ovs_session.specs.declared.steps.Left.{Left}
 use Rattle.ovs_session.specs.declared.steps.Left.TheVariants.{Nothing, More, Untaken, Refused, Untold}
 use Rattle.ovs_session.specs.Counting.{IsAfter, count_on}
@@ -39,9 +39,9 @@ fewer_at_hand a b held none same =
 
 -- what is told leaves why the steps stopped so
 pub may_go_on : {C : Type 0} (tells : C → List ℕ → C → Type 0) (may_answer is_answered may_tell : C → Type 0) (left : Left) (old mid new : SessionValue C)
-    → (left ≡ More → (0 < length mid.unsent) ⊎ HasAnswered old mid) → (left ≡ Untaken → may_answer mid.core → ⊥)
+    → (left ≡ More → (0 < length mid.unsent) ⊎ HasAnswered old mid) → (left ≡ Untaken → may_answer mid.state → ⊥)
     → (left ≡ Refused → ⊥) → (left ≡ Untold → ⊥) → length mid.unsent ≤ length new.unsent → at_hand new ≡ at_hand mid
-    → (0 < length new.unsent) ⊎ ((said : List ℕ) × tells mid.core said new.core)
+    → (0 < length new.unsent) ⊎ ((said : List ℕ) × tells mid.state said new.state)
     → MayGoOn tells may_answer is_answered may_tell left old new
 may_go_on tells may_answer is_answered may_tell Nothing old mid new more untaken refused untold grows same told = tt
 may_go_on tells may_answer is_answered may_tell More old mid new more untaken refused untold grows same told = elim (more refl) [
@@ -50,7 +50,7 @@ may_go_on tells may_answer is_answered may_tell More old mid new more untaken re
 ]
 may_go_on tells may_answer is_answered may_tell Untaken old mid new more untaken refused untold grows same (inl some) = inl some
 may_go_on tells may_answer is_answered may_tell Untaken old mid new more untaken refused untold grows same (inr told) =
-    inr (mid.core, told.0, told.1, untaken refl)
+    inr (mid.state, told.0, told.1, untaken refl)
 may_go_on tells may_answer is_answered may_tell Refused old mid new more untaken refused untold grows same told = absurd (refused refl)
 may_go_on tells may_answer is_answered may_tell Untold old mid new more untaken refused untold grows same told = absurd (untold refl)
 
@@ -160,35 +160,35 @@ module _ {C R W : Type 0} (answers : C → List ℕ → List ℕ → C → Type 
     (may_answer is_answered : C → Type 0) where
   -- what a turn goes on with where no byte passed
   busy_left : (may_tell : C → Type 0) (left : Left) (old mid new : WithDevices C R W) → mid.session.unsent ≡ [] → new.session ≡ mid.session
-      → MayGoOn tells may_answer is_answered may_tell left old.session mid.session → GoesOn may_answer is_answered left mid.session.core
+      → MayGoOn tells may_answer is_answered may_tell left old.session mid.session → GoesOn may_answer is_answered left mid.session.state
       → IsBusy answers tells may_answer is_answered may_tell old mid new
   busy_left may_tell Nothing old mid new none same may goes = absurd goes
   busy_left may_tell More old mid new none same (inl some) goes = absurd (none_left mid.session.unsent none some)
   busy_left may_tell More old mid new none same (inr fewer) goes = inl fewer
   busy_left may_tell Untaken old mid new none same (inl some) goes = absurd (none_left mid.session.unsent none some)
   busy_left may_tell Untaken old mid new none same (inr told) goes =
-      inr (inr (inr (inl (subst (λ (z : SessionValue C). IsNewly tells may_answer z.core) (sym same) (told, goes)))))
+      inr (inr (inr (inl (subst (λ (z : SessionValue C). IsNewly tells may_answer z.state) (sym same) (told, goes)))))
   busy_left may_tell Refused old mid new none same (inl some) goes = absurd (none_left mid.session.unsent none some)
   busy_left may_tell Refused old mid new none same (inr told) goes =
-      inr (inr (inr (inr (subst (λ (z : SessionValue C). IsNewly tells is_answered z.core) (sym same) (told, goes)))))
-  busy_left may_tell Untold old mid new none same may goes = inr (inr (inl (subst (λ (z : SessionValue C). may_tell z.core) (sym same) may)))
+      inr (inr (inr (inr (subst (λ (z : SessionValue C). IsNewly tells is_answered z.state) (sym same) (told, goes)))))
+  busy_left may_tell Untold old mid new none same may goes = inr (inr (inl (subst (λ (z : SessionValue C). may_tell z.state) (sym same) may)))
 
   busy_of : (may_tell : C → Type 0) (left : Result Left Ended) (old mid new : WithDevices C R W)
       → IfOk left (λ l. MayGoOn tells may_answer is_answered may_tell l old.session mid.session)
-      → HasPassed mid new ⊎ ((mid.session.unsent ≡ []) × (new.session ≡ mid.session) × IsOkAnd left (λ l. GoesOn may_answer is_answered l mid.session.core))
+      → HasPassed mid new ⊎ ((mid.session.unsent ≡ []) × (new.session ≡ mid.session) × IsOkAnd left (λ l. GoesOn may_answer is_answered l mid.session.state))
       → IsBusy answers tells may_answer is_answered may_tell old mid new
   busy_of may_tell left old mid new may (inl passed) = inr (inl passed)
   busy_of may_tell (Ok left) old mid new may (inr goes) = busy_left may_tell left old mid new goes.0 goes.1 may goes.2
   busy_of may_tell (Err e) old mid new may (inr goes) = absurd goes.2
 
   -- the steps without a device, and then an exchange
-  pub turn_of_steps : (may_tell : C → Type 0) (limit : ℕ) (left : Result Left Ended) (result : Result Pace Ended)
+  pub turn_of_steps : (may_tell : C → Type 0) (limit : ℕ) (left : Result Left Ended) (result : Result TurnProgress Ended)
       (old : WithDevices C R W) (mid : SessionValue C) (new : WithDevices C R W)
       → Worked answers tells limit old.session mid
       → IfOk left (λ l. MayGoOn tells may_answer is_answered may_tell l old.session mid)
       → IsExchange (record old { session = mid }) new
       → (result ≡ Ok Busy → HasPassed (record old { session = mid }) new
-      ⊎ ((mid.unsent ≡ []) × (new.session ≡ mid) × IsOkAnd left (λ l. GoesOn may_answer is_answered l mid.core)))
+      ⊎ ((mid.unsent ≡ []) × (new.session ≡ mid) × IsOkAnd left (λ l. GoesOn may_answer is_answered l mid.state)))
       → IsTurn answers tells may_answer is_answered may_tell limit result old new
   turn_of_steps may_tell limit left result old mid new worked may exchanged busy = record {
     mid = mid;
@@ -207,7 +207,7 @@ module _ {C R W : Type 0} (answers : C → List ℕ → List ℕ → C → Type 
   busy_noted may_tell old mid new e (inr (inr (inr (inr b)))) = inr (inr (inr (inr b)))
 
   -- why a session has ended may be noted
-  pub turn_noted : (may_tell : C → Type 0) (limit : ℕ) (result : Result Pace Ended) (old new : WithDevices C R W) (noted : SessionValue C) (e : Option Ended)
+  pub turn_noted : (may_tell : C → Type 0) (limit : ℕ) (result : Result TurnProgress Ended) (old new : WithDevices C R W) (noted : SessionValue C) (e : Option Ended)
       → noted ≡ record new.session { ended = e }
       → IsTurn answers tells may_answer is_answered may_tell limit result old new
       → IsTurn answers tells may_answer is_answered may_tell limit result old (record new { session = noted })
@@ -223,12 +223,12 @@ module _ {C R W : Type 0} (answers : C → List ℕ → List ℕ → C → Type 
   -- ---- several turns
 
   -- calls of devices in one turn
-  pub turn_counts : (may_tell : C → Type 0) (limit : ℕ) (result : Result Pace Ended) (old new : WithDevices C R W)
+  pub turn_counts : (may_tell : C → Type 0) (limit : ℕ) (result : Result TurnProgress Ended) (old new : WithDevices C R W)
       → IsTurn answers tells may_answer is_answered may_tell limit result old new → HasCountedAtMost 1 old new
   turn_counts may_tell limit result old new turn = exchange_counts old turn.mid new turn.worked.same_turns turn.exchanged
 
   -- the same where nothing happens once the session has ended
-  pub turn_counted : (may_tell : C → Type 0) (limit : ℕ) (result : Result Pace Ended) (ended : Option Ended) (old new : WithDevices C R W)
+  pub turn_counted : (may_tell : C → Type 0) (limit : ℕ) (result : Result TurnProgress Ended) (ended : Option Ended) (old new : WithDevices C R W)
       → (ended ≡ None → IsTurn answers tells may_answer is_answered may_tell limit result old new)
       → ((e : Ended) → ended ≡ Some e → (result ≡ Err e) × (new.session ≡ old.session) × (new.reader ≡ old.reader) × (new.writer ≡ old.writer))
       → HasCountedAtMost 1 old new
@@ -237,10 +237,10 @@ module _ {C R W : Type 0} (answers : C → List ℕ → List ℕ → C → Type 
       counted_within 0 1 old new (counted_still old new (same.1, same.2, same.3)) (omega arith)
 
   -- one turn more
-  pub one_turn_more : {S : Type 0} (may_tell : S → C → Type 0) (limit n : ℕ) (result : Result Pace Ended) (pace : Pace) (service : S) (a b c : WithDevices C R W)
-      → AreTurns answers tells may_answer is_answered may_tell limit n a b → result ≡ Ok pace
+  pub one_turn_more : {S : Type 0} (may_tell : S → C → Type 0) (limit n : ℕ) (result : Result TurnProgress Ended) (progress : TurnProgress) (service : S) (a b c : WithDevices C R W)
+      → AreTurns answers tells may_answer is_answered may_tell limit n a b → result ≡ Ok progress
       → IsTurn answers tells may_answer is_answered (may_tell service) limit result b c
       → AreTurns answers tells may_answer is_answered may_tell limit (n + 1) a c
-  one_turn_more may_tell limit n result pace service a b c turns is turn =
+  one_turn_more may_tell limit n result progress service a b c turns is turn =
       subst (λ (k : ℕ). AreTurns answers tells may_answer is_answered may_tell limit k a c) (sym (add-one n))
-      (b, turns, (service, pace, subst (λ (r : Result Pace Ended). IsTurn answers tells may_answer is_answered (may_tell service) limit r b c) is turn))
+      (b, turns, (service, progress, subst (λ (r : Result TurnProgress Ended). IsTurn answers tells may_answer is_answered (may_tell service) limit r b c) is turn))

@@ -1,5 +1,6 @@
 -- A session with a peer, and what it makes of what it reads.
 use Rattle.std.specs.Prelude.{◌≡◌, ℕ, ◌+◌, ◌<◌, ◌≤◌, ◌⊎◌, List, [], ◌∷◌, ◌++◌, Option, Some, None, Bool, true, false, length}
+use Rattle.ovs_wire.specs.Limits.{most_bytes}
 use Rattle.ovs_wire.specs.Frames.{Rest}
 use Rattle.ovs_wire.specs.Framing.{Framing, framing, Call, Leads, Takes, fed, taken}
 use Rattle.ovs_session.specs.declared.counts.Counts.{Counts}
@@ -14,7 +15,7 @@ pub record SessionValue (C : Type 0) : Type 0 where
   -- the message that was taken out of the framer and isn't answered yet
   pub held : Option (List ℕ)
   -- what the service knows of it
-  pub core : C
+  pub state : C
   -- what was said and isn't written yet
   pub unsent : List ℕ
   -- a read found the reader's end
@@ -45,18 +46,22 @@ abbrev pub holding : Option (List ℕ) → List (List ℕ)
 holding None = []
 holding (Some m) = m ∷ []
 
--- nothing was read, said or counted yet
-abbrev pub fresh : {C : Type 0} → C → SessionValue C
-fresh core = record {
+-- nothing was read, said or counted yet, and a message of the peer may have `most` bytes
+abbrev pub fresh_within : {C : Type 0} → ℕ → C → SessionValue C
+fresh_within most state = record {
   unfed = [];
-  framing = framing [] (Rest []);
+  framing = framing most [] (Rest []);
   held = None;
-  core = core;
+  state = state;
   unsent = [];
   is_at_end = false;
   counts = record { turns = 0; messages = 0; bytes_out = 0 };
   ended = None;
 }
+
+-- the same, where a message may have as many bytes as where no limit is said
+abbrev pub fresh : {C : Type 0} → C → SessionValue C
+fresh state = fresh_within most_bytes state
 
 -- the next message is taken out of the framer and held, where none was
 pub record Holds {C : Type 0} (old new : SessionValue C) : Type 0 where
@@ -76,16 +81,16 @@ pub record IsDone {C : Type 0} (s : SessionValue C) : Type 0 where
 
 -- all that was read is answered; at the reader's end something that the session asked for is still to come
 abbrev pub Waits : {C : Type 0} → (C → Type 0) → SessionValue C → Type 0
-Waits is_answered s = (s.unfed ≡ []) × (s.framing.waiting ≡ []) × (s.held ≡ None) × (s.is_at_end ≡ true → is_answered s.core → ⊥)
+Waits is_answered s = (s.unfed ≡ []) × (s.framing.waiting ≡ []) × (s.held ≡ None) × (s.is_at_end ≡ true → is_answered s.state → ⊥)
 
 -- a message is held, and something that was asked before it is still to come
 abbrev pub HoldsBack : {C : Type 0} → (C → Type 0) → SessionValue C → Type 0
-HoldsBack is_answered s = ((m : List ℕ) × (s.held ≡ Some m)) × (is_answered s.core → ⊥)
+HoldsBack is_answered s = ((m : List ℕ) × (s.held ≡ Some m)) × (is_answered s.state → ⊥)
 
 -- something is still to be written, or the next message may not be answered now, or waits for what is still to come, or all that was
 -- read is answered
 abbrev pub IsIdle : {C : Type 0} → (C → Type 0) → (C → Type 0) → SessionValue C → Type 0
-IsIdle may_answer is_answered s = (0 < length s.unsent) ⊎ (may_answer s.core → ⊥) ⊎ HoldsBack is_answered s ⊎ Waits is_answered s
+IsIdle may_answer is_answered s = (0 < length s.unsent) ⊎ (may_answer s.state → ⊥) ⊎ HoldsBack is_answered s ⊎ Waits is_answered s
 
 module _ {C : Type 0} (answers : C → List ℕ → List ℕ → C → Type 0) (tells : C → List ℕ → C → Type 0) where
   -- this is said in the first state, and leaves the second
@@ -98,18 +103,18 @@ module _ {C : Type 0} (answers : C → List ℕ → List ℕ → C → Type 0) (
   Runs [] old new = new ≡ old
   Runs (said ∷ more) old new = (mid : C) × Says said old mid × Runs more mid new
 
-  -- The session read the bytes `came` and wrote the bytes `went`: the messages framed in what it read were answered in
+  -- The session read the bytes `bytes_read` and wrote the bytes `bytes_written`: the messages framed in what it read were answered in
   -- their order, and what it wrote is what it said, up to what is still to be fed, answered and written.
-  pub record Served (old : SessionValue C) (came went : List ℕ) (new : SessionValue C) : Type 0 where
+  pub record Served (old : SessionValue C) (bytes_read bytes_written : List ℕ) (new : SessionValue C) : Type 0 where
     pub calls : List Call
     pub frames : Leads calls old.framing new.framing
-    pub read : old.unfed ++ came ≡ fed calls ++ new.unfed
+    pub read : old.unfed ++ bytes_read ≡ fed calls ++ new.unfed
     pub said : List Said
-    pub runs : Runs said old.core new.core
+    pub runs : Runs said old.state new.state
     pub answered : holding old.held ++ taken calls ≡ messages said ++ holding new.held
-    pub written : old.unsent ++ text said ≡ went ++ new.unsent
+    pub written : old.unsent ++ text said ≡ bytes_written ++ new.unsent
     pub messages_counted : IsAfter new.counts.messages old.counts.messages (length (taken calls))
-    pub bytes_counted : IsAfter new.counts.bytes_out old.counts.bytes_out (length went)
+    pub bytes_counted : IsAfter new.counts.bytes_out old.counts.bytes_out (length bytes_written)
 
   -- a text that may be said
   abbrev pub MayBeSaid : List ℕ → Type 0

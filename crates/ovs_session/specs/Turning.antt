@@ -3,8 +3,8 @@ use Rattle.std.specs.Prelude.{◌≡◌, ℕ, zero, suc, ◌+◌, ◌<◌, ◌�
 use Rattle.ovs_wire.specs.Counted.{Counting, one_more}
 use Rattle.ovs_session.specs.declared.counts.Counts.{Counts}
 use Rattle.ovs_session.specs.declared.ended.Ended.{Ended}
-use Rattle.ovs_session.specs.declared.limits.Pace.{Pace}
-use Rattle.ovs_session.specs.declared.limits.Pace.TheVariants.{Busy}
+use Rattle.ovs_session.specs.declared.limits.TurnProgress.{TurnProgress}
+use Rattle.ovs_session.specs.declared.limits.TurnProgress.TheVariants.{Busy}
 use Rattle.ovs_session.specs.Counting.{IsAfter}
 use Rattle.ovs_session.specs.Serving.{SessionValue, Worked, holding}
 
@@ -83,11 +83,11 @@ module _ {C R W : Type 0} (answers : C → List ℕ → List ℕ → C → Type 
   -- Why a turn isn't idle: it answered messages, or bytes passed, or more may be to be told, or what it told lets the next
   -- message be answered, or ends what was still to come.
   abbrev pub IsBusy : (C → Type 0) → WithDevices C R W → WithDevices C R W → WithDevices C R W → Type 0
-  IsBusy may_tell old mid new = HasAnswered old.session mid.session ⊎ HasPassed mid new ⊎ may_tell new.session.core
-      ⊎ IsNewly tells may_answer new.session.core ⊎ IsNewly tells is_answered new.session.core
+  IsBusy may_tell old mid new = HasAnswered old.session mid.session ⊎ HasPassed mid new ⊎ may_tell new.session.state
+      ⊎ IsNewly tells may_answer new.session.state ⊎ IsNewly tells is_answered new.session.state
 
   -- A turn: messages at hand are answered and what is new is told, without a device; then one device is called at most.
-  pub record IsTurn (may_tell : C → Type 0) (limit : ℕ) (result : Result Pace Ended) (old new : WithDevices C R W) : Type 0 where
+  pub record IsTurn (may_tell : C → Type 0) (limit : ℕ) (result : Result TurnProgress Ended) (old new : WithDevices C R W) : Type 0 where
     pub mid : SessionValue C
     pub worked : Worked answers tells limit old.session mid
     pub exchanged : IsExchange (record old { session = mid }) new
@@ -97,7 +97,7 @@ module _ {C R W : Type 0} (answers : C → List ℕ → List ℕ → C → Type 
   abbrev pub AreTurns : {S : Type 0} → (S → C → Type 0) → ℕ → ℕ → WithDevices C R W → WithDevices C R W → Type 0
   AreTurns may_tell limit zero old new = new ≡ old
   AreTurns {S} may_tell limit (suc n) old new = (mid : WithDevices C R W) × AreTurns may_tell limit n old mid
-      × ((service : S) × (pace : Pace) × IsTurn (may_tell service) limit (Ok pace) mid new)
+      × ((service : S) × (progress : TurnProgress) × IsTurn (may_tell service) limit (Ok progress) mid new)
 
 -- Each call of a device was counted once: `reads` calls of the reader, and `writes` of the writer, at most so many together.
 pub record HasCountedAtMost {C R W : Type 0} (most : ℕ) (old new : WithDevices C R W) : Type 0 where

@@ -11,14 +11,14 @@ abbrev pub MayGoOn : {C : Type 0} → (C → List ℕ → C → Type 0) → (C �
     → SessionValue C → SessionValue C → Type 0
 MayGoOn tells may_answer is_answered may_tell Nothing old new = Unit {0}
 MayGoOn tells may_answer is_answered may_tell More old new = (0 < length new.unsent) ⊎ HasAnswered old new
-MayGoOn tells may_answer is_answered may_tell Untaken old new = (0 < length new.unsent) ⊎ IsToldWithout tells may_answer new.core
-MayGoOn tells may_answer is_answered may_tell Refused old new = (0 < length new.unsent) ⊎ IsToldWithout tells is_answered new.core
-MayGoOn tells may_answer is_answered may_tell Untold old new = may_tell new.core
+MayGoOn tells may_answer is_answered may_tell Untaken old new = (0 < length new.unsent) ⊎ IsToldWithout tells may_answer new.state
+MayGoOn tells may_answer is_answered may_tell Refused old new = (0 < length new.unsent) ⊎ IsToldWithout tells is_answered new.state
+MayGoOn tells may_answer is_answered may_tell Untold old new = may_tell new.state
 
 -- a session goes on without a device where this is left
 abbrev pub GoesOn : {C : Type 0} → (C → Type 0) → (C → Type 0) → Left → C → Type 0
-GoesOn may_answer is_answered Nothing core = ⊥
-GoesOn may_answer is_answered More core = Unit {0}
-GoesOn may_answer is_answered Untaken core = may_answer core
-GoesOn may_answer is_answered Refused core = is_answered core
-GoesOn may_answer is_answered Untold core = Unit {0}
+GoesOn may_answer is_answered Nothing state = ⊥
+GoesOn may_answer is_answered More state = Unit {0}
+GoesOn may_answer is_answered Untaken state = may_answer state
+GoesOn may_answer is_answered Refused state = is_answered state
+GoesOn may_answer is_answered Untold state = Unit {0}

@@ -57,7 +57,7 @@ impl From<NoMemory> for Ended {
 
 /// Why a service says nothing to a message, or nothing unasked.
 #[derive(Clone, Copy, Debug, PartialEq, Eq, Error)]
-pub enum Refusal {
+pub enum ServiceError {
     /// The bytes are no message that it answers. The session ends.
     #[error("bad input")]
     BadInput,
@@ -72,28 +72,28 @@ pub enum Refusal {
     NoMemory,
 }
 
-impl From<NoMemory> for Refusal {
+impl From<NoMemory> for ServiceError {
     ghost use Rattle.std.specs.Prelude.{◌≡◌};
-    ghost use Rattle.ovs_session.specs.declared.ended.Refusal.TheVariants as refusals;
+    ghost use Rattle.ovs_session.specs.declared.ended.ServiceError.TheVariants as refusals;
 
     ghost from_gives = { λ _ e. e ≡ refusals.NoMemory };
 
-    fn from(_error: NoMemory) -> Refusal {
-        Refusal::NoMemory
+    fn from(_error: NoMemory) -> ServiceError {
+        ServiceError::NoMemory
     }
 }
 
-impl From<Refusal> for Ended {
+impl From<ServiceError> for Ended {
     ghost use Rattle.ovs_session.specs.Moving.{IsRefusedFor};
 
     ghost from_gives = { λ refusal ended. IsRefusedFor refusal ended };
 
-    fn from(refusal: Refusal) -> Ended {
+    fn from(refusal: ServiceError) -> Ended {
         match refusal {
-            Refusal::BadInput => Ended::BadInput,
-            Refusal::Gone => Ended::Gone,
-            Refusal::Epoch => Ended::Epoch,
-            Refusal::NoMemory => Ended::NoMemory,
+            ServiceError::BadInput => Ended::BadInput,
+            ServiceError::Gone => Ended::Gone,
+            ServiceError::Epoch => Ended::Epoch,
+            ServiceError::NoMemory => Ended::NoMemory,
         }
     }
 }

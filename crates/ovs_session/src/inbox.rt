@@ -5,7 +5,7 @@ ghost use Rattle.ovs_session.specs.Moving.{answered_fault, fault_in, is_fault};
 
 use crate::reserved::append_reserved;
 use ovs_json::NoMemory;
-use ovs_wire::{FrameError, Framer, MAX_MESSAGE_BYTES};
+use ovs_wire::{FrameError, Framer};
 use std::alloc::Global;
 use std::marker::Model;
 
@@ -75,12 +75,12 @@ impl Model for Inbox {
 }
 
 impl Inbox {
-    /// Nothing has come yet.
-    pub(crate) fn new(alloc: Global) -> Inbox
-        ensures is_new { IsNew result }
+    /// Nothing has come yet. A message may have `most_bytes`.
+    pub(crate) fn new(alloc: Global, most_bytes: usize) -> Inbox
+        ensures is_new { IsNew most_bytes result }
     {
         Inbox {
-            framer: Framer::new(alloc),
+            framer: Framer::with_limit(alloc, most_bytes),
             fault: None,
             most: 0,
             rest: 0,
@@ -109,8 +109,9 @@ impl Inbox {
         ensures fed { OnOk result (Feeds self.old piece.now self.new) }
         ensures unchanged { OnErr result (self.new ≡ self.old) }
     {
+        let most_bytes = self.framer.limit();
         self.fault = answered_fault(self.framer.feed(piece))?;
-        self.most = self.rest.saturating_add(piece.len()).min(MAX_MESSAGE_BYTES);
+        self.most = self.rest.saturating_add(piece.len()).min(most_bytes);
         self.rest = self.most;
         self.piece = piece.len();
         Ok(())

@@ -80,8 +80,8 @@ impl Outbox {
     ///
     /// `WriteFault`, its only error, where the write failed, or passed no byte without saying why.
     pub(crate) fn write_once<W: Write>(&mut self, writer: &mut Counted<W>) -> Result<usize, Ended>
-        ensures written { (went : List ℕ) × Appends (W.contents writer.old.device) (W.contents writer.new.device) went
-            × (self.old ≡ went ++ self.new) × IfOk result (λ n. n ≡ length went) × OnErr result (went ≡ []) }
+        ensures written { (bytes_written : List ℕ) × Appends (W.contents writer.old.device) (W.contents writer.new.device) bytes_written
+            × (self.old ≡ bytes_written ++ self.new) × IfOk result (λ n. n ≡ length bytes_written) × OnErr result (bytes_written ≡ []) }
         ensures fault { IfErr result (λ e. e ≡ Ended.WriteFault) }
         ensures called { writer.new.calls ≡ one_more writer.old.calls }
         ensures faults { CountsFault Ended.WriteFault result writer.old.failures writer.new.failures }

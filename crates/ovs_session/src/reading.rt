@@ -1,6 +1,6 @@
 //! When a session reads.
 
-use crate::came::Came;
+use crate::read_outcome::ReadOutcome;
 
 /// When a session reads, where nothing else is left to do.
 #[derive(Debug, Clone, Copy, PartialEq, Eq)]
@@ -32,10 +32,10 @@ impl Reading {
     }
 
     /// The same after a read.
-    pub(crate) fn after(self, came: Came) -> Reading {
-        match (self, came) {
-            (Reading::UntilPart, Came::Part | Came::Nothing)
-            | (Reading::UntilNothing, Came::Nothing) => Reading::OnceTold,
+    pub(crate) fn after(self, outcome: ReadOutcome) -> Reading {
+        match (self, outcome) {
+            (Reading::UntilPart, ReadOutcome::Part | ReadOutcome::Nothing)
+            | (Reading::UntilNothing, ReadOutcome::Nothing) => Reading::OnceTold,
             _ => self,
         }
     }

@@ -1,8 +1,8 @@
 //! What answers sessions.
 ghost use Rattle.std.specs.Prelude.{◌≡◌, ◌++◌, ◌↔◌, ℕ, List, Ok, Err, true, false, IsTrue, OnOk, OnErr};
 
-use crate::ended::Refusal;
-use crate::limits::Pace;
+use crate::ended::ServiceError;
+use crate::limits::TurnProgress;
 use crate::outbox::Outbox;
 
 /// What answers the messages of sessions, and tells them what is new. One value serves many sessions, and holds what they
@@ -55,22 +55,26 @@ pub trait Service {
         session: &mut Self::Session,
         message: &[u8],
         out: &mut Outbox,
-    ) -> Result<(), Refusal>
+    ) -> Result<(), ServiceError>
         requires taken { may_answer session.old }
         ensures ok { OnOk result ((said : List ℕ) × answers session.old message.now said session.new × (out.new ≡ out.old ++ said)) }
         ensures err { OnErr result ((session.new ≡ session.old) × (out.new ≡ out.old)) }
-        ensures bad { result ≡ Err Refusal.BadInput → refuses session.old message.now }
-        ensures gone { result ≡ Err Refusal.Gone → is_gone self.new }
-        ensures epoch { result ≡ Err Refusal.Epoch → is_over self.new session.new };
+        ensures bad { result ≡ Err ServiceError.BadInput → refuses session.old message.now }
+        ensures gone { result ≡ Err ServiceError.Gone → is_gone self.new }
+        ensures epoch { result ≡ Err ServiceError.Epoch → is_over self.new session.new };
 
     /// Tells what is new, which may be nothing. It is idle only where nothing more is to be told now; where it is busy, it is to
     /// be called again. After a refusal nothing has changed.
-    fn tell(&mut self, session: &mut Self::Session, out: &mut Outbox) -> Result<Pace, Refusal>
+    fn tell(
+        &mut self,
+        session: &mut Self::Session,
+        out: &mut Outbox,
+    ) -> Result<TurnProgress, ServiceError>
         ensures ok { OnOk result ((said : List ℕ) × tells session.old said session.new × (out.new ≡ out.old ++ said)) }
         ensures err { OnErr result ((session.new ≡ session.old) × (out.new ≡ out.old)) }
-        ensures bad { result ≡ Err Refusal.BadInput → ⊥ }
-        ensures told { result ≡ Ok Pace.Idle → is_told self.new session.new }
-        ensures more { result ≡ Ok Pace.Busy → may_tell self.new session.new }
-        ensures gone { result ≡ Err Refusal.Gone → is_gone self.new }
-        ensures epoch { result ≡ Err Refusal.Epoch → is_over self.new session.new };
+        ensures bad { result ≡ Err ServiceError.BadInput → ⊥ }
+        ensures told { result ≡ Ok TurnProgress.Idle → is_told self.new session.new }
+        ensures more { result ≡ Ok TurnProgress.Busy → may_tell self.new session.new }
+        ensures gone { result ≡ Err ServiceError.Gone → is_gone self.new }
+        ensures epoch { result ≡ Err ServiceError.Epoch → is_over self.new session.new };
 }

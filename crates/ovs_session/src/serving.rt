@@ -35,11 +35,11 @@ pub fn serve<S: Service, R: Read, W: Write>(
     ensures again { (e : _) → session.old.ended ≡ Some e → 0 < most_turns → result ≡ e }
     ensures ends { session.old.ended ≡ None → session.new.ended ≡ kept result }
     ensures closed { session.old.ended ≡ None → session.old.is_at_end ≡ false → result ≡ Ended.Closed
-        → IsDone session.new × IsAtEnd (R.remaining reader.new.device) × S.is_answered session.new.core }
+        → IsDone session.new × IsAtEnd (R.remaining reader.new.device) × S.is_answered session.new.state }
     ensures bad { session.old.ended ≡ None → result ≡ Ended.BadInput → IsBad S.refuses session.new }
     ensures written { session.old.ended ≡ None → (result ≡ Ended.WriteFault → ⊥) → (result ≡ Ended.TurnsSpent → ⊥) → session.new.unsent ≡ [] }
     ensures gone { session.old.ended ≡ None → result ≡ Ended.Gone → S.is_gone service.new }
-    ensures epoch { session.old.ended ≡ None → result ≡ Ended.Epoch → S.is_over service.new session.new.core }
+    ensures epoch { session.old.ended ≡ None → result ≡ Ended.Epoch → S.is_over service.new session.new.state }
     ensures read_fault { session.old.ended ≡ None → result ≡ Ended.ReadFault → reader.new.failures ≡ one_more reader.old.failures }
     ensures write_fault { session.old.ended ≡ None → result ≡ Ended.WriteFault → writer.new.failures ≡ one_more writer.old.failures }
     ensures turns { session.old.ended ≡ None → result ≡ Ended.TurnsSpent

@@ -5,21 +5,21 @@ ghost use Rattle.ovs_wire.specs.Counted.{one_more};
 ghost use Rattle.ovs_wire.specs.Framing.{Framing, Feeds};
 ghost use Rattle.ovs_session.specs.Counting.{HasCalled, HasWritten};
 ghost use Rattle.ovs_session.specs.Moving.{is_end, is_fault, ended_by, fault_in};
-ghost use Rattle.ovs_session.specs.Serving.{SessionValue, Holds, fresh};
+ghost use Rattle.ovs_session.specs.Serving.{SessionValue, Holds, fresh, fresh_within};
 ghost use Rattle.ovs_session.specs.Turning.{IsCalled, IsUncalled, CountsFault};
 
 mod answering;
 
-use crate::came::Came;
 use crate::counts::Counts;
 use crate::ended::Ended;
 use crate::inbox::{Inbox, MessageBytes};
 use crate::outbox::Outbox;
+use crate::read_outcome::ReadOutcome;
 use crate::reading::Reading;
 use crate::reserved::append_reserved;
 pub(crate) use answering::{answer_held, tell_new};
 use ovs_json::NoMemory;
-use ovs_wire::{Counted, FrameError, is_passing};
+use ovs_wire::{Counted, FrameError, MAX_MESSAGE_BYTES, is_passing};
 use std::alloc::Global;
 use std::io::{ErrorKind, Read, Write};
 use std::marker::Model;
@@ -28,29 +28,29 @@ use std::marker::Model;
 const READ_BYTES: usize = 4096;
 
 // Reads once, behind bytes that have the room for it.
-fn read_behind<R: Read>(bytes: &mut Vec<u8>, reader: &mut Counted<R>) -> Result<Came, Ended>
+fn read_behind<R: Read>(bytes: &mut Vec<u8>, reader: &mut Counted<R>) -> Result<ReadOutcome, Ended>
     requires room { vec_len bytes.old + 4096 ≤ vec_capacity bytes.old }
-    ensures read { (came : List ℕ) × Consumes (R.remaining reader.old.device) (R.remaining reader.new.device) came
-        × (bytes.new.items ≡ bytes.old.items ++ came) }
-    ensures end { IfOk result (λ came. is_end came ≡ true → IsAtEnd (R.remaining reader.new.device)) }
-    ensures nothing { result ≡ Ok Came.Nothing → bytes.new.items ≡ bytes.old.items }
+    ensures read { (bytes_read : List ℕ) × Consumes (R.remaining reader.old.device) (R.remaining reader.new.device) bytes_read
+        × (bytes.new.items ≡ bytes.old.items ++ bytes_read) }
+    ensures end { IfOk result (λ outcome. is_end outcome ≡ true → IsAtEnd (R.remaining reader.new.device)) }
+    ensures nothing { result ≡ Ok ReadOutcome.Nothing → bytes.new.items ≡ bytes.old.items }
     ensures fault { IfErr result (λ e. e ≡ Ended.ReadFault) }
     ensures called { reader.new.calls ≡ one_more reader.old.calls }
     ensures faults { CountsFault Ended.ReadFault result reader.old.failures reader.new.failures }
 {
     let mut piece = [0u8; READ_BYTES];
     match reader.read(&mut piece) {
-        Ok(0) => Ok(Came::End),
+        Ok(0) => Ok(ReadOutcome::End),
         Ok(count) => {
             append_reserved(bytes, &piece[..count]);
             Ok(if count < READ_BYTES {
-                Came::Part
+                ReadOutcome::Part
             } else {
-                Came::Whole
+                ReadOutcome::Whole
             })
         }
-        Err(error) if error.kind() == ErrorKind::Interrupted => Ok(Came::Interrupted),
-        Err(error) if is_passing(&error) => Ok(Came::Nothing),
+        Err(error) if error.kind() == ErrorKind::Interrupted => Ok(ReadOutcome::Interrupted),
+        Err(error) if is_passing(&error) => Ok(ReadOutcome::Nothing),
         Err(_) => Err(Ended::ReadFault),
     }
 }
@@ -62,7 +62,7 @@ pub struct Session<C> {
     unfed: Vec<u8>,
     inbox: Inbox,
     held: Option<MessageBytes>,
-    core: C,
+    state: C,
     outbox: Outbox,
     is_at_end: bool,
     // No contract sees it, since a reader that passes nothing for now says the same.
@@ -80,7 +80,7 @@ impl<C> Model for Session<C> {
       unfed = s.unfed.items;
       framing = s.inbox;
       held = s.held;
-      core = s.core;
+      state = s.state;
       unsent = s.outbox;
       is_at_end = s.is_at_end;
       counts = s.counts;
@@ -89,15 +89,22 @@ impl<C> Model for Session<C> {
 }
 
 impl<C> Session<C> {
-    /// A session of which nothing was read or said yet.
-    pub fn new(alloc: Global, core: C) -> Session<C>
-        ensures fresh { result ≡ fresh core }
+    /// A session of which nothing was read or said yet. A message of its peer may have `MAX_MESSAGE_BYTES`.
+    pub fn new(alloc: Global, state: C) -> Session<C>
+        ensures fresh { result ≡ fresh state }
+    {
+        Session::with_limit(alloc, MAX_MESSAGE_BYTES, state)
+    }
+
+    /// A session of which nothing was read or said yet. A message of its peer may have `most_bytes`.
+    pub fn with_limit(alloc: Global, most_bytes: usize, state: C) -> Session<C>
+        ensures fresh { result ≡ fresh_within most_bytes state }
     {
         Session {
             unfed: Vec::new(alloc),
-            inbox: Inbox::new(alloc),
+            inbox: Inbox::new(alloc, most_bytes),
             held: None,
-            core,
+            state,
             outbox: Outbox::new(alloc),
             is_at_end: false,
             reading: Reading::Always,
@@ -131,18 +138,18 @@ impl<C> Session<C> {
     }
 
     /// What its service knows of it.
-    pub fn core(&self) -> &C
-        ensures value { result.now ≡ self.now.core }
+    pub fn state(&self) -> &C
+        ensures value { result.now ≡ self.now.state }
     {
-        &self.core
+        &self.state
     }
 
     /// What its service knows of it, without the session.
-    pub fn into_core(self) -> C
-        ensures value { result ≡ self.core }
+    pub fn into_state(self) -> C
+        ensures value { result ≡ self.state }
     {
-        let Session { core, .. } = self;
-        core
+        let Session { state, .. } = self;
+        state
     }
 
     /// What it has counted.
@@ -204,12 +211,15 @@ impl<C> Session<C> {
     /// Reads once, into the bytes that are to be fed.
     ///
     /// `ReadFault` where the read failed. `NoMemory`: nothing was read.
-    pub(crate) fn read_once<R: Read>(&mut self, reader: &mut Counted<R>) -> Result<Came, Ended>
-        ensures read { (came : List ℕ) × Consumes (R.remaining reader.old.device) (R.remaining reader.new.device) came
-            × (self.new ≡ record self.old { unfed = self.old.unfed ++ came; counts = self.new.counts }) }
+    pub(crate) fn read_once<R: Read>(
+        &mut self,
+        reader: &mut Counted<R>,
+    ) -> Result<ReadOutcome, Ended>
+        ensures read { (bytes_read : List ℕ) × Consumes (R.remaining reader.old.device) (R.remaining reader.new.device) bytes_read
+            × (self.new ≡ record self.old { unfed = self.old.unfed ++ bytes_read; counts = self.new.counts }) }
         ensures counted { HasCalled self.old.counts self.new.counts }
-        ensures end { IfOk result (λ came. is_end came ≡ true → IsAtEnd (R.remaining reader.new.device)) }
-        ensures nothing { result ≡ Ok Came.Nothing → self.new.unfed ≡ self.old.unfed }
+        ensures end { IfOk result (λ outcome. is_end outcome ≡ true → IsAtEnd (R.remaining reader.new.device)) }
+        ensures nothing { result ≡ Ok ReadOutcome.Nothing → self.new.unfed ≡ self.old.unfed }
         ensures fault { IfErr result (λ e. (e ≡ Ended.ReadFault) ⊎ (e ≡ Ended.NoMemory)) }
         ensures called { (result ≡ Err Ended.NoMemory → ⊥) → IsCalled reader.old reader.new self.old.counts self.new.counts }
         ensures uncalled { result ≡ Err Ended.NoMemory → IsUncalled reader.old reader.new self.old.counts self.new.counts }
@@ -223,11 +233,11 @@ impl<C> Session<C> {
     }
 
     /// Keeps that a read found the end, where it did, and whether there may be more to read.
-    pub(crate) fn note_read(&mut self, came: Came)
-        ensures value { self.new ≡ record self.old { is_at_end = self.old.is_at_end || is_end came } }
+    pub(crate) fn note_read(&mut self, outcome: ReadOutcome)
+        ensures value { self.new ≡ record self.old { is_at_end = self.old.is_at_end || is_end outcome } }
     {
-        self.is_at_end = self.is_at_end || came.is_end();
-        self.reading = self.reading.after(came);
+        self.is_at_end = self.is_at_end || outcome.is_end();
+        self.reading = self.reading.after(outcome);
     }
 
     /// Feeds the framer what was read, where no message waits. After `NoMemory` nothing has changed.
@@ -267,10 +277,10 @@ impl<C> Session<C> {
     ///
     /// `WriteFault`, its only error.
     pub(crate) fn write_once<W: Write>(&mut self, writer: &mut Counted<W>) -> Result<bool, Ended>
-        ensures written { (went rest : List ℕ) × Appends (W.contents writer.old.device) (W.contents writer.new.device) went
-            × (self.old.unsent ≡ went ++ rest)
+        ensures written { (bytes_written rest : List ℕ) × Appends (W.contents writer.old.device) (W.contents writer.new.device) bytes_written
+            × (self.old.unsent ≡ bytes_written ++ rest)
             × (self.new ≡ record self.old { unsent = rest; counts = self.new.counts })
-            × HasWritten (length went) self.old.counts self.new.counts }
+            × HasWritten (length bytes_written) self.old.counts self.new.counts }
         ensures nothing { result ≡ Ok false → self.new.unsent ≡ self.old.unsent }
         ensures some { result ≡ Ok true → length self.new.unsent < length self.old.unsent }
         ensures fault { IfErr result (λ e. e ≡ Ended.WriteFault) }

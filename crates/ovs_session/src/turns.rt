@@ -6,7 +6,7 @@ ghost use Rattle.ovs_session.specs.Serving.{IsDone, IsIdle};
 ghost use Rattle.ovs_session.specs.Turning.{IsTurn, CountsFault, with_devices};
 
 use crate::ended::Ended;
-use crate::limits::{Limits, Pace};
+use crate::limits::{Limits, TurnProgress};
 use crate::service::Service;
 use crate::session::Session;
 use crate::steps::{answer_and_tell, exchange};
@@ -20,16 +20,16 @@ fn go_on<S: Service, R: Read, W: Write>(
     reader: &mut Counted<R>,
     writer: &mut Counted<W>,
     limits: Limits,
-) -> Result<Pace, Ended>
+) -> Result<TurnProgress, Ended>
     ensures moved { Moved S.answers S.tells limits.most_unsent (R.remaining reader.old.device) (R.remaining reader.new.device)
         (W.contents writer.old.device) (W.contents writer.new.device) session.old session.new }
-    ensures closed { result ≡ Err Ended.Closed → IsDone session.new × S.is_answered session.new.core }
-    ensures idle { result ≡ Ok Pace.Idle → IsIdle S.may_answer S.is_answered session.new }
-    ensures bad { result ≡ Err Ended.BadInput → IsBad S.refuses session.new × S.is_answered session.new.core }
+    ensures closed { result ≡ Err Ended.Closed → IsDone session.new × S.is_answered session.new.state }
+    ensures idle { result ≡ Ok TurnProgress.Idle → IsIdle S.may_answer S.is_answered session.new }
+    ensures bad { result ≡ Err Ended.BadInput → IsBad S.refuses session.new × S.is_answered session.new.state }
     ensures written { (e : _) → result ≡ Err e → (e ≡ Ended.WriteFault → ⊥) → session.new.unsent ≡ [] }
-    ensures told { result ≡ Ok Pace.Idle → S.is_told service.new session.new.core ⊎ (0 < length session.new.unsent) }
+    ensures told { result ≡ Ok TurnProgress.Idle → S.is_told service.new session.new.state ⊎ (0 < length session.new.unsent) }
     ensures gone { result ≡ Err Ended.Gone → S.is_gone service.new }
-    ensures epoch { result ≡ Err Ended.Epoch → S.is_over service.new session.new.core }
+    ensures epoch { result ≡ Err Ended.Epoch → S.is_over service.new session.new.state }
     ensures unspent { result ≡ Err Ended.TurnsSpent → ⊥ }
     ensures turned { IsTurn S.answers S.tells S.may_answer S.is_answered (S.may_tell service.new) limits.most_unsent result
         (with_devices session.old reader.old writer.old) (with_devices session.new reader.new writer.new) }
@@ -66,7 +66,7 @@ pub fn turn<S: Service, R: Read, W: Write>(
     reader: &mut Counted<R>,
     writer: &mut Counted<W>,
     limits: Limits,
-) -> Result<Pace, Ended>
+) -> Result<TurnProgress, Ended>
     ensures moved { Moved S.answers S.tells limits.most_unsent (R.remaining reader.old.device) (R.remaining reader.new.device)
         (W.contents writer.old.device) (W.contents writer.new.device) session.old session.new }
     ensures over { (e : _) → session.old.ended ≡ Some e

@@ -1,6 +1,6 @@
 //! Devices over memory that pass a part of what is said at a time, and answer an error at some of their calls.
 
-use crate::talks::Part;
+use crate::talks::TalkPart;
 use ovs_wire::{Counted, is_passing};
 use std::alloc::Global;
 use std::io::{self, ErrorKind, Read, Write};
@@ -34,7 +34,7 @@ impl Calls {
 
 /// One of the two devices of a session.
 #[derive(Clone, Copy, Debug, PartialEq, Eq)]
-pub(crate) enum Side {
+pub(crate) enum DeviceSide {
     Reader,
     Writer,
 }
@@ -67,13 +67,13 @@ impl Manner {
     }
 
     /// The same, where these calls of one device fail.
-    pub(crate) fn failing(self, side: Side, calls: Calls) -> Manner {
+    pub(crate) fn failing(self, side: DeviceSide, calls: Calls) -> Manner {
         match side {
-            Side::Reader => Manner {
+            DeviceSide::Reader => Manner {
                 reads: calls,
                 ..self
             },
-            Side::Writer => Manner {
+            DeviceSide::Writer => Manner {
                 writes: calls,
                 ..self
             },
@@ -119,7 +119,7 @@ impl Called {
 
 /// What the two devices of a session know of each other.
 #[derive(Drop)]
-pub(crate) struct Exchange {
+pub(crate) struct DeviceExchange {
     // How many bytes were written.
     written: AtomicU64,
     // How many links were taken.
@@ -128,10 +128,10 @@ pub(crate) struct Exchange {
     is_waiting: AtomicBool,
 }
 
-impl Exchange {
+impl DeviceExchange {
     /// Nothing was read or written yet.
-    pub(crate) fn new() -> Exchange {
-        Exchange {
+    pub(crate) fn new() -> DeviceExchange {
+        DeviceExchange {
             written: AtomicU64::new(0),
             links: AtomicU64::new(0),
             is_waiting: AtomicBool::new(false),
@@ -165,20 +165,20 @@ impl Exchange {
 #[derive(Drop)]
 pub(crate) struct Giving<'a> {
     rest: &'a [u8],
-    later: &'a [Part],
+    later: &'a [TalkPart],
     manner: Manner,
     calls: u64,
     marks: Vec<Mark>,
-    exchange: Arc<Exchange>,
+    exchange: Arc<DeviceExchange>,
 }
 
 impl<'a> Giving<'a> {
     /// Nothing was given yet.
     pub(crate) fn new(
         alloc: Global,
-        parts: &'a [Part],
+        parts: &'a [TalkPart],
         manner: Manner,
-        exchange: Arc<Exchange>,
+        exchange: Arc<DeviceExchange>,
     ) -> Giving<'a> {
         Giving {
             rest: &[],
@@ -222,18 +222,22 @@ impl<'a> Read for Giving<'a> {
 
 /// Takes what is written.
 #[derive(Drop)]
-pub(crate) struct Taking {
+pub(crate) struct TakingDevice {
     bytes: Vec<u8>,
     manner: Manner,
     calls: u64,
     marks: Vec<Mark>,
-    exchange: Arc<Exchange>,
+    exchange: Arc<DeviceExchange>,
 }
 
-impl Taking {
+impl TakingDevice {
     /// Nothing was taken yet.
-    pub(crate) fn new(alloc: Global, manner: Manner, exchange: Arc<Exchange>) -> Taking {
-        Taking {
+    pub(crate) fn new(
+        alloc: Global,
+        manner: Manner,
+        exchange: Arc<DeviceExchange>,
+    ) -> TakingDevice {
+        TakingDevice {
             bytes: Vec::new(alloc),
             manner,
             calls: 0,
@@ -243,7 +247,7 @@ impl Taking {
     }
 }
 
-impl Write for Taking {
+impl Write for TakingDevice {
     fn write(&mut self, buf: &[u8]) -> io::Result<usize> {
         self.calls = self.calls.saturating_add(1);
         self.exchange.add_mark(&mut self.marks)?;
@@ -272,9 +276,9 @@ pub(crate) fn called_of_reader(reader: Counted<Giving>) -> Called {
 }
 
 /// What was written, and what is known of the calls of the writer.
-pub(crate) fn called_of_writer(writer: Counted<Taking>) -> (Vec<u8>, Called) {
+pub(crate) fn called_of_writer(writer: Counted<TakingDevice>) -> (Vec<u8>, Called) {
     let (calls, failures) = (writer.calls(), writer.failures());
-    let Taking { bytes, marks, .. } = writer.into_inner();
+    let TakingDevice { bytes, marks, .. } = writer.into_inner();
     let called = Called {
         calls,
         failures,

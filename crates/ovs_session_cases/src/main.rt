@@ -6,21 +6,21 @@
 
 mod case;
 mod devices;
-mod fault;
 mod links;
 mod reader_trials;
 mod relay_node;
+mod session_case_error;
 mod stand_in;
 mod talks;
 mod trials;
 mod upstream_trials;
 
-use case::Table;
+use case::TrialTable;
 use std::io::{self, BufRead, BufReader};
 
 fn main(rt: HostRuntime) -> io::Result<()> {
     let alloc = rt.alloc();
-    let mut table = Table::new(rt, alloc);
+    let mut table = TrialTable::new(rt, alloc);
     let mut right = 0u64;
     let mut wrong = 0u64;
     for line in BufReader::new(alloc, rt.reader())?.lines(alloc) {

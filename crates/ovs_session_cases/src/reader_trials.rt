@@ -1,15 +1,17 @@
 //! A reader's session with a relay, whose source is stood in for, over devices that fail.
 
-use crate::devices::{Exchange, Giving, Manner, Taking, called_of_reader, called_of_writer};
-use crate::fault::Fault;
+use crate::devices::{
+    DeviceExchange, Giving, Manner, TakingDevice, called_of_reader, called_of_writer,
+};
+use crate::session_case_error::SessionCaseError;
 use crate::stand_in::{StandIn, WHO, is_quiet};
-use crate::talks::Talk;
-use crate::trials::{Outcome, Trial, kind_of, tried};
+use crate::talks::TrialTalk;
+use crate::trials::{Trial, TrialOutcome, kind_of, tried};
 use ovs_desk::RelayDesk;
 use ovs_json::Text;
 use ovs_node::{NodeName, View};
 use ovs_service::{Client, NodeService, Unshared};
-use ovs_session::{Ended, Limits, Pace, Session, turn};
+use ovs_session::{Ended, Limits, Session, TurnProgress, turn};
 use ovs_wire::Counted;
 use ovs_worker::SessionHost;
 use serde_json::Value;
@@ -51,7 +53,7 @@ struct Relay<K: NodeName> {
 
 impl<K: NodeName> Relay<K> {
     // Its source is found.
-    fn new(alloc: Global, view: View<K>) -> Result<Relay<K>, Fault> {
+    fn new(alloc: Global, view: View<K>) -> Result<Relay<K>, SessionCaseError> {
         let mut desk = RelayDesk::new(alloc, Text::new(alloc, "net")?);
         desk.found_source();
         Ok(Relay {
@@ -59,31 +61,38 @@ impl<K: NodeName> Relay<K> {
         })
     }
 
-    fn into_view(self) -> Result<View<K>, Fault> {
-        Ok(self.rest.ok_or(Fault::NoView)?.view)
+    fn into_view(self) -> Result<View<K>, SessionCaseError> {
+        Ok(self.rest.ok_or(SessionCaseError::NoView)?.view)
     }
 
     // The source takes up what goes up from its desk. Whether something does.
-    fn ask_source(&mut self, alloc: Global, source: &mut StandIn) -> Result<bool, Fault> {
+    fn ask_source(
+        &mut self,
+        alloc: Global,
+        source: &mut StandIn,
+    ) -> Result<bool, SessionCaseError> {
         match &mut self.rest {
             Some(rest) => source.take_all(alloc, &mut rest.desk),
-            None => Err(Fault::NoView),
+            None => Err(SessionCaseError::NoView),
         }
     }
 
     // Whether its desk is quiet, once the source has answered all that is open.
-    fn is_quiet(&mut self, alloc: Global, source: &StandIn) -> Result<bool, Fault> {
+    fn is_quiet(&mut self, alloc: Global, source: &StandIn) -> Result<bool, SessionCaseError> {
         match &mut self.rest {
             Some(rest) => {
                 source.answer_open(&mut rest.desk)?;
                 is_quiet(alloc, &mut rest.desk)
             }
-            None => Err(Fault::NoView),
+            None => Err(SessionCaseError::NoView),
         }
     }
 
-    fn serve(&mut self, alloc: Global) -> Result<NodeService<K, Unshared<RelayDesk>>, Fault> {
-        let AtRest { view, desk } = self.rest.take().ok_or(Fault::NoView)?;
+    fn serve(
+        &mut self,
+        alloc: Global,
+    ) -> Result<NodeService<K, Unshared<RelayDesk>>, SessionCaseError> {
+        let AtRest { view, desk } = self.rest.take().ok_or(SessionCaseError::NoView)?;
         Ok(NodeService::new(alloc, view, Unshared::new(desk)))
     }
 
@@ -94,7 +103,7 @@ impl<K: NodeName> Relay<K> {
     }
 
     // A new reader.
-    fn client(&mut self, alloc: Global) -> Result<Client<K>, Fault> {
+    fn client(&mut self, alloc: Global) -> Result<Client<K>, SessionCaseError> {
         let service = self.serve(alloc)?;
         let client = service.client(WHO);
         self.lay(service);
@@ -107,8 +116,8 @@ impl<K: NodeName> Relay<K> {
         alloc: Global,
         session: &mut Session<Client<K>>,
         reader: &mut Counted<Giving>,
-        writer: &mut Counted<Taking>,
-    ) -> Result<Result<Pace, Ended>, Fault> {
+        writer: &mut Counted<TakingDevice>,
+    ) -> Result<Result<TurnProgress, Ended>, SessionCaseError> {
         let mut service = self.serve(alloc)?;
         let turned = turn(session, &mut service, reader, writer, LIMITS);
         self.lay(service);
@@ -116,19 +125,19 @@ impl<K: NodeName> Relay<K> {
     }
 
     // Its end.
-    fn end(&mut self, alloc: Global, session: &Session<Client<K>>) -> Result<(), Fault> {
+    fn end(&mut self, alloc: Global, session: &Session<Client<K>>) -> Result<(), SessionCaseError> {
         let mut service = self.serve(alloc)?;
-        service.end(session.core());
+        service.end(session.state());
         self.lay(service);
         Ok(())
     }
 }
 
 // How often a session was idle, one time after another, after a turn that answered this.
-fn idle_after(idle: u32, pace: Pace) -> u32 {
-    match pace {
-        Pace::Idle => idle.saturating_add(1),
-        Pace::Busy => 0,
+fn idle_after(idle: u32, progress: TurnProgress) -> u32 {
+    match progress {
+        TurnProgress::Idle => idle.saturating_add(1),
+        TurnProgress::Busy => 0,
     }
 }
 
@@ -138,24 +147,24 @@ fn serve_session<K: NodeName>(
     relay: &mut Relay<K>,
     session: &mut Session<Client<K>>,
     source: &mut StandIn,
-    exchange: &Exchange,
+    exchange: &DeviceExchange,
     reader: &mut Counted<Giving>,
-    writer: &mut Counted<Taking>,
-) -> Result<Option<Ended>, Fault> {
+    writer: &mut Counted<TakingDevice>,
+) -> Result<Option<Ended>, SessionCaseError> {
     let mut idle = 0;
     for _turned in 0..MOST_TURNS {
-        let pace = match relay.turn(alloc, session, reader, writer)? {
-            Ok(pace) => pace,
+        let progress = match relay.turn(alloc, session, reader, writer)? {
+            Ok(progress) => progress,
             Err(ended) => return Ok(Some(ended)),
         };
-        idle = idle_after(idle, pace);
+        idle = idle_after(idle, progress);
         if exchange.is_waiting() && relay.ask_source(alloc, source)? {
             idle = 0;
         }
         if idle >= MOST_IDLE {
             return Ok(None);
         }
-        if pace == Pace::Idle {
+        if progress == TurnProgress::Idle {
             session.note_ready(false);
         }
     }
@@ -166,14 +175,14 @@ fn serve_session<K: NodeName>(
 fn run_session<K: NodeName>(
     alloc: Global,
     relay: &mut Relay<K>,
-    talk: &Talk,
+    talk: &TrialTalk,
     answers: &[Value],
     manner: Manner,
-) -> Result<Outcome, Fault> {
-    let exchange = Arc::new(alloc, Exchange::new())?;
+) -> Result<TrialOutcome, SessionCaseError> {
+    let exchange = Arc::new(alloc, DeviceExchange::new())?;
     let parts = talk.parts.as_slice();
     let mut reader = Counted::new(Giving::new(alloc, parts, manner, exchange.clone()?));
-    let mut writer = Counted::new(Taking::new(alloc, manner, exchange.clone()?));
+    let mut writer = Counted::new(TakingDevice::new(alloc, manner, exchange.clone()?));
     let mut source = StandIn::new(alloc, answers);
     let mut session = Session::new(alloc, relay.client(alloc)?);
     session.read_when_told();
@@ -188,7 +197,7 @@ fn run_session<K: NodeName>(
     )?;
     relay.end(alloc, &session)?;
     let (written, writes) = called_of_writer(writer);
-    Ok(Outcome {
+    Ok(TrialOutcome {
         ended,
         written,
         links: Vec::new(alloc),
@@ -202,13 +211,13 @@ fn run_session<K: NodeName>(
 #[derive(Drop)]
 struct ReaderTrial<'a, K: NodeName> {
     view: Option<View<K>>,
-    talk: &'a Talk,
+    talk: &'a TrialTalk,
     answers: &'a [Value],
 }
 
 impl<'a, K: NodeName> Trial for ReaderTrial<'a, K> {
-    fn run(&mut self, alloc: Global, manner: Manner) -> Result<Outcome, Fault> {
-        let view = self.view.take().ok_or(Fault::NoView)?;
+    fn run(&mut self, alloc: Global, manner: Manner) -> Result<TrialOutcome, SessionCaseError> {
+        let view = self.view.take().ok_or(SessionCaseError::NoView)?;
         let mut relay = Relay::new(alloc, view)?;
         let outcome = run_session(alloc, &mut relay, self.talk, self.answers, manner)?;
         self.view = Some(relay.into_view()?);
@@ -225,13 +234,13 @@ pub(crate) fn told<K: NodeName>(
     alloc: Global,
     view: View<K>,
     scene: Scene,
-) -> Result<String, Fault> {
+) -> Result<String, SessionCaseError> {
     if scene.piece == 0 {
-        return Err(Fault::Malformed);
+        return Err(SessionCaseError::Malformed);
     }
     let kind: ErrorKind = kind_of(scene.kind)?;
-    let talk = Talk::read(alloc, scene.parts)?;
-    let answers = scene.answers.as_array().ok_or(Fault::Malformed)?;
+    let talk = TrialTalk::read(alloc, scene.parts)?;
+    let answers = scene.answers.as_array().ok_or(SessionCaseError::Malformed)?;
     let mut trial = ReaderTrial {
         view: Some(view),
         talk: &talk,

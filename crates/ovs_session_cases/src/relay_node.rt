@@ -4,9 +4,9 @@ ghost use Rattle.std.specs.Prelude.{◌≡◌, ◌≤◌};
 ghost use Rattle.ovs_node.specs.Nodes.{OpenNodeInStep};
 ghost use Rattle.ovs_node.specs.Ledger.{IsFresh};
 
-use crate::fault::Fault;
 use crate::links::{id_of_text, read_link};
 use crate::reader_trials;
+use crate::session_case_error::SessionCaseError;
 use ovs_links::Step;
 use ovs_node::{FeedName, Handle, NodeLink, NodeName, OpenNode, Opened, Parts};
 use ovs_types::{Schema, TxnId};
@@ -26,7 +26,7 @@ pub(crate) fn opened<K: NodeName, R: Wait>(
     opened: Opened<Step>,
     change: &Value,
     scene: reader_trials::Scene,
-) -> Result<String, Fault>
+) -> Result<String, SessionCaseError>
     requires name { (opened.seen.book ≡ K.book) × (schema.now ≡ K.schema) }
 {
     let id = id_of_text(COMMIT)?;
@@ -43,7 +43,7 @@ fn published<K: NodeName, Q: FeedName, R: Wait>(
     node: OpenNode<K, Handle<K, &R>>,
     link: NodeLink<K>,
     scene: reader_trials::Scene,
-) -> Result<String, Fault>
+) -> Result<String, SessionCaseError>
     requires table { node.feed.items.table.shared.table_id ≡ Q.table }
     requires upstreams { node.upstreams ≤ 4 }
     requires store { IsFresh K.schema node.store }
@@ -56,8 +56,8 @@ fn published<K: NodeName, Q: FeedName, R: Wait>(
         mut views,
         board,
     } = node.named::<Q>()?;
-    let mut end = ends.pop().ok_or(Fault::NoView)?;
-    let view = views.pop().ok_or(Fault::NoView)?;
+    let mut end = ends.pop().ok_or(SessionCaseError::NoView)?;
+    let view = views.pop().ok_or(SessionCaseError::NoView)?;
     end.send(rt, &queue, link);
     node.fold_next(rt, &queue, &board)?;
     reader_trials::told(alloc, view, scene)

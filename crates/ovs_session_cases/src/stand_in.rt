@@ -1,22 +1,22 @@
 //! What stands in for the source at a relay's desk, and what is looked at there once a session has ended.
 
-use crate::fault::Fault;
-use ovs_authority::{Answer, Ask, Authority, Member, Verb};
+use crate::session_case_error::SessionCaseError;
+use ovs_authority::{Ask, Authority, Member, Response, Verb};
 use ovs_desk::{RelayDesk, SourceMessage, StandingAnswer};
-use ovs_json::{Json, Text};
+use ovs_json::{Json, SessionId, Text};
 use ovs_types::TxnId;
 use ovs_wire::{Id, Message};
 use serde_json::Value;
 use std::alloc::Global;
 
 /// The session that is looked at.
-pub(crate) const WHO: u64 = 1;
+pub(crate) const WHO: SessionId = 1;
 
 /// The lock that it asks for.
 pub(crate) const LOCK: &str = "l";
 
 // Another session, which asks for the same lock once that one has ended.
-const OTHER: u64 = 2;
+const OTHER: SessionId = 2;
 
 // So many messages are taken from a desk at once.
 const MOST_MESSAGES: u32 = 64;
@@ -30,26 +30,29 @@ pub(crate) struct StandIn<'a> {
 }
 
 // The number and the method of a request that goes up.
-fn parts_of(message: &Message) -> Result<(u64, &str), Fault> {
+fn parts_of(message: &Message) -> Result<(u64, &str), SessionCaseError> {
     match message {
         Message::Request { method, id, .. } => {
-            Ok((id.as_number().ok_or(Fault::Garbled)?, method.as_str()))
+            Ok((
+                id.as_number().ok_or(SessionCaseError::Garbled)?,
+                method.as_str(),
+            ))
         }
-        _ => Err(Fault::Garbled),
+        _ => Err(SessionCaseError::Garbled),
     }
 }
 
 // The source answers the request of this number.
-fn answer(desk: &mut RelayDesk, number: u64, value: Value) -> Result<(), Fault> {
+fn answer(desk: &mut RelayDesk, number: u64, value: Value) -> Result<(), SessionCaseError> {
     let answer = StandingAnswer {
-        answer: Answer {
+        answer: Response {
             result: Json::new(value),
             error: Json::new(Value::Null),
         },
         standing: TxnId::zero(),
     };
     let message = SourceMessage::ReplyFor { number, answer };
-    desk.heard(message).map_err(|_| Fault::Garbled)
+    desk.heard(message).map_err(|_| SessionCaseError::Garbled)
 }
 
 impl<'a> StandIn<'a> {
@@ -62,7 +65,7 @@ impl<'a> StandIn<'a> {
     }
 
     // Answers the request of this number, or keeps it open.
-    fn hear(&mut self, desk: &mut RelayDesk, number: u64) -> Result<(), Fault> {
+    fn hear(&mut self, desk: &mut RelayDesk, number: u64) -> Result<(), SessionCaseError> {
         let Some((first, later)) = self.answers.split_first() else {
             self.open.push(number)?;
             return Ok(());
@@ -72,7 +75,11 @@ impl<'a> StandIn<'a> {
     }
 
     /// Takes up what goes up, and answers it. Whether something went up.
-    pub(crate) fn take_all(&mut self, alloc: Global, desk: &mut RelayDesk) -> Result<bool, Fault> {
+    pub(crate) fn take_all(
+        &mut self,
+        alloc: Global,
+        desk: &mut RelayDesk,
+    ) -> Result<bool, SessionCaseError> {
         let mut is_any = false;
         for _taken in 0..MOST_MESSAGES {
             let Some(message) = desk.take_up(alloc)? else {
@@ -86,7 +93,7 @@ impl<'a> StandIn<'a> {
     }
 
     /// Answers all that is open.
-    pub(crate) fn answer_open(&self, desk: &mut RelayDesk) -> Result<(), Fault> {
+    pub(crate) fn answer_open(&self, desk: &mut RelayDesk) -> Result<(), SessionCaseError> {
         for number in self.open.iter() {
             answer(desk, *number, Value::Null)?;
         }
@@ -95,15 +102,22 @@ impl<'a> StandIn<'a> {
 }
 
 // Whether a desk owes nothing to a session.
-fn owes_nothing(alloc: Global, desk: &mut RelayDesk, who: u64) -> Result<bool, Fault> {
-    let mut members = [Member { who, owed: true }];
+fn owes_nothing(
+    alloc: Global,
+    desk: &mut RelayDesk,
+    session_id: SessionId,
+) -> Result<bool, SessionCaseError> {
+    let mut members = [Member {
+        session: session_id,
+        owed: true,
+    }];
     desk.mark(&mut members);
     let is_owed = members.iter().any(|member| member.owed);
-    Ok(!is_owed && desk.collect(alloc, who)?.is_none())
+    Ok(!is_owed && desk.collect(alloc, session_id)?.is_none())
 }
 
 // Whether nothing goes up but that locks are left.
-fn leaves_locks(alloc: Global, desk: &mut RelayDesk) -> Result<bool, Fault> {
+fn leaves_locks(alloc: Global, desk: &mut RelayDesk) -> Result<bool, SessionCaseError> {
     for _taken in 0..MOST_MESSAGES {
         let Some(message) = desk.take_up(alloc)? else {
             return Ok(true);
@@ -116,17 +130,21 @@ fn leaves_locks(alloc: Global, desk: &mut RelayDesk) -> Result<bool, Fault> {
 }
 
 /// Asks for the lock for a session. What is replied at once is let go.
-pub(crate) fn ask_for_lock(alloc: Global, desk: &mut RelayDesk, who: u64) -> Result<(), Fault> {
+pub(crate) fn ask_for_lock(
+    alloc: Global,
+    desk: &mut RelayDesk,
+    session_id: SessionId,
+) -> Result<(), SessionCaseError> {
     let ask = Ask {
         id: Id::from_number(0),
         verb: Verb::Lock(Text::new(alloc, LOCK)?),
     };
-    desk.ask(alloc, who, ask)?;
+    desk.ask(alloc, session_id, ask)?;
     Ok(())
 }
 
 // Whether another session that asks for the lock has it once the source gives it.
-fn is_lock_had(alloc: Global, desk: &mut RelayDesk) -> Result<bool, Fault> {
+fn is_lock_had(alloc: Global, desk: &mut RelayDesk) -> Result<bool, SessionCaseError> {
     ask_for_lock(alloc, desk, OTHER)?;
     let Some(message) = desk.take_up(alloc)? else {
         return Ok(false);
@@ -147,7 +165,7 @@ fn is_lock_had(alloc: Global, desk: &mut RelayDesk) -> Result<bool, Fault> {
 }
 
 /// Whether nothing is owed to the session, which has ended, and nobody has its lock.
-pub(crate) fn is_quiet(alloc: Global, desk: &mut RelayDesk) -> Result<bool, Fault> {
+pub(crate) fn is_quiet(alloc: Global, desk: &mut RelayDesk) -> Result<bool, SessionCaseError> {
     let is_silent = owes_nothing(alloc, desk, WHO)?;
     let is_left = leaves_locks(alloc, desk)?;
     let is_had = is_lock_had(alloc, desk)?;

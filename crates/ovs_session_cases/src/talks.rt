@@ -1,12 +1,12 @@
 //! What is said in a session, part by part, and what is to be written of it.
 
-use crate::fault::Fault;
+use crate::session_case_error::SessionCaseError;
 use serde_json::Value;
 use std::alloc::Global;
 
 /// A part of what a peer says, which it says once it was written so much.
 #[derive(Drop)]
-pub(crate) struct Part {
+pub(crate) struct TalkPart {
     /// What it says; nothing where it says no more.
     pub(crate) text: String,
     /// How many bytes are written to it before.
@@ -15,25 +15,29 @@ pub(crate) struct Part {
 
 /// What a peer says, and what is to be written to it.
 #[derive(Drop)]
-pub(crate) struct Talk {
+pub(crate) struct TrialTalk {
     /// What it says, part by part.
-    pub(crate) parts: Vec<Part>,
+    pub(crate) parts: Vec<TalkPart>,
     /// All that is to be written to it.
     pub(crate) wanted: String,
 }
 
 // Puts the texts of these messages behind another.
-fn add_texts(alloc: Global, json: &Value, text: &mut String) -> Result<(), Fault> {
-    for message in json.as_array().ok_or(Fault::Malformed)?.as_slice() {
+fn add_texts(alloc: Global, json: &Value, text: &mut String) -> Result<(), SessionCaseError> {
+    for message in json
+        .as_array()
+        .ok_or(SessionCaseError::Malformed)?
+        .as_slice()
+    {
         text.push_str(message.to_string(alloc)?.as_str())?;
     }
     Ok(())
 }
 
-impl Talk {
+impl TrialTalk {
     // One part more, which says this once all was written that is wanted by now.
-    fn add_part(&mut self, text: String) -> Result<(), Fault> {
-        self.parts.push(Part {
+    fn add_part(&mut self, text: String) -> Result<(), SessionCaseError> {
+        self.parts.push(TalkPart {
             text,
             written_before: self.wanted.len() as u64,
         })?;
@@ -41,9 +45,13 @@ impl Talk {
     }
 
     // `[[MESSAGE, ..], [MESSAGE, ..]]`: what a part says, if anything, and what is to be written then.
-    fn read_part(&mut self, alloc: Global, json: &Value) -> Result<(), Fault> {
-        let [said, wanted] = json.as_array().ok_or(Fault::Malformed)?.as_slice() else {
-            return Err(Fault::Malformed);
+    fn read_part(&mut self, alloc: Global, json: &Value) -> Result<(), SessionCaseError> {
+        let [said, wanted] = json
+            .as_array()
+            .ok_or(SessionCaseError::Malformed)?
+            .as_slice()
+        else {
+            return Err(SessionCaseError::Malformed);
         };
         let mut text = String::new(alloc);
         add_texts(alloc, said, &mut text)?;
@@ -54,12 +62,16 @@ impl Talk {
     }
 
     /// `[[[MESSAGE, ..], [MESSAGE, ..]], ..]`: what each part says, and what is to be written before the next. Behind all of them it ends.
-    pub(crate) fn read(alloc: Global, json: &Value) -> Result<Talk, Fault> {
-        let mut talk = Talk {
+    pub(crate) fn read(alloc: Global, json: &Value) -> Result<TrialTalk, SessionCaseError> {
+        let mut talk = TrialTalk {
             parts: Vec::new(alloc),
             wanted: String::new(alloc),
         };
-        for part in json.as_array().ok_or(Fault::Malformed)?.as_slice() {
+        for part in json
+            .as_array()
+            .ok_or(SessionCaseError::Malformed)?
+            .as_slice()
+        {
             talk.read_part(alloc, part)?;
         }
         talk.add_part(String::new(alloc))?;

@@ -1,7 +1,7 @@
 //! Sessions over devices of which each call fails in turn, or passes nothing, and what is to be so then.
 
-use crate::devices::{Called, Calls, Manner, Mark, Side};
-use crate::fault::Fault;
+use crate::devices::{Called, Calls, DeviceSide, Manner, Mark};
+use crate::session_case_error::SessionCaseError;
 use ovs_links::Link;
 use ovs_session::Ended;
 use serde_json::Value;
@@ -13,7 +13,7 @@ const MOST_CALLS: u64 = 1_000_000;
 
 /// How a session stopped, and what came of it.
 #[derive(Drop)]
-pub(crate) struct Outcome {
+pub(crate) struct TrialOutcome {
     /// Why it ended; `None` where it could do nothing more by itself.
     pub(crate) ended: Option<Ended>,
     /// What was written.
@@ -31,7 +31,7 @@ pub(crate) struct Outcome {
 /// A session that can be had again and again.
 pub(crate) trait Trial {
     /// The session over devices that behave so.
-    fn run(&mut self, alloc: Global, manner: Manner) -> Result<Outcome, Fault>;
+    fn run(&mut self, alloc: Global, manner: Manner) -> Result<TrialOutcome, SessionCaseError>;
 
     /// What is to be written where no call fails.
     fn wanted(&self) -> &str;
@@ -45,30 +45,30 @@ enum Found {
 }
 
 /// What an error is told by a device's call.
-pub(crate) fn kind_of(json: &Value) -> Result<ErrorKind, Fault> {
-    match json.as_str().ok_or(Fault::Malformed)? {
+pub(crate) fn kind_of(json: &Value) -> Result<ErrorKind, SessionCaseError> {
+    match json.as_str().ok_or(SessionCaseError::Malformed)? {
         "Interrupted" => Ok(ErrorKind::Interrupted),
         "WouldBlock" => Ok(ErrorKind::WouldBlock),
         "TimedOut" => Ok(ErrorKind::TimedOut),
         "ConnectionReset" => Ok(ErrorKind::ConnectionReset),
         "BrokenPipe" => Ok(ErrorKind::BrokenPipe),
         "Other" => Ok(ErrorKind::Other),
-        _ => Err(Fault::Malformed),
+        _ => Err(SessionCaseError::Malformed),
     }
 }
 
-fn other(side: Side) -> Side {
+fn other(side: DeviceSide) -> DeviceSide {
     match side {
-        Side::Reader => Side::Writer,
-        Side::Writer => Side::Reader,
+        DeviceSide::Reader => DeviceSide::Writer,
+        DeviceSide::Writer => DeviceSide::Reader,
     }
 }
 
 // How a session ends where a call of this device fails.
-fn fault_of(side: Side) -> Ended {
+fn fault_of(side: DeviceSide) -> Ended {
     match side {
-        Side::Reader => Ended::ReadFault,
-        Side::Writer => Ended::WriteFault,
+        DeviceSide::Reader => Ended::ReadFault,
+        DeviceSide::Writer => Ended::WriteFault,
     }
 }
 
@@ -77,12 +77,12 @@ fn are_first(links: &[Link], all: &[Link]) -> bool {
     links.len() <= all.len() && links.iter().zip(all).all(|(link, same)| link.same(same))
 }
 
-impl Outcome {
+impl TrialOutcome {
     // The calls of a device.
-    fn called(&self, side: Side) -> &Called {
+    fn called(&self, side: DeviceSide) -> &Called {
         match side {
-            Side::Reader => &self.reads,
-            Side::Writer => &self.writes,
+            DeviceSide::Reader => &self.reads,
+            DeviceSide::Writer => &self.writes,
         }
     }
 
@@ -93,7 +93,7 @@ impl Outcome {
     }
 
     // What isn't so of a session that is to be a beginning of another.
-    fn oddity(&self, ample: &Outcome) -> Option<&'static str> {
+    fn oddity(&self, ample: &TrialOutcome) -> Option<&'static str> {
         if !ample
             .written
             .as_slice()
@@ -110,7 +110,7 @@ impl Outcome {
     }
 
     // What isn't so of a session that is to be as another.
-    fn difference(&self, ample: &Outcome) -> Option<&'static str> {
+    fn difference(&self, ample: &TrialOutcome) -> Option<&'static str> {
         if self.ended != ample.ended {
             Some("another end")
         } else if self.written.len() != ample.written.len() {
@@ -123,7 +123,12 @@ impl Outcome {
     }
 
     // What isn't so of a session whose device failed at the call of this number.
-    fn oddity_of_failing(&self, ample: &Outcome, side: Side, call: u64) -> Option<&'static str> {
+    fn oddity_of_failing(
+        &self,
+        ample: &TrialOutcome,
+        side: DeviceSide,
+        call: u64,
+    ) -> Option<&'static str> {
         let called = self.called(side);
         if self.ended != Some(fault_of(side)) {
             Some("another end")
@@ -139,7 +144,11 @@ impl Outcome {
     }
 
     // What isn't so of a session one of whose devices passed nothing from a call on, and which is to end so.
-    fn oddity_of_passing(&self, ample: &Outcome, ended: Option<Ended>) -> Option<&'static str> {
+    fn oddity_of_passing(
+        &self,
+        ample: &TrialOutcome,
+        ended: Option<Ended>,
+    ) -> Option<&'static str> {
         if self.ended != ended {
             Some("another end")
         } else if self.reads.failures != 0 || self.writes.failures != 0 {
@@ -149,7 +158,7 @@ impl Outcome {
         }
     }
 
-    fn told(&self, alloc: Global) -> Result<String, Fault> {
+    fn told(&self, alloc: Global) -> Result<String, SessionCaseError> {
         let (bytes, links) = (self.written.len(), self.links.len());
         let end = end_text(alloc, self.ended)?;
         Ok(format!(in alloc; "{end} bytes {bytes} links {links}")?)
@@ -157,7 +166,7 @@ impl Outcome {
 }
 
 // How a session stopped, as text.
-fn end_text(alloc: Global, ended: Option<Ended>) -> Result<String, Fault> {
+fn end_text(alloc: Global, ended: Option<Ended>) -> Result<String, SessionCaseError> {
     match ended {
         Some(ended) => Ok(format!(in alloc; "{ended}")?),
         None => Ok(String::from_str(alloc, "idle")?),
@@ -165,7 +174,12 @@ fn end_text(alloc: Global, ended: Option<Ended>) -> Result<String, Fault> {
 }
 
 // What is so where no call failed, since there are fewer: the session is as it was.
-fn untouched(outcome: &Outcome, ample: &Outcome, call: u64, ended: Option<Ended>) -> Found {
+fn untouched(
+    outcome: &TrialOutcome,
+    ample: &TrialOutcome,
+    call: u64,
+    ended: Option<Ended>,
+) -> Found {
     match outcome.difference(ample) {
         None => Found::All(call.saturating_sub(1), ended),
         Some(odd) => Found::Odd(call, odd),
@@ -177,9 +191,9 @@ fn each_fails<T: Trial>(
     alloc: Global,
     trial: &mut T,
     manner: Manner,
-    side: Side,
-    ample: &Outcome,
-) -> Result<Found, Fault> {
+    side: DeviceSide,
+    ample: &TrialOutcome,
+) -> Result<Found, SessionCaseError> {
     for call in 1..MOST_CALLS {
         let outcome = trial.run(alloc, manner.failing(side, Calls::At(call)))?;
         if outcome.called(side).calls < call {
@@ -189,7 +203,7 @@ fn each_fails<T: Trial>(
             return Ok(Found::Odd(call, odd));
         }
     }
-    Err(Fault::Endless)
+    Err(SessionCaseError::Endless)
 }
 
 // Has a device pass nothing from each of its calls on: each time the session is to end as the first time.
@@ -197,9 +211,9 @@ fn none_passes<T: Trial>(
     alloc: Global,
     trial: &mut T,
     manner: Manner,
-    side: Side,
-    ample: &Outcome,
-) -> Result<Found, Fault> {
+    side: DeviceSide,
+    ample: &TrialOutcome,
+) -> Result<Found, SessionCaseError> {
     let mut ended = None;
     for call in 1..MOST_CALLS {
         let outcome = trial.run(alloc, manner.failing(side, Calls::From(call)))?;
@@ -213,10 +227,10 @@ fn none_passes<T: Trial>(
             return Ok(Found::Odd(call, odd));
         }
     }
-    Err(Fault::Endless)
+    Err(SessionCaseError::Endless)
 }
 
-fn found_text(alloc: Global, found: Found) -> Result<String, Fault> {
+fn found_text(alloc: Global, found: Found) -> Result<String, SessionCaseError> {
     match found {
         Found::All(calls, None) => Ok(format!(in alloc; "{calls}")?),
         Found::All(calls, Some(ended)) => Ok(format!(in alloc; "{calls} {ended}")?),
@@ -229,10 +243,10 @@ fn failing_text<T: Trial>(
     alloc: Global,
     trial: &mut T,
     manner: Manner,
-    ample: &Outcome,
-) -> Result<String, Fault> {
-    let reads = each_fails(alloc, trial, manner, Side::Reader, ample)?;
-    let writes = each_fails(alloc, trial, manner, Side::Writer, ample)?;
+    ample: &TrialOutcome,
+) -> Result<String, SessionCaseError> {
+    let reads = each_fails(alloc, trial, manner, DeviceSide::Reader, ample)?;
+    let writes = each_fails(alloc, trial, manner, DeviceSide::Writer, ample)?;
     let (reads, writes) = (found_text(alloc, reads)?, found_text(alloc, writes)?);
     Ok(format!(in alloc; "reads fail {reads} writes fail {writes}")?)
 }
@@ -242,14 +256,14 @@ fn passing_text<T: Trial>(
     alloc: Global,
     trial: &mut T,
     manner: Manner,
-    ample: &Outcome,
-) -> Result<String, Fault> {
-    let reads = none_passes(alloc, trial, manner, Side::Reader, ample)?;
-    let writes = none_passes(alloc, trial, manner, Side::Writer, ample)?;
+    ample: &TrialOutcome,
+) -> Result<String, SessionCaseError> {
+    let reads = none_passes(alloc, trial, manner, DeviceSide::Reader, ample)?;
+    let writes = none_passes(alloc, trial, manner, DeviceSide::Writer, ample)?;
     let (reads, writes) = (found_text(alloc, reads)?, found_text(alloc, writes)?);
     let slow = manner
-        .failing(Side::Reader, Calls::EachOther)
-        .failing(Side::Writer, Calls::EachOther);
+        .failing(DeviceSide::Reader, Calls::EachOther)
+        .failing(DeviceSide::Writer, Calls::EachOther);
     let outcome = trial.run(alloc, slow)?;
     let again = outcome.difference(ample).unwrap_or("the same");
     Ok(format!(in alloc; "reads stop {reads} writes stop {writes} between {again}")?)
@@ -262,12 +276,12 @@ pub(crate) fn tried<T: Trial>(
     trial: &mut T,
     piece: usize,
     kind: ErrorKind,
-) -> Result<String, Fault> {
+) -> Result<String, SessionCaseError> {
     let manner = Manner::new(piece, kind);
     let ample = trial.run(alloc, manner)?;
     if ample.written.as_slice() != trial.wanted().as_bytes() {
         let written = std::str::from_utf8(ample.written.as_slice());
-        let written = written.map_err(|_| Fault::Garbled)?;
+        let written = written.map_err(|_| SessionCaseError::Garbled)?;
         return Ok(format!(in alloc; "wrote {written}")?);
     }
     if !ample.is_quiet {

@@ -1,22 +1,25 @@
 //! A relay's session with its source over devices that fail, with a desk at which a transaction and a lock were asked for.
 
-use crate::devices::{Exchange, Giving, Manner, Taking, called_of_reader, called_of_writer};
-use crate::fault::Fault;
+use crate::devices::{
+    DeviceExchange, Giving, Manner, TakingDevice, called_of_reader, called_of_writer,
+};
 use crate::links::id_of_text;
+use crate::session_case_error::SessionCaseError;
 use crate::stand_in::{WHO, ask_for_lock, is_quiet};
-use crate::talks::Talk;
-use crate::trials::{Outcome, Trial, kind_of, tried};
+use crate::talks::TrialTalk;
+use crate::trials::{Trial, TrialOutcome, kind_of, tried};
 use ovs_authority::{Ask, Authority, Verb};
 use ovs_desk::{BadReply, RelayDesk, SourceMessage};
 use ovs_follow::{
-    Followed, LinkSink, SideCall, SourceSide, follow_upstream, note_found, note_heard, note_taken,
+    HandlerCall, LinkSink, UpstreamEnd, UpstreamHandler, follow_upstream, note_found, note_heard,
+    note_taken,
 };
 use ovs_history::GhostList;
 use ovs_json::{NoMemory, Text};
 use ovs_links::Link;
 use ovs_session::Limits;
 use ovs_types::{Schema, TxnId};
-use ovs_wire::{Counted, Id, Message};
+use ovs_wire::{Counted, Id, MAX_MESSAGE_BYTES, Message};
 use serde_json::Value;
 use std::alloc::Global;
 use std::snapshot::Snapshot;
@@ -40,11 +43,11 @@ struct Keeping {
     // There was no memory for one.
     is_short: bool,
     sent: GhostList<Link>,
-    exchange: Arc<Exchange>,
+    exchange: Arc<DeviceExchange>,
 }
 
 impl Keeping {
-    fn new(alloc: Global, exchange: Arc<Exchange>) -> Keeping {
+    fn new(alloc: Global, exchange: Arc<DeviceExchange>) -> Keeping {
         Keeping {
             links: Vec::new(alloc),
             is_short: false,
@@ -66,14 +69,14 @@ impl LinkSink for Keeping {
     }
 }
 
-// A relay's desk as the side of the source.
+// A relay's desk as a handler.
 #[derive(Drop)]
 struct DeskSide {
     alloc: Global,
     desk: RelayDesk,
 }
 
-impl SourceSide for DeskSide {
+impl UpstreamHandler for DeskSide {
     ghost hears = { λ _ _ _. Unit {0} };
 
     ghost refuses = { λ _. Unit {0} };
@@ -82,15 +85,18 @@ impl SourceSide for DeskSide {
 
     ghost loses = { λ _ _. Unit {0} };
 
-    fn take_up(&mut self, made: &mut GhostList<SideCall>) -> Result<Option<Message>, NoMemory> {
+    fn next_request(
+        &mut self,
+        made: &mut GhostList<HandlerCall>,
+    ) -> Result<Option<Message>, NoMemory> {
         let taken = self.desk.take_up(self.alloc)?;
         Ok(note_taken(taken, made))
     }
 
-    fn heard(
+    fn on_message(
         &mut self,
         message: SourceMessage,
-        made: &mut GhostList<SideCall>,
+        made: &mut GhostList<HandlerCall>,
     ) -> Result<(), BadReply> {
         let said = Snapshot::of(&message);
         self.desk.heard(message)?;
@@ -98,20 +104,20 @@ impl SourceSide for DeskSide {
         Ok(())
     }
 
-    fn found_source(&mut self, from: TxnId, made: &mut GhostList<SideCall>) {
+    fn on_connected(&mut self, from: TxnId, made: &mut GhostList<HandlerCall>) {
         self.desk.found_source();
         note_found(from, made);
     }
 
-    fn lost_source(&mut self) {
+    fn on_disconnected(&mut self) {
         self.desk.lost_source();
     }
 }
 
 // A desk at which a session asked for a transaction and for the lock.
-fn asked_desk(alloc: Global, operations: &Value) -> Result<RelayDesk, Fault> {
+fn asked_desk(alloc: Global, operations: &Value) -> Result<RelayDesk, SessionCaseError> {
     let mut desk = RelayDesk::new(alloc, Text::new(alloc, "net")?);
-    let operations = operations.as_array().ok_or(Fault::Malformed)?;
+    let operations = operations.as_array().ok_or(SessionCaseError::Malformed)?;
     let ask = Ask {
         id: Id::from_number(1),
         verb: Verb::Transact(operations.clone()?),
@@ -122,7 +128,7 @@ fn asked_desk(alloc: Global, operations: &Value) -> Result<RelayDesk, Fault> {
 }
 
 // How many replies the session is owed.
-fn replies(alloc: Global, desk: &mut RelayDesk) -> Result<u64, Fault> {
+fn replies(alloc: Global, desk: &mut RelayDesk) -> Result<u64, SessionCaseError> {
     let mut replies = 0u64;
     for _collected in 0..MOST_COLLECTED {
         match desk.collect(alloc, WHO)? {
@@ -136,7 +142,7 @@ fn replies(alloc: Global, desk: &mut RelayDesk) -> Result<u64, Fault> {
 
 // Whether the transaction has its one reply, now that the source is lost; and whether the desk is quiet once the session that asked for it
 // has ended and there is a source again.
-fn is_settled(alloc: Global, side: DeskSide) -> Result<bool, Fault> {
+fn is_settled(alloc: Global, side: DeskSide) -> Result<bool, SessionCaseError> {
     let mut desk = side.desk;
     if replies(alloc, &mut desk)? != 1 {
         return Ok(false);
@@ -152,7 +158,7 @@ struct UpstreamTrial<'a> {
     schema: &'a Schema,
     asked: TxnId,
     operations: &'a Value,
-    talk: &'a Talk,
+    talk: &'a TrialTalk,
 }
 
 // A session from one end to the other.
@@ -161,13 +167,13 @@ fn run_session(
     schema: &Schema,
     asked: TxnId,
     operations: &Value,
-    talk: &Talk,
+    talk: &TrialTalk,
     manner: Manner,
-) -> Result<Outcome, Fault> {
-    let exchange = Arc::new(alloc, Exchange::new())?;
+) -> Result<TrialOutcome, SessionCaseError> {
+    let exchange = Arc::new(alloc, DeviceExchange::new())?;
     let parts = talk.parts.as_slice();
     let mut reader = Counted::new(Giving::new(alloc, parts, manner, exchange.clone()?));
-    let mut writer = Counted::new(Taking::new(alloc, manner, exchange.clone()?));
+    let mut writer = Counted::new(TakingDevice::new(alloc, manner, exchange.clone()?));
     let side = DeskSide {
         alloc,
         desk: asked_desk(alloc, operations)?,
@@ -180,10 +186,11 @@ fn run_session(
         side,
         &mut reader,
         &mut writer,
+        MAX_MESSAGE_BYTES,
         LIMITS,
         MOST_TURNS,
     );
-    let Followed {
+    let UpstreamEnd {
         sink,
         source,
         ended,
@@ -195,10 +202,10 @@ fn run_session(
         ..
     } = sink;
     if is_short {
-        return Err(Fault::NoMemory);
+        return Err(SessionCaseError::NoMemory);
     }
     let (written, writes) = called_of_writer(writer);
-    Ok(Outcome {
+    Ok(TrialOutcome {
         ended: Some(ended),
         written,
         links,
@@ -209,7 +216,7 @@ fn run_session(
 }
 
 impl<'a> Trial for UpstreamTrial<'a> {
-    fn run(&mut self, alloc: Global, manner: Manner) -> Result<Outcome, Fault> {
+    fn run(&mut self, alloc: Global, manner: Manner) -> Result<TrialOutcome, SessionCaseError> {
         run_session(
             alloc,
             self.schema,
@@ -227,18 +234,22 @@ impl<'a> Trial for UpstreamTrial<'a> {
 
 /// `[KIND, PIECE, ASKED, OPERATIONS, PARTS]`: what comes of a session that asks for what comes after this id, with a desk that was asked
 /// for a transaction of these operations and for the lock, where the source says these parts.
-pub(crate) fn told(alloc: Global, schema: &Schema, parts: &[Value]) -> Result<String, Fault> {
+pub(crate) fn told(
+    alloc: Global,
+    schema: &Schema,
+    parts: &[Value],
+) -> Result<String, SessionCaseError> {
     let [kind, piece, asked, operations, parts] = parts else {
-        return Err(Fault::Malformed);
+        return Err(SessionCaseError::Malformed);
     };
-    let piece = piece.as_u64().ok_or(Fault::Malformed)? as usize;
+    let piece = piece.as_u64().ok_or(SessionCaseError::Malformed)? as usize;
     if piece == 0 {
-        return Err(Fault::Malformed);
+        return Err(SessionCaseError::Malformed);
     }
-    let talk = Talk::read(alloc, parts)?;
+    let talk = TrialTalk::read(alloc, parts)?;
     let mut trial = UpstreamTrial {
         schema,
-        asked: id_of_text(asked.as_str().ok_or(Fault::Malformed)?)?,
+        asked: id_of_text(asked.as_str().ok_or(SessionCaseError::Malformed)?)?,
         operations,
         talk: &talk,
     };

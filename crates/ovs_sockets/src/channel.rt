@@ -27,9 +27,6 @@ const CONNECTING: u64 = 5;
 // So much is read at once while a write has to wait.
 const CHUNK: usize = 16_384;
 
-// So much is read at most before it is taken.
-const MOST_AHEAD: usize = 16_777_216;
-
 /// The connection with an upstream, if there is one, and what its thread waits with: for the connection, and for being woken.
 #[derive(Drop)]
 pub(crate) struct Channel {
@@ -41,14 +38,18 @@ pub(crate) struct Channel {
     stream: Option<TcpStream>,
     // What came while a write had to wait. An upstream that writes may read nothing until that is taken.
     ahead: VecDeque<u8>,
+    // So much is read at most before it is taken.
+    most_ahead: usize,
     exchange: Exchange,
     shutdown_flag: ShutdownFlag,
 }
 
 impl Channel {
+    /// Not connected yet. Where a write has to wait, so much is read ahead at most.
     pub(crate) fn new<N: Net>(
         net: &N,
         alloc: Global,
+        most_ahead: usize,
         shutdown_flag: ShutdownFlag,
     ) -> io::Result<Channel> {
         Ok(Channel {
@@ -58,6 +59,7 @@ impl Channel {
             events: Events::with_capacity(alloc, EVENTS)?,
             stream: None,
             ahead: VecDeque::new(alloc),
+            most_ahead,
             exchange: Exchange::Opened,
             shutdown_flag,
         })
@@ -157,7 +159,7 @@ impl Channel {
 
     // Takes in some of what has come. Whether anything had.
     fn read_ahead(&mut self) -> io::Result<bool> {
-        if self.ahead.len() >= MOST_AHEAD {
+        if self.ahead.len() >= self.most_ahead {
             return Ok(false);
         }
         let mut chunk = [0; CHUNK];

@@ -10,7 +10,7 @@ mod pause;
 mod poller;
 mod shutdown;
 mod timed_out;
-mod upward;
+mod uplink;
 mod waker;
 mod worker_group;
 
@@ -18,5 +18,5 @@ pub use client::Half;
 pub use listening::Listening;
 pub use poller::SocketPoller;
 pub use shutdown::{Shutdown, ShutdownFlag};
-pub use upward::{FromUpstream, ToUpstream, Upward, UpwardWakers};
+pub use uplink::{FromUpstream, ToUpstream, Uplink, UpwardWakers};
 pub use waker::SocketWaker;

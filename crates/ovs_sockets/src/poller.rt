@@ -43,7 +43,7 @@ const LEFT: u64 = 1;
 
 // What the events of a wait told.
 #[derive(Clone, Copy)]
-struct Told {
+struct WaitOutcome {
     // The worker was woken.
     was_woken: bool,
     // That some session may go on couldn't be noted.
@@ -154,10 +154,10 @@ impl<R: Log + Drop> SocketPoller<R> {
     }
 
     // Notes what came.
-    fn note_events(&mut self) -> Told
+    fn note_events(&mut self) -> WaitOutcome
         ensures same { (self.new.accepts_left ≡ self.old.accepts_left) × (self.new.is_over ≡ self.old.is_over) × (self.new.connections ≡ self.old.connections) }
     {
-        let mut told = Told {
+        let mut told = WaitOutcome {
             was_woken: false,
             is_lost: false,
         };

@@ -3,13 +3,13 @@
 #![tactic(auto)]
 
 mod locked_source;
-mod origin_desk;
 mod sending;
+mod shared_source;
 mod source_sender;
 mod source_threads;
 
 pub use locked_source::LockedSource;
-pub use origin_desk::OriginDesk;
-pub use sending::{SourceFollowed, follow_source};
+pub use sending::{SourceEnd, follow_source};
+pub use shared_source::SharedSource;
 pub use source_sender::{SourceSender, SourceSent};
 pub use source_threads::run_source;

@@ -15,9 +15,9 @@ ghost use Rattle.ovs_views.specs.Published.{is_shown};
 ghost use Rattle.ovs_source_node.specs.Giving.{HadNone, HasNone, IsCollected, IsHeldBack};
 ghost use Rattle.ovs_source_node.specs.Learning.{Learns};
 
-use crate::origin_desk::OriginDesk;
+use crate::shared_source::SharedSource;
 use ovs_authority::{Ask, Verb};
-use ovs_json::NoMemory;
+use ovs_json::{NoMemory, SessionId};
 use ovs_links::Link;
 use ovs_node_threads::{KnownDesk, SharedAuthority};
 use ovs_recorded_source::{RecordedSource, SourceFront, SourceName, TakenLinks};
@@ -34,22 +34,22 @@ use std::thread::Parker;
 fn may_be_given<K: NodeName, N: SourceName, R: Wait>(
     rt: &R,
     desk: &RecordedSource<N>,
-    who: u64,
+    session_id: SessionId,
     is_held_back: bool,
     view: &mut View<K>,
     session: &ViewSession<K>,
     known: &mut SourceFront<N>,
 ) -> Result<bool, Gone>
     ensures shown { result ≡ Ok true → is_held_back ≡ true
-        → ForSome (next_standing who desk.now.state.waiting) (λ id. is_shown session.now.last id ≡ true) }
-    ensures unshown { result ≡ Ok false → (is_held_back ≡ true) × IsHeldBack N.start who session.now.last known.old known.new }
+        → ForSome (next_standing session_id desk.now.state.waiting) (λ id. is_shown session.now.last id ≡ true) }
+    ensures unshown { result ≡ Ok false → (is_held_back ≡ true) × IsHeldBack N.start session_id session.now.last known.old known.new }
     ensures learnt { IsPrefix known.old known.new }
     ensures view { view.new ≡ view.old }
 {
     if !is_held_back {
         return Ok(true);
     }
-    match desk.standing(rt, who, known) {
+    match desk.standing(rt, session_id, known) {
         Some(id) => view.has_shown(session, id),
         None => Ok(true),
     }
@@ -60,21 +60,21 @@ fn collect_shown<K: NodeName, N: SourceName, R: Wait>(
     rt: &R,
     alloc: Global,
     desk: &mut RecordedSource<N>,
-    who: u64,
+    session_id: SessionId,
     is_held_back: bool,
     view: &mut View<K>,
     session: &ViewSession<K>,
     known: &mut SourceFront<N>,
 ) -> Result<Option<Message>, ViewError>
-    ensures given { IfOk result (λ r. IfSome r (λ m. IsCollected N.start is_held_back who session.now.last m × IsAnswer m)) }
-    ensures ends { IfOk result (λ r. IfSome r (λ m. IsGiven (λ s. EndsWith s known.old known.new) who (Some m))) }
-    ensures none { result ≡ Ok None → HasNone N.start is_held_back who session.now.last known.old known.new }
+    ensures given { IfOk result (λ r. IfSome r (λ m. IsCollected N.start is_held_back session_id session.now.last m × IsAnswer m)) }
+    ensures ends { IfOk result (λ r. IfSome r (λ m. IsGiven (λ s. EndsWith s known.old known.new) session_id (Some m))) }
+    ensures none { result ≡ Ok None → HasNone N.start is_held_back session_id session.now.last known.old known.new }
     ensures view { view.new ≡ view.old }
 {
-    if !may_be_given(rt, &*desk, who, is_held_back, view, session, known)? {
+    if !may_be_given(rt, &*desk, session_id, is_held_back, view, session, known)? {
         return Ok(None);
     }
-    Ok(desk.collect(rt, alloc, who, known)?)
+    Ok(desk.collect(rt, alloc, session_id, known)?)
 }
 
 // An epoch that is due begins before a transaction, though replies wait: it is after so many commits, and no more.
@@ -97,15 +97,15 @@ fn ask_in_epoch<N: SourceName, R: Wait>(
     rt: &R,
     alloc: Global,
     desk: &mut RecordedSource<N>,
-    who: u64,
+    session_id: SessionId,
     ask: Ask,
     known: &mut SourceFront<N>,
 ) -> Result<Option<Message>, NoMemory>
-    ensures replied { IfOk result (λ r. IsAsked (EndsRun N.start) who ask r × RepliesTo ask.id r) }
-    ensures ends { IfOk result (λ r. IsAsked (λ s. EndsWith s known.old known.new) who ask r) }
+    ensures replied { IfOk result (λ r. IsAsked (EndsRun N.start) session_id ask r × RepliesTo ask.id r) }
+    ensures ends { IfOk result (λ r. IsAsked (λ s. EndsWith s known.old known.new) session_id ask r) }
 {
     begin_before(rt, alloc, &mut *desk, &ask.verb, known);
-    desk.ask(rt, alloc, who, ask, known)
+    desk.ask(rt, alloc, session_id, ask, known)
 }
 
 /// A source's desk behind a lock, which is taken for one call at a time. All calls on it are steps of one run, of which each caller
@@ -153,44 +153,44 @@ impl<'a, K: NodeName, N: SourceName, R: Wait> KnownDesk for LockedSource<'a, K, 
 }
 
 impl<'a, K: NodeName, N: SourceName, R: Wait> SharedAuthority<K> for LockedSource<'a, K, N, R> {
-    ghost replies = { λ who ask r. IsAsked (EndsRun N.start) who ask r };
+    ghost replies = { λ session_id ask r. IsAsked (EndsRun N.start) session_id ask r };
 
-    ghost owes = { λ held who steps m. IsCollected N.start held who steps m };
+    ghost owes = { λ held session_id steps m. IsCollected N.start held session_id steps m };
 
     fn ask(
         &self,
         alloc: Global,
-        who: u64,
+        session_id: SessionId,
         ask: Ask,
         known: &mut SourceFront<N>,
     ) -> Result<Option<Message>, NoMemory>
-        ensures replied { IfOk result (λ r. IsAsked (EndsRun N.start) who ask r × RepliesTo ask.id r) }
-        ensures ends { IfOk result (λ r. IsAsked (λ s. EndsWith s known.old known.new) who ask r) }
+        ensures replied { IfOk result (λ r. IsAsked (EndsRun N.start) session_id ask r × RepliesTo ask.id r) }
+        ensures ends { IfOk result (λ r. IsAsked (λ s. EndsWith s known.old known.new) session_id ask r) }
     {
         let mut desk = self.desk.lock(self.rt);
-        ask_in_epoch(self.rt, alloc, &mut *desk, who, ask, known)
+        ask_in_epoch(self.rt, alloc, &mut *desk, session_id, ask, known)
     }
 
     fn collect(
         &self,
         alloc: Global,
-        who: u64,
+        session_id: SessionId,
         is_held_back: bool,
         view: &mut View<K>,
         session: &ViewSession<K>,
         known: &mut SourceFront<N>,
     ) -> Result<Option<Message>, ViewError>
-        ensures given { IfOk result (λ r. IfSome r (λ m. IsCollected N.start is_held_back who session.now.last m × IsAnswer m)) }
+        ensures given { IfOk result (λ r. IfSome r (λ m. IsCollected N.start is_held_back session_id session.now.last m × IsAnswer m)) }
         ensures view { view.new ≡ view.old }
-        ensures learnt { IfOk result (λ r. IfSome r (λ m. IsGiven (λ s. Learns s known.old known.new) who (Some m))) }
-        ensures none { result ≡ Ok None → HadNone N.start is_held_back who session.now.last known.old known.new }
+        ensures learnt { IfOk result (λ r. IfSome r (λ m. IsGiven (λ s. Learns s known.old known.new) session_id (Some m))) }
+        ensures none { result ≡ Ok None → HadNone N.start is_held_back session_id session.now.last known.old known.new }
     {
         let mut desk = self.desk.lock(self.rt);
         let collected = collect_shown(
             self.rt,
             alloc,
             &mut *desk,
-            who,
+            session_id,
             is_held_back,
             view,
             session,
@@ -201,11 +201,11 @@ impl<'a, K: NodeName, N: SourceName, R: Wait> SharedAuthority<K> for LockedSourc
     }
 
     // An epoch that is due waits for no reply of the session any more.
-    fn end_session(&self, who: u64, known: &mut SourceFront<N>)
-        ensures learnt { Learns (steps.Ended who) known.old known.new }
+    fn end_session(&self, session_id: SessionId, known: &mut SourceFront<N>)
+        ensures learnt { Learns (steps.Ended session_id) known.old known.new }
     {
         let mut desk = self.desk.lock(self.rt);
-        desk.end_session(self.rt, who, known);
+        desk.end_session(self.rt, session_id, known);
         self.trim_once_answered(&mut *desk, known);
     }
 }
@@ -216,7 +216,7 @@ impl<'a, K: NodeName, N: SourceName, R: Wait> Wake for LockedSource<'a, K, N, R>
     }
 }
 
-impl<'a, K: NodeName, N: SourceName, R: Wait> OriginDesk<K, TakenLinks<N>>
+impl<'a, K: NodeName, N: SourceName, R: Wait> SharedSource<K, TakenLinks<N>>
     for LockedSource<'a, K, N, R> {
     ghost use Rattle.ovs_source_node.specs.NoneTaken.{none_taken};
 

@@ -5,7 +5,7 @@ ghost use Rattle.ovs_links.specs.Sets.{IsOfTables};
 ghost use Rattle.ovs_links.specs.declared.link.Link.{Link};
 ghost use Rattle.ovs_source_node.specs.Sent.{HasSent};
 
-use crate::origin_desk::OriginDesk;
+use crate::shared_source::SharedSource;
 use ovs_follow::LinkSink;
 use ovs_session::Counts;
 use ovs_views::NodeName;
@@ -14,7 +14,7 @@ use std::sync::atomic::{AtomicU64, Ordering};
 
 /// What is left once a desk's links were sent.
 #[derive(Drop)]
-pub struct SourceFollowed<S: LinkSink, T: Drop> {
+pub struct SourceEnd<S: LinkSink, T: Drop> {
     /// Where they went.
     pub sink: S,
     /// The links that were taken out of the desk.
@@ -24,7 +24,7 @@ pub struct SourceFollowed<S: LinkSink, T: Drop> {
 }
 
 // Sends the next link of the desk; false where there is none.
-fn send_next<K: NodeName, T, L: OriginDesk<K, T>, S: LinkSink>(
+fn send_next<K: NodeName, T, L: SharedSource<K, T>, S: LinkSink>(
     desk: &L,
     taken: &mut T,
     sink: &mut S,
@@ -47,7 +47,7 @@ fn send_next<K: NodeName, T, L: OriginDesk<K, T>, S: LinkSink>(
 }
 
 // Sends the links of the desk, until no other thread runs and no link is left.
-fn send_all<K: NodeName, T, L: OriginDesk<K, T>, S: LinkSink, R: Wait>(
+fn send_all<K: NodeName, T, L: SharedSource<K, T>, S: LinkSink, R: Wait>(
     rt: &R,
     desk: &L,
     running: &AtomicU64,
@@ -76,13 +76,13 @@ fn send_all<K: NodeName, T, L: OriginDesk<K, T>, S: LinkSink, R: Wait>(
 /// Sends the links of a source's desk to a sink, in the order in which the desk made them, from the first that wasn't taken out. It
 /// waits at the desk while there is none, and ends once no other of the threads runs that are counted here with its own, and no link
 /// is left: so the desk is to be woken after each of them has left, and after what may make a link.
-pub fn follow_source<K: NodeName, T: Drop, L: OriginDesk<K, T>, S: LinkSink, R: Wait>(
+pub fn follow_source<K: NodeName, T: Drop, L: SharedSource<K, T>, S: LinkSink, R: Wait>(
     rt: &R,
     desk: &L,
     running: &AtomicU64,
     taken: T,
     sink: S,
-) -> SourceFollowed<S, T>
+) -> SourceEnd<S, T>
     requires takes { (l : Link) → IsOfTables K.schema.description.tables l → S.takes l }
     requires sent { S.sent sink ≡ L.links taken }
     requires given { L.gives (L.links taken) }
@@ -97,7 +97,7 @@ pub fn follow_source<K: NodeName, T: Drop, L: OriginDesk<K, T>, S: LinkSink, R: 
         bytes_out: 0,
     };
     send_all::<K, T, L, S, R>(rt, desk, running, &mut taken, &mut sink, &mut counts);
-    SourceFollowed {
+    SourceEnd {
         sink,
         taken,
         counts,

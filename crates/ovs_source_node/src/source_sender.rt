@@ -5,17 +5,17 @@ ghost use Rattle.std.specs.Coded.{Coded-set, coded_list};
 ghost use Rattle.ovs_links.specs.contracts.link.Link as link;
 ghost use Rattle.ovs_session.specs.declared.ended.Ended.{Ended};
 
-use crate::origin_desk::OriginDesk;
+use crate::shared_source::SharedSource;
 use ovs_feed::{FeedEnd, FeedName};
 use ovs_node::NodeLink;
-use ovs_node_threads::{NotRun, Sender};
+use ovs_node_threads::{RunError, Sender};
 use ovs_session::Ended;
 use ovs_views::NodeName;
 use std::marker::PhantomData;
 
 /// An end of a node's feed to which nothing was sent, and what the links are taken out of the source's desk with.
 #[derive(Drop)]
-pub struct SourceSender<K: NodeName, Q: FeedName, T: Drop, L: OriginDesk<K, T>> {
+pub struct SourceSender<K: NodeName, Q: FeedName, T: Drop, L: SharedSource<K, T>> {
     end: FeedEnd<NodeLink<K>, Q>,
     taken: T,
     of: PhantomData<L>,
@@ -25,7 +25,7 @@ pub struct SourceSender<K: NodeName, Q: FeedName, T: Drop, L: OriginDesk<K, T>> 
 
 /// What is left of it once nothing more is sent: what was sent is all that was taken out of the source's desk, in order.
 #[derive(Drop)]
-pub struct SourceSent<K: NodeName, Q: FeedName, T: Drop, L: OriginDesk<K, T>> {
+pub struct SourceSent<K: NodeName, Q: FeedName, T: Drop, L: SharedSource<K, T>> {
     end: FeedEnd<NodeLink<K>, Q>,
     // `Closed` where its thread came to its end, and `NoMemory` where there was no memory for one, so that none was sent.
     ended: Ended,
@@ -34,7 +34,7 @@ pub struct SourceSent<K: NodeName, Q: FeedName, T: Drop, L: OriginDesk<K, T>> {
     ghost given: { ∥ L.gives end.1 ∥₁ },
 }
 
-impl<K: NodeName, Q: FeedName, T: Drop, L: OriginDesk<K, T>> SourceSender<K, Q, T, L> {
+impl<K: NodeName, Q: FeedName, T: Drop, L: SharedSource<K, T>> SourceSender<K, Q, T, L> {
     /// An end to which nothing was sent, and a desk that nothing was taken out of.
     pub fn new(end: FeedEnd<NodeLink<K>, Q>, taken: T) -> SourceSender<K, Q, T, L>
         requires unsent { end.1 ≡ [] }
@@ -76,7 +76,7 @@ impl<K: NodeName, Q: FeedName, T: Drop, L: OriginDesk<K, T>> SourceSender<K, Q, 
     }
 }
 
-impl<K: NodeName, Q: FeedName, T: Drop, L: OriginDesk<K, T>> SourceSent<K, Q, T, L> {
+impl<K: NodeName, Q: FeedName, T: Drop, L: SharedSource<K, T>> SourceSent<K, Q, T, L> {
     /// All was sent that the desk gave.
     pub(crate) fn new(end: FeedEnd<NodeLink<K>, Q>) -> SourceSent<K, Q, T, L>
         requires given { ∥ L.gives end.1 ∥₁ }
@@ -91,12 +91,12 @@ impl<K: NodeName, Q: FeedName, T: Drop, L: OriginDesk<K, T>> SourceSent<K, Q, T,
     }
 }
 
-impl<K: NodeName, Q: FeedName, T: Drop, L: OriginDesk<K, T>> Sender<K, Q>
+impl<K: NodeName, Q: FeedName, T: Drop, L: SharedSource<K, T>> Sender<K, Q>
     for SourceSent<K, Q, T, L> {
     ghost sends = { λ ls. L.gives ls };
 
     // Where there was no thread nothing was sent, though the desk may have made links.
-    fn take_end(self) -> Result<FeedEnd<NodeLink<K>, Q>, NotRun>
+    fn take_end(self) -> Result<FeedEnd<NodeLink<K>, Q>, RunError>
         ensures sent { IfOk result (λ end. ∥ L.gives end.1 ∥₁) }
         ensures whole { OnOk result (self.ended ≡ Ended.Closed) }
     {
@@ -108,7 +108,7 @@ impl<K: NodeName, Q: FeedName, T: Drop, L: OriginDesk<K, T>> Sender<K, Q>
         } = self;
         match ended {
             Ended::Closed => Ok(end),
-            _ => Err(NotRun::NoMemory),
+            _ => Err(RunError::NoMemory),
         }
     }
 }

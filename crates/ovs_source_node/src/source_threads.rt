@@ -8,13 +8,13 @@ ghost use Rattle.ovs_links.specs.Absorbing.{last_chain};
 ghost use Rattle.ovs_node_threads.specs.Reporting.{HasAccount, IsReport};
 ghost use Rattle.ovs_source_node.specs.Reporting.{IsOwnReport};
 
-use crate::origin_desk::OriginDesk;
-use crate::sending::{SourceFollowed, follow_source};
+use crate::sending::{SourceEnd, follow_source};
+use crate::shared_source::SharedSource;
 use crate::source_sender::{SourceSender, SourceSent};
 use ovs_feed::{FeedName, FeedQueue};
 use ovs_node::{Node, NodeLink, Report};
 use ovs_node_threads::{
-    Counters, FeedSink, Feeds, FoldObserver, KnownDesk, NodeThreads, NotRun, Shared, run_node,
+    Counters, FeedSink, Feeds, FoldObserver, KnownDesk, NodeThreads, RunError, Shared, run_node,
 };
 use ovs_views::{Handle, NodeName, View};
 use ovs_worker::{Poller, Wake};
@@ -31,7 +31,7 @@ struct Sends<'a, K: NodeName, Q: FeedName, L, R: Wait> {
     counters: &'a Counters,
 }
 
-impl<'a, K: NodeName, Q: FeedName, T: Drop, L: OriginDesk<K, T>, R: Wait> Feeds<
+impl<'a, K: NodeName, Q: FeedName, T: Drop, L: SharedSource<K, T>, R: Wait> Feeds<
     K,
     SourceSender<K, Q, T, L>,
     SourceSent<K, Q, T, L>,
@@ -50,7 +50,7 @@ impl<'a, K: NodeName, Q: FeedName, T: Drop, L: OriginDesk<K, T>, R: Wait> Feeds<
             taken,
             sink,
         );
-        let SourceFollowed {
+        let SourceEnd {
             sink,
             taken: _,
             counts: _,
@@ -73,7 +73,7 @@ pub fn run_source<
     K: NodeName + Send + Sync,
     Q: FeedName + Send + Sync,
     T: Drop + Send,
-    L: KnownDesk<Known: Send> + OriginDesk<K, T> + Send + Sync,
+    L: KnownDesk<Known: Send> + SharedSource<K, T> + Send + Sync,
     D: Poller<In: Send, Out: Send> + Drop + Send,
     B: Wake + Sync,
     O: FoldObserver,
@@ -84,7 +84,7 @@ pub fn run_source<
     shared: &'a Shared<'a, K, Q, L, L, B, O, R>,
     node: Node<K, Q, Handle<K, H>>,
     threads: NodeThreads<K, SourceSender<K, Q, T, L>, D>,
-) -> Result<Report<K, Q, Handle<K, H>>, NotRun>
+) -> Result<Report<K, Q, Handle<K, H>>, RunError>
     requires in_step { NodeInStep node }
     requires none { node.intake.feed.returned ≡ [] }
     requires one { node.intake.feed.ends ≡ 1 }

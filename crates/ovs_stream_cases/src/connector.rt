@@ -9,6 +9,7 @@ use crate::stream::session_bytes;
 use ovs_node::NodeName;
 use ovs_node_threads::Connector;
 use ovs_types::{Schema, TxnId};
+use ovs_wire::MAX_MESSAGE_BYTES;
 use std::alloc::Global;
 use std::collections::VecDeque;
 use std::io::{Sink, sink};
@@ -50,6 +51,10 @@ impl<'a, K: NodeName, J: HistoryName> Connector for HistoryConnector<'a, K, J> {
 
     // The links of the history alone.
     ghost admits = { λ read l. AmongHistory K.schema (one_epoch J.commits) read l };
+
+    fn most_bytes(&self) -> usize {
+        MAX_MESSAGE_BYTES
+    }
 
     fn next(&mut self) -> bool {
         match self.left.checked_sub(1) {

@@ -1,7 +1,7 @@
 //! Why a line has no answer.
 
 use ovs_node::NodeError;
-use ovs_node_threads::NotRun;
+use ovs_node_threads::RunError;
 use ovs_types::NoMemory;
 use std::alloc::{AllocError, AllocFailed};
 
@@ -49,11 +49,11 @@ impl<T: Drop> From<AllocFailed<T>> for Fault {
     }
 }
 
-impl From<NotRun> for Fault {
-    fn from(error: NotRun) -> Fault {
+impl From<RunError> for Fault {
+    fn from(error: RunError) -> Fault {
         match error {
-            NotRun::NoMemory => Fault::NoMemory,
-            NotRun::NotBack => Fault::NotRun,
+            RunError::NoMemory => Fault::NoMemory,
+            RunError::NotBack => Fault::NotRun,
         }
     }
 }

@@ -23,8 +23,8 @@ use ovs_node::{
     View,
 };
 use ovs_node_threads::{
-    Counters, LockedDesk, NoObserver, NodeThreads, RelayThreads, Shared, SharedSide, Upstream,
-    UpstreamSender, run_relay,
+    Counters, LockedForwarder, NoObserver, NodeThreads, RelayThreads, Shared,
+    SharedUpstreamHandler, Upstream, UpstreamSender, run_relay,
 };
 use ovs_recorded_desk::{DeskName, DeskStep, RecordedDesk, relay_desk_sends};
 use ovs_session::Limits;
@@ -167,7 +167,7 @@ fn run<
     };
     let DeskOf { database, opened } = desk;
     let (desk, _known) = RecordedDesk::<N>::new(alloc, database, opened);
-    let desk = LockedDesk::new(rt, desk);
+    let desk = LockedForwarder::new(rt, desk);
     let sender = UpstreamSender::new(end);
     run_threads(
         rt, alloc, schema, &queue, &board, &desk, node, sender, connector, view,
@@ -181,7 +181,7 @@ type SourceThreads<'a, 'x, 's, K, J, Q, N, R> = RelayThreads<
     Q,
     HistoryConnector<'s, K, J>,
     NoPoller,
-    LockedDesk<'x, N, R>,
+    LockedForwarder<'x, N, R>,
     NoWaker,
 >;
 
@@ -201,7 +201,7 @@ fn run_threads<
     schema: &'a Schema,
     queue: &'a FeedQueue<NodeLink<K>, Q>,
     board: &'a Mutex<Board<K>>,
-    desk: &'a LockedDesk<'x, N, R>,
+    desk: &'a LockedForwarder<'x, N, R>,
     node: Node<K, Q, Handle<K, &'x R>>,
     sender: UpstreamSender<K, Q, HistoryConnector<'s, K, J>>,
     connector: HistoryConnector<'s, K, J>,
@@ -217,7 +217,7 @@ fn run_threads<
     let upstream = Upstream {
         sender,
         connector,
-        source: SharedSide::new(alloc, None),
+        source: SharedUpstreamHandler::new(alloc, None),
     };
     threads.add_feed(upstream, view)?;
     let shared = Shared {
@@ -226,7 +226,7 @@ fn run_threads<
         board,
         desk,
         wakers: &[],
-        upward: &NoWaker,
+        uplink_waker: &NoWaker,
         counters: &Counters::new(),
         observer: &NoObserver,
         limits: LIMITS,

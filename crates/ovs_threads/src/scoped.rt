@@ -13,7 +13,7 @@ use std::thread::{Scope, Threads};
 
 /// There was no memory to begin: nothing was done, and all is handed back.
 #[derive(Drop)]
-pub struct NotBegun<J, S> {
+pub struct SpawnError<J, S> {
     /// The jobs.
     pub jobs: Vec<J>,
     /// What was to be done in the caller's thread.
@@ -82,22 +82,22 @@ fn end_all<X: Drop, R: Threads>(rt: &R, begun: Vec<Begun<X>>, results: &mut Vec<
 /// are, and which result is of which job, no clause says.
 ///
 /// # Errors
-/// `NotBegun` where memory ran out.
-pub fn beside<
+/// `SpawnError` where memory ran out.
+pub fn run_scoped<
     J: Send + Drop,
     X: Send + Drop,
     W: Work<J, X> + Sync,
     R: Threads + Wait + Sync,
     S: FnOnce() -> Z,
     Z,
->(rt: &R, alloc: Global, jobs: Vec<J>, work: &W, here: S) -> Result<(Vec<X>, Z), NotBegun<J, S>>
+>(rt: &R, alloc: Global, jobs: Vec<J>, work: &W, here: S) -> Result<(Vec<X>, Z), SpawnError<J, S>>
     requires here { S.pre here }
     ensures all { IfOk result (λ r. vec_len r.0 ≡ vec_len jobs) }
     ensures here { IfOk result (λ r. S.post here r.1) }
     ensures handed_back { IfErr result (λ n. (n.jobs ≡ jobs) × (n.here ≡ here)) }
 {
     let Ok(room) = Room::new(alloc, jobs.len()) else {
-        return Err(NotBegun { jobs, here });
+        return Err(SpawnError { jobs, here });
     };
     let Room {
         refused,

@@ -22,8 +22,8 @@ use Rattle.ovs_upstream.specs.declared.error.UpError.TheVariants.{OtherSchema, B
 use Rattle.ovs_upstream.specs.declared.up_event.UpEvent.{UpEvent}
 use Rattle.ovs_upstream.specs.declared.up_event.UpEvent.TheVariants as event
 use Rattle.ovs_upstream.specs.declared.up_session.Heard.{Heard}
-use Rattle.ovs_upstream.specs.declared.up_session.Stage.{Stage}
-use Rattle.ovs_upstream.specs.declared.up_session.Stage.TheVariants as stage
+use Rattle.ovs_upstream.specs.declared.up_session.SyncState.{SyncState}
+use Rattle.ovs_upstream.specs.declared.up_session.SyncState.TheVariants as stage
 use Rattle.ovs_upstream.specs.declared.up_session.UpSession.{UpSession}
 use Rattle.ovs_upstream.proofs.Runs.{NoLinks}
 
@@ -68,10 +68,10 @@ opened_of s d h = by (says s.schema.description (read_description d))
     by true e = given s.schema.description.tables (record { stage = stage.Asking; event = event.Send (monitor_request s.schema s.asked) }) h (no_links s.schema.description.tables) e
     by false e = absurd (cc e)
 
-aside_of : (tables : List Table) (at : Stage) (e : UpEvent) (h : Heard) → links_in e ≡ [] → heard at e ≡ Ok h → AreOf tables h
+aside_of : (tables : List Table) (at : SyncState) (e : UpEvent) (h : Heard) → links_in e ≡ [] → heard at e ≡ Ok h → AreOf tables h
 aside_of tables at e h quiet same = given tables (record { stage = at; event = e }) h (subst (λ (ls : List Link). AllOf (IsOfTables tables) ls × (length ls ≤ 1)) (sym quiet) (no_links tables)) same
 
-heard_of : (at : Stage) (s : UpSession) (t : Talk) (h : Heard) → NoLinks t → hears_at at s t ≡ Ok h → AreOf s.schema.description.tables h
+heard_of : (at : SyncState) (s : UpSession) (t : Talk) (h : Heard) → NoLinks t → hears_at at s t ≡ Ok h → AreOf s.schema.description.tables h
 heard_of stage.Ended s t h quiet e = absurd (cc e)
 heard_of stage.Opening s (Aside x) h quiet e = aside_of s.schema.description.tables stage.Opening x h quiet e
 heard_of stage.Asking s (Aside x) h quiet e = aside_of s.schema.description.tables stage.Asking x h quiet e

@@ -1,6 +1,6 @@
 //! A session with an upstream: its messages in, links out.
 
-ghost use Rattle.std.specs.Prelude.{◌≡◌, ◌≢◌, ◌≤◌, [], ◌∷◌, Ok, Err, IfOk, OnOk, OnErr, length, map};
+ghost use Rattle.std.specs.Prelude.{◌≡◌, ◌≢◌, ◌≤◌, true, [], ◌∷◌, Ok, Err, IfOk, OnOk, OnErr, length, map};
 ghost use Rattle.serde_json.specs.View.{view};
 ghost use Rattle.ovs_json.specs.Gives.{Gives};
 ghost use Rattle.ovs_types.specs.SchemaReading.{read_description};
@@ -8,13 +8,13 @@ ghost use Rattle.ovs_rows.specs.ChangeReading.{read_change};
 ghost use Rattle.ovs_links.specs.Sets.{AllOf, IsOfTables};
 ghost use Rattle.ovs_upstream.specs.Talk.{answer_in, schema_said, answer_said, number_said, reply_said, update_in, update_said, notice_said};
 ghost use Rattle.ovs_upstream.specs.Requests.{schema_request, CanBeAsked};
-ghost use Rattle.ovs_upstream.specs.Hearing.{says, change_in, heard, opened, linked, placed, reached, hears_at, hears, opening, at_stage, links_in};
+ghost use Rattle.ovs_upstream.specs.Hearing.{says, change_in, heard, opened, linked, placed, reached, hears_at, hears, opening, at_stage, links_in, takes_memory};
 
 use crate::error::UpError;
 use crate::requests::{monitor_request, schema_request};
 use crate::talk::{answer_in, noticed, replied, update_in};
 use crate::up_event::{Links, UpEvent};
-use ovs_authority::Answer;
+use ovs_authority::Response;
 use ovs_json::{NoMemory, is_empty_object, is_word};
 use ovs_links::Link;
 use ovs_rows::Change;
@@ -28,7 +28,7 @@ const NUMBERS_END: u64 = 1 << 63;
 
 /// How far a session has come.
 #[derive(Clone, Copy, Debug)]
-pub enum Stage {
+pub enum SyncState {
     /// The schema is awaited.
     Opening,
     /// The answer to the monitor is awaited.
@@ -42,7 +42,7 @@ pub enum Stage {
 /// What was heard: the stage after it, and what it comes to.
 #[derive(Drop)]
 pub struct Heard {
-    pub stage: Stage,
+    pub stage: SyncState,
     pub event: UpEvent,
 }
 
@@ -64,6 +64,7 @@ fn linked(
     updates: &Value,
 ) -> Result<Heard, UpError>
     ensures exact { Gives UpError.NoMemory (λ h. h) result (linked schema.now.description.tables prev id (view updates.now)) }
+    ensures memory { result ≡ Err UpError.NoMemory → takes_memory (linked schema.now.description.tables prev id (view updates.now)) ≡ true }
 {
     if id.is_start() || id == prev {
         return Err(UpError::BadId);
@@ -71,7 +72,7 @@ fn linked(
     let change = change_in(alloc, updates, schema)?;
     match Link::new(prev, id, change) {
         Ok(link) => Ok(Heard {
-            stage: Stage::At(id),
+            stage: SyncState::At(id),
             event: UpEvent::Links(Links::one(alloc, link)?),
         }),
         Err(_) => Err(UpError::BadId),
@@ -83,7 +84,7 @@ fn placed(fits: bool, id: TxnId) -> Result<Heard, UpError>
 {
     if fits {
         Ok(Heard {
-            stage: Stage::At(id),
+            stage: SyncState::At(id),
             event: UpEvent::Nothing,
         })
     } else {
@@ -97,7 +98,7 @@ fn placed(fits: bool, id: TxnId) -> Result<Heard, UpError>
 pub struct UpSession {
     pub(crate) schema: Schema,
     pub(crate) asked: TxnId,
-    pub(crate) stage: Stage,
+    pub(crate) stage: SyncState,
 }
 
 impl UpSession {
@@ -113,7 +114,7 @@ impl UpSession {
         Ok(UpSession {
             schema: schema.copy(alloc)?,
             asked,
-            stage: Stage::Opening,
+            stage: SyncState::Opening,
         })
     }
 
@@ -141,13 +142,15 @@ impl UpSession {
     pub fn take_message(&mut self, alloc: Global, message: Message) -> Result<UpEvent, UpError>
         ensures heard { IfOk result (λ e. hears self.old message ≡ heard self.new.stage e) }
         ensures refused { (e : UpError) → result ≡ Err e → e ≢ UpError.NoMemory → hears self.old message ≡ Err e }
+        // What is found without memory is told without it.
+        ensures memory { result ≡ Err UpError.NoMemory → takes_memory (hears self.old message) ≡ true }
         // Its links are changes of the schema's tables.
         ensures tables { IfOk result (λ e. AllOf (IsOfTables self.old.schema.description.tables) (links_in e)) }
         ensures same { self.new ≡ at_stage self.old self.new.stage }
-        ensures ended { OnErr result (self.new.stage ≡ Stage.Ended) }
-        ensures over { self.old.stage ≡ Stage.Ended → result ≡ Err UpError.Ended }
+        ensures ended { OnErr result (self.new.stage ≡ SyncState.Ended) }
+        ensures over { self.old.stage ≡ SyncState.Ended → result ≡ Err UpError.Ended }
         // Where it sends the request for the monitor, each name stands in it once, and the id can be read.
-        ensures asked { OnOk result (self.old.stage ≡ Stage.Opening → self.new.stage ≡ Stage.Asking → CanBeAsked self.old.schema self.old.asked) }
+        ensures asked { OnOk result (self.old.stage ≡ SyncState.Opening → self.new.stage ≡ SyncState.Asking → CanBeAsked self.old.schema self.old.asked) }
     {
         match self.hear(alloc, message) {
             Ok(heard) => {
@@ -155,7 +158,7 @@ impl UpSession {
                 Ok(heard.event)
             }
             Err(error) => {
-                self.stage = Stage::Ended;
+                self.stage = SyncState::Ended;
                 Err(error)
             }
         }
@@ -168,36 +171,39 @@ impl UpSession {
     /// Those of `take_message`; `Ended` where the session has ended.
     pub fn hear(&self, alloc: Global, message: Message) -> Result<Heard, UpError>
         ensures exact { Gives UpError.NoMemory (λ h. h) result (hears self.now message) }
+        // What is found without memory is told without it.
+        ensures memory { result ≡ Err UpError.NoMemory → takes_memory (hears self.now message) ≡ true }
         // It makes one link at most, which is a change of the schema's tables.
         ensures tables { IfOk result (λ h. AllOf (IsOfTables self.now.schema.description.tables) (links_in h.event) × (length (links_in h.event) ≤ 1)) }
         // Where it sends the request for the monitor, each name stands in it once, and the id can be read.
-        ensures asked { IfOk result (λ h. self.now.stage ≡ Stage.Opening → h.stage ≡ Stage.Asking → CanBeAsked self.now.schema self.now.asked) }
-        ensures over { self.now.stage ≡ Stage.Ended → result ≡ Err UpError.Ended }
+        ensures asked { IfOk result (λ h. self.now.stage ≡ SyncState.Opening → h.stage ≡ SyncState.Asking → CanBeAsked self.now.schema self.now.asked) }
+        ensures over { self.now.stage ≡ SyncState.Ended → result ≡ Err UpError.Ended }
     {
-        if let Stage::Ended = self.stage {
+        if let SyncState::Ended = self.stage {
             return Err(UpError::Ended);
         }
         self.hear_open(alloc, message)
     }
 
     /// Goes on to what `hear` told.
-    pub fn go_on(&mut self, stage: Stage)
+    pub fn go_on(&mut self, stage: SyncState)
         ensures value { self.new ≡ at_stage self.old stage }
     {
         self.stage = stage;
     }
 
     /// How far it has come.
-    pub fn stage(&self) -> Stage
+    pub fn stage(&self) -> SyncState
         ensures value { result ≡ self.now.stage }
     {
         self.stage
     }
 
     fn hear_open(&self, alloc: Global, message: Message) -> Result<Heard, UpError>
-        requires open { self.now.stage ≢ Stage.Ended }
+        requires open { self.now.stage ≢ SyncState.Ended }
         ensures exact { Gives UpError.NoMemory (λ h. h) result (hears self.now message) }
-        ensures asked { IfOk result (λ h. self.now.stage ≡ Stage.Opening → h.stage ≡ Stage.Asking → CanBeAsked self.now.schema self.now.asked) }
+        ensures memory { result ≡ Err UpError.NoMemory → takes_memory (hears self.now message) ≡ true }
+        ensures asked { IfOk result (λ h. self.now.stage ≡ SyncState.Opening → h.stage ≡ SyncState.Asking → CanBeAsked self.now.schema self.now.asked) }
     {
         match message {
             Message::Request { method, params, id } => {
@@ -205,7 +211,7 @@ impl UpSession {
                 Ok(self.aside(UpEvent::Send(reply)))
             }
             Message::Reply { result, error, id } => {
-                self.hear_reply(alloc, Answer { result, error }, &id)
+                self.hear_reply(alloc, Response { result, error }, &id)
             }
             Message::Notice { method, params } => {
                 self.hear_notice(alloc, method.as_str(), params.as_slice())
@@ -223,8 +229,9 @@ impl UpSession {
     }
 
     fn hear_notice(&self, alloc: Global, method: &str, params: &[Value]) -> Result<Heard, UpError>
-        requires open { self.now.stage ≢ Stage.Ended }
+        requires open { self.now.stage ≢ SyncState.Ended }
         ensures exact { Gives UpError.NoMemory (λ h. h) result (hears_at self.now.stage self.now (notice_said method.now (map view params.now))) }
+        ensures memory { result ≡ Err UpError.NoMemory → takes_memory (hears_at self.now.stage self.now (notice_said method.now (map view params.now))) ≡ true }
     {
         if method == "update3" {
             self.hear_update(alloc, params)
@@ -236,22 +243,24 @@ impl UpSession {
     }
 
     fn hear_update(&self, alloc: Global, params: &[Value]) -> Result<Heard, UpError>
-        requires open { self.now.stage ≢ Stage.Ended }
+        requires open { self.now.stage ≢ SyncState.Ended }
         ensures exact { Gives UpError.NoMemory (λ h. h) result (hears_at self.now.stage self.now (update_said (update_in (map view params.now)))) }
+        ensures memory { result ≡ Err UpError.NoMemory → takes_memory (hears_at self.now.stage self.now (update_said (update_in (map view params.now)))) ≡ true }
     {
         let Some((id, updates)) = update_in(params) else {
             return Err(UpError::BadReply);
         };
         match self.stage {
-            Stage::At(position) => linked(alloc, &self.schema, position, id, updates),
+            SyncState::At(position) => linked(alloc, &self.schema, position, id, updates),
             _ => Err(UpError::BadReply),
         }
     }
 
-    fn hear_reply(&self, alloc: Global, answer: Answer, id: &Id) -> Result<Heard, UpError>
-        requires open { self.now.stage ≢ Stage.Ended }
+    fn hear_reply(&self, alloc: Global, answer: Response, id: &Id) -> Result<Heard, UpError>
+        requires open { self.now.stage ≢ SyncState.Ended }
         ensures exact { Gives UpError.NoMemory (λ h. h) result (hears_at self.now.stage self.now (reply_said answer id.now)) }
-        ensures asked { IfOk result (λ h. self.now.stage ≡ Stage.Opening → h.stage ≡ Stage.Asking → CanBeAsked self.now.schema self.now.asked) }
+        ensures memory { result ≡ Err UpError.NoMemory → takes_memory (hears_at self.now.stage self.now (reply_said answer id.now)) ≡ true }
+        ensures asked { IfOk result (λ h. self.now.stage ≡ SyncState.Opening → h.stage ≡ SyncState.Asking → CanBeAsked self.now.schema self.now.asked) }
     {
         if is_word("schema", id.as_value()) {
             self.hear_schema(alloc, &answer)
@@ -263,8 +272,8 @@ impl UpSession {
     }
 
     // The answer to a request that was passed on under a number.
-    fn hear_number(&self, answer: Answer, number: Option<u64>) -> Result<Heard, UpError>
-        requires open { self.now.stage ≢ Stage.Ended }
+    fn hear_number(&self, answer: Response, number: Option<u64>) -> Result<Heard, UpError>
+        requires open { self.now.stage ≢ SyncState.Ended }
         ensures value { result ≡ hears_at self.now.stage self.now (number_said answer number) }
     {
         match number {
@@ -275,13 +284,14 @@ impl UpSession {
         }
     }
 
-    fn hear_schema(&self, alloc: Global, answer: &Answer) -> Result<Heard, UpError>
-        requires open { self.now.stage ≢ Stage.Ended }
+    fn hear_schema(&self, alloc: Global, answer: &Response) -> Result<Heard, UpError>
+        requires open { self.now.stage ≢ SyncState.Ended }
         ensures exact { Gives UpError.NoMemory (λ h. h) result (hears_at self.now.stage self.now (schema_said answer.now)) }
+        ensures memory { result ≡ Err UpError.NoMemory → takes_memory (hears_at self.now.stage self.now (schema_said answer.now)) ≡ true }
         ensures asked { OnOk result (CanBeAsked self.now.schema self.now.asked) }
     {
         match self.stage {
-            Stage::Opening if answer.error.as_value().is_null() => {
+            SyncState::Opening if answer.error.as_value().is_null() => {
                 self.opened(alloc, answer.result.as_value())
             }
             _ => Err(UpError::BadReply),
@@ -302,26 +312,28 @@ impl UpSession {
     // Asks for what comes after the id, where the schema is the same.
     fn opened(&self, alloc: Global, schema: &Value) -> Result<Heard, UpError>
         ensures exact { Gives UpError.NoMemory (λ h. h) result (opened self.now (view schema.now)) }
+        ensures memory { result ≡ Err UpError.NoMemory → takes_memory (opened self.now (view schema.now)) ≡ true }
         ensures asked { OnOk result (CanBeAsked self.now.schema self.now.asked) }
     {
         if !self.has_schema(alloc, schema)? {
             return Err(UpError::OtherSchema);
         }
         Ok(Heard {
-            stage: Stage::Asking,
+            stage: SyncState::Asking,
             event: UpEvent::Send(monitor_request(alloc, &self.schema, self.asked)?),
         })
     }
 
-    fn hear_answer(&self, alloc: Global, answer: &Answer) -> Result<Heard, UpError>
-        requires open { self.now.stage ≢ Stage.Ended }
+    fn hear_answer(&self, alloc: Global, answer: &Response) -> Result<Heard, UpError>
+        requires open { self.now.stage ≢ SyncState.Ended }
         ensures exact { Gives UpError.NoMemory (λ h. h) result (hears_at self.now.stage self.now (answer_said (answer_in answer.now))) }
+        ensures memory { result ≡ Err UpError.NoMemory → takes_memory (hears_at self.now.stage self.now (answer_said (answer_in answer.now))) ≡ true }
     {
         let Some((known, id, updates)) = answer_in(answer) else {
             return Err(UpError::BadReply);
         };
         match self.stage {
-            Stage::Asking => self.reached(alloc, known, id, updates),
+            SyncState::Asking => self.reached(alloc, known, id, updates),
             _ => Err(UpError::BadReply),
         }
     }
@@ -335,6 +347,7 @@ impl UpSession {
         updates: &Value,
     ) -> Result<Heard, UpError>
         ensures exact { Gives UpError.NoMemory (λ h. h) result (reached self.now known id (view updates.now)) }
+        ensures memory { result ≡ Err UpError.NoMemory → takes_memory (reached self.now known id (view updates.now)) ≡ true }
     {
         let nothing = is_empty_object(updates);
         if known && id == self.asked {

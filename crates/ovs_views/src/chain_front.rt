@@ -5,7 +5,7 @@ ghost use Rattle.ovs_links.specs.Absorbing.{begins_anew, last_chain};
 ghost use Rattle.ovs_links.specs.StepChains.{start_of_steps};
 ghost use Rattle.ovs_views.specs.Published.{IsNodeChain};
 
-use crate::name::{Front, NodeName, StepHistory};
+use crate::name::{NodeName, StepHistory, StepPrefix};
 use ovs_history::{Behind, Book};
 use ovs_links::Step;
 use ovs_types::TxnId;
@@ -14,7 +14,7 @@ use std::marker::Model;
 /// All steps up to one, where the last chain of them begins, and how many steps that chain has. A contract sees all steps.
 #[derive(Drop)]
 pub struct ChainFront<K: NodeName> {
-    front: Front<K>,
+    front: StepPrefix<K>,
     start: TxnId,
     chain: u64,
 }
@@ -38,7 +38,7 @@ impl<K: NodeName> Model for ChainFront<K> {
 
 impl<K: NodeName> ChainFront<K> {
     /// No step yet.
-    pub fn new(front: Front<K>) -> ChainFront<K>
+    pub fn new(front: StepPrefix<K>) -> ChainFront<K>
         requires front { front ≡ [] }
         ensures none { result ≡ [] }
     {
@@ -60,8 +60,8 @@ impl<K: NodeName> ChainFront<K> {
         }
     }
 
-    /// The front that knows the steps.
-    pub fn front(&self) -> &Front<K>
+    /// The prefix that knows the steps.
+    pub fn front(&self) -> &StepPrefix<K>
         ensures value { result.now ≡ self.now }
     {
         &self.front

@@ -4,17 +4,17 @@
 mod board;
 mod chain_front;
 mod name;
+mod published_copy;
 mod publisher;
-mod shown;
 mod view;
 mod view_error;
 mod view_session;
 
 pub use board::{Board, teach};
 pub use chain_front::ChainFront;
-pub use name::{Front, NodeName, StepHistory, Told};
+pub use name::{NodeName, StepHistory, StepPrefix, Told};
+pub use published_copy::{NextStep, PublishedCopy};
 pub use publisher::{Handle, Publisher};
-pub use shown::{NextStep, Shown};
 pub use view::View;
 pub use view_error::{Gone, NoPlace, ViewError};
 pub use view_session::ViewSession;

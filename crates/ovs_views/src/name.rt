@@ -35,7 +35,7 @@ impl<K: NodeName> ovs_history::HistoryName<Step> for StepHistory<K> {
 }
 
 /// A beginning of the chain of a node's steps.
-pub type Front<K> = ovs_history::Front<Step, StepHistory<K>>;
+pub type StepPrefix<K> = ovs_history::Prefix<Step, StepHistory<K>>;
 
 /// All that was published when it was made.
-pub type Told<K> = Front<K>;
+pub type Told<K> = StepPrefix<K>;

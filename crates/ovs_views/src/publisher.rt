@@ -8,8 +8,8 @@ ghost use Rattle.ovs_links.specs.Steps.{folded_of};
 ghost use Rattle.ovs_views.specs.Published.{AreHandedOn, IsNodeChain, all_with};
 
 use crate::chain_front::ChainFront;
-use crate::name::{Front, NodeName, StepHistory, Told};
-use crate::shown::{NextStep, Shown};
+use crate::name::{NodeName, StepHistory, StepPrefix, Told};
+use crate::published_copy::{NextStep, PublishedCopy};
 use crate::view::View;
 use crate::view_error::NoPlace;
 use left_right::WriteHandle;
@@ -20,7 +20,7 @@ use std::alloc::Global;
 use std::sync::Wait;
 
 /// The two copies of what is published, of which views read one.
-pub type Handle<K, R> = WriteHandle<Shown<K>, NextStep<K>, R>;
+pub type Handle<K, R> = WriteHandle<PublishedCopy<K>, NextStep<K>, R>;
 
 /// What a node publishes with: `published handle` is what views see, and `all_with front kept` is all that was folded in.
 #[derive(Drop)]
@@ -42,7 +42,7 @@ impl<K: NodeName, R: Wait + Drop> Publisher<K, Handle<K, R>> {
         alloc: Global,
         rt: R,
         book: Book<Step, StepHistory<K>>,
-        front: Front<K>,
+        front: StepPrefix<K>,
         folded: (Folded, Folded),
         views: usize,
     ) -> Result<Publisher<K, Handle<K, R>>, NoMemory>
@@ -52,8 +52,8 @@ impl<K: NodeName, R: Wait + Drop> Publisher<K, Handle<K, R>> {
         ensures handed_on { IfOk result (λ p. AreHandedOn (published p.handle) (pending p.handle) p.front) }
         ensures none { IfOk result (λ p. (published p.handle ≡ []) × (all_with p.front p.kept ≡ [])) }
     {
-        let first = Shown::new(alloc, folded.0, front.again());
-        let second = Shown::new(alloc, folded.1, front.again());
+        let first = PublishedCopy::new(alloc, folded.0, front.again());
+        let second = PublishedCopy::new(alloc, folded.1, front.again());
         match WriteHandle::new(alloc, rt, first, second, views) {
             Ok(handle) => Ok(Publisher {
                 book,
@@ -156,7 +156,7 @@ impl<K: NodeName, R: Wait + Drop> Publisher<K, Handle<K, R>> {
     ///
     /// # Errors
     /// `NoPlace` where each place is taken, or memory ran out.
-    pub fn view(&self, known: &Front<K>) -> Result<View<K>, NoPlace>
+    pub fn view(&self, known: &StepPrefix<K>) -> Result<View<K>, NoPlace>
         ensures value { IfOk result (λ v. v ≡ known.now) }
     {
         match self.handle.handle() {

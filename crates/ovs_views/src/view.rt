@@ -14,8 +14,8 @@ ghost use Rattle.ovs_reader.specs.Turns.{seen_turn, turn, after_turn};
 ghost use Rattle.ovs_reader.specs.Telling.{told_some, after_some};
 ghost use Rattle.ovs_views.specs.Published.{GoesOn, is_shown, since_start};
 
-use crate::name::{Front, NodeName, Told};
-use crate::shown::Shown;
+use crate::name::{NodeName, StepPrefix, Told};
+use crate::published_copy::PublishedCopy;
 use crate::view_error::{Gone, ViewError};
 use crate::view_session::ViewSession;
 use left_right::ReadHandle;
@@ -31,8 +31,8 @@ use std::marker::Model;
 /// What one reader sees of a node. A contract sees the steps that it has seen or was told of.
 #[derive(Drop)]
 pub struct View<K: NodeName> {
-    handle: ReadHandle<Shown<K>>,
-    known: Front<K>,
+    handle: ReadHandle<PublishedCopy<K>>,
+    known: StepPrefix<K>,
 }
 
 impl<K: NodeName> Model for View<K> {
@@ -50,7 +50,7 @@ impl<K: NodeName> Model for View<K> {
 
 impl<K: NodeName> View<K> {
     /// The view that reads by this handle, and has seen this.
-    pub fn new(handle: ReadHandle<Shown<K>>, known: Front<K>) -> View<K>
+    pub fn new(handle: ReadHandle<PublishedCopy<K>>, known: StepPrefix<K>) -> View<K>
         ensures value { result ≡ known }
     {
         View { handle, known }
@@ -58,7 +58,7 @@ impl<K: NodeName> View<K> {
 
     /// The handle by which it reads, and what it has seen or was told of: so taken apart a view goes to another thread, where
     /// it is put together again.
-    pub fn into_parts(self) -> (ReadHandle<Shown<K>>, Front<K>)
+    pub fn into_parts(self) -> (ReadHandle<PublishedCopy<K>>, StepPrefix<K>)
         ensures known { result.1 ≡ self }
     {
         let View { handle, known } = self;
@@ -66,7 +66,7 @@ impl<K: NodeName> View<K> {
     }
 
     /// All that this view has seen or was told of.
-    pub fn known(&self) -> &Front<K>
+    pub fn known(&self) -> &StepPrefix<K>
         ensures value { result.now ≡ self.now }
     {
         &self.known

@@ -7,20 +7,20 @@ ghost use Rattle.ovs_reader.specs.Turns.{seen_turn, turn, after_turn};
 ghost use Rattle.ovs_reader.specs.Telling.{told_some, after_some};
 ghost use Rattle.ovs_views.specs.Published.{GoesOn};
 
-use crate::name::{Front, NodeName};
-use crate::shown::Shown;
+use crate::name::{NodeName, StepPrefix};
+use crate::published_copy::PublishedCopy;
 use crate::view_error::{Gone, ViewError};
 use ovs_reader::{ReaderSession, Turn};
 use ovs_wire::Message;
 use std::alloc::Global;
 use std::marker::Model;
 
-/// A reader's session, with the front of what it was shown last: so thousands of them share a view, and each is shown no less
+/// A reader's session, with the prefix of what it was shown last: so thousands of them share a view, and each is shown no less
 /// than before.
 #[derive(Drop)]
 pub struct ViewSession<K: NodeName> {
     session: ReaderSession,
-    last: Front<K>,
+    last: StepPrefix<K>,
 }
 
 impl<K: NodeName> Model for ViewSession<K> {
@@ -44,8 +44,8 @@ impl<K: NodeName> Model for ViewSession<K> {
 }
 
 impl<K: NodeName> ViewSession<K> {
-    /// A session that was shown no more than this front knows, and told nothing.
-    pub fn new(alloc: Global, last: &Front<K>) -> ViewSession<K>
+    /// A session that was shown no more than this prefix knows, and told nothing.
+    pub fn new(alloc: Global, last: &StepPrefix<K>) -> ViewSession<K>
         ensures value { result ≡ record { session = new_session; last = last.now } }
     {
         let _ = last.len();
@@ -65,7 +65,7 @@ impl<K: NodeName> ViewSession<K> {
         &mut self,
         alloc: Global,
         message: Message,
-        shown: &Shown<K>,
+        shown: &PublishedCopy<K>,
     ) -> Result<Turn, ViewError>
         ensures later { OnOk result (GoesOn K.schema self.old.last shown.now) }
         ensures turn { IfOk result (λ t. seen_turn t ≡ turn self.old.session (folded_by K.schema shown.now) message) }
@@ -90,7 +90,7 @@ impl<K: NodeName> ViewSession<K> {
     pub fn pump(
         &mut self,
         alloc: Global,
-        shown: &Shown<K>,
+        shown: &PublishedCopy<K>,
         most: usize,
     ) -> Result<Vec<Message>, ViewError>
         requires some { 0 < most }
@@ -108,8 +108,8 @@ impl<K: NodeName> ViewSession<K> {
         Ok(messages)
     }
 
-    /// The front of what it was shown last.
-    pub(crate) fn last(&self) -> &Front<K>
+    /// The prefix of what it was shown last.
+    pub(crate) fn last(&self) -> &StepPrefix<K>
         ensures value { result.now ≡ self.now.last }
     {
         &self.last

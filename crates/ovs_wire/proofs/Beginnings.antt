@@ -38,7 +38,7 @@ first_of [] x lt = absurd (omega arith)
 first_of (a ∷ p) x lt = refl
 
 -- within the limits, as the whole is
-limits_before : (x w : List ℕ) → IsWithinLimits (x ++ w) → IsWithinLimits x
+limits_before : {most : ℕ} (x w : List ℕ) → IsWithinLimits most (x ++ w) → IsWithinLimits most x
 limits_before x w is = record {
   nests = λ k. ⊎_elim
       (λ (lt : k < length x). let le : k ≤ length x = omega arith in
@@ -50,7 +50,7 @@ limits_before x w is = record {
   fits = omega (arith, length-append x w, is.fits);
 }
 
-begun_object : (x w : List ℕ) → IsObject (x ++ w) → 0 < length w → IsUnfinished x
+begun_object : {most : ℕ} (x w : List ℕ) → IsObject most (x ++ w) → 0 < length w → IsUnfinished most x
 begun_object x w is more = record {
   begun = record {
     begins = λ lt. sym (first_of x w lt) ∙ is.balanced.begins.1;
@@ -60,7 +60,7 @@ begun_object x w is more = record {
   limits = limits_before x w is.limits;
 }
 
-begun_rest : (x w : List ℕ) → IsUnfinished (x ++ w) → IsUnfinished x
+begun_rest : {most : ℕ} (x w : List ℕ) → IsUnfinished most (x ++ w) → IsUnfinished most x
 begun_rest x w is = record {
   begun = record {
     begins = λ lt. sym (first_of x w lt) ∙ is.begun.begins (omega (arith, length-append x w, lt));
@@ -71,11 +71,11 @@ begun_rest x w is = record {
 }
 
 -- of a text with a fault it is unfinished, or has the fault
-begun_fault : (x w t : List ℕ) (f : FrameError) → (h : HasFault t f) → t ≡ x ++ w → IsUnfinished x ⊎ HasFault x f
-begun_fault x w t f h e = by (where_cut x w h.before (h.byte ∷ h.more) (sym e ∙ h.whole))
+begun_fault : {most : ℕ} (x w t : List ℕ) (f : FrameError) → (h : HasFault most t f) → t ≡ x ++ w → IsUnfinished most x ⊎ HasFault most x f
+begun_fault {most} x w t f h e = by (where_cut x w h.before (h.byte ∷ h.more) (sym e ∙ h.whole))
   where
-    past : (v : List ℕ) → x ≡ h.before ++ v → v ++ w ≡ h.byte ∷ h.more → IsUnfinished x ⊎ HasFault x f
-    past [] is rest = inl (subst IsUnfinished (sym (is ∙ append-nil h.before)) h.unfinished)
+    past : (v : List ℕ) → x ≡ h.before ++ v → v ++ w ≡ h.byte ∷ h.more → IsUnfinished most x ⊎ HasFault most x f
+    past [] is rest = inl (subst (IsUnfinished most) (sym (is ∙ append-nil h.before)) h.unfinished)
     past (b ∷ v) is rest =
         let same : b ≡ h.byte = cc in
         inr (record {
@@ -87,102 +87,102 @@ begun_fault x w t f h e = by (where_cut x w h.before (h.byte ∷ h.more) (sym e 
           breaks = h.breaks;
         })
 
-    by : Cut x w h.before (h.byte ∷ h.more) → IsUnfinished x ⊎ HasFault x f
+    by : Cut x w h.before (h.byte ∷ h.more) → IsUnfinished most x ⊎ HasFault most x f
     by (inl p) = past p.0 p.1 p.2
-    by (inr p) = inl (begun_rest x p.0 (subst IsUnfinished p.2 h.unfinished))
+    by (inr p) = inl (begun_rest x p.0 (subst (IsUnfinished most) p.2 h.unfinished))
 
 -- ---- frames of what has come, and the texts that aren't whole yet
 
-record Leaves (texts : List (List ℕ)) (come coming : List ℕ) : Type 0 where
+record Leaves (most : ℕ) (texts : List (List ℕ)) (come coming : List ℕ) : Type 0 where
   found : List (List ℕ)
   ending : Ending
   left : List (List ℕ)
-  frames : AreFrames come found ending
+  frames : AreFrames most come found ending
   all : found ++ left ≡ texts
-  rest : Remain ending coming left
+  rest : Remain most ending coming left
 
 none_come : (x y : List ℕ) → x ++ y ≡ [] → x ≡ []
 none_come [] y e = refl
 none_come (a ∷ x) y e = absurd (let n = ap (λ l. length l) e in omega arith)
 
-module _ (t : List ℕ) (texts : List (List ℕ)) (x y w : List ℕ) where
+module _ {most : ℕ} (t : List ℕ) (texts : List (List ℕ)) (x y w : List ℕ) where
   -- within a text that is an object
-  within_object : IsObject (x ++ w) → 0 < length w → x ++ y ≡ concat (t ∷ texts) → Leaves (t ∷ texts) x y
+  within_object : IsObject most (x ++ w) → 0 < length w → x ++ y ≡ concat (t ∷ texts) → Leaves most (t ∷ texts) x y
   within_object o more e =
       record { found = []; ending = Rest x; left = t ∷ texts; frames = only_rest x (begun_object x w o more); all = refl; rest = e }
 
   -- within a text that is too large
-  within_large : (f : FrameError) → HasFault t f → IsTooLarge t → t ≡ x ++ w → x ++ y ≡ concat (t ∷ texts) → Leaves (t ∷ texts) x y
+  within_large : (f : FrameError) → HasFault most t f → IsTooLarge most t → t ≡ x ++ w → x ++ y ≡ concat (t ∷ texts) → Leaves most (t ∷ texts) x y
   within_large f h large is e = by (begun_fault x w t f h is)
     where
-      by : IsUnfinished x ⊎ HasFault x f → Leaves (t ∷ texts) x y
+      by : IsUnfinished most x ⊎ HasFault most x f → Leaves most (t ∷ texts) x y
       by (inl u) = record { found = []; ending = Rest x; left = t ∷ texts; frames = only_rest x u; all = refl; rest = e }
       by (inr g) = record { found = []; ending = Fault f; left = t ∷ texts; frames = only_fault x f g; all = refl; rest = (t, texts, refl, large) }
 
   -- behind an object
-  behind_object : IsObject t → x ≡ t ++ w → Leaves texts w y → Leaves (t ∷ texts) x y
+  behind_object : IsObject most t → x ≡ t ++ w → Leaves most texts w y → Leaves most (t ∷ texts) x y
   behind_object o is l =
       record {
         found = t ∷ l.found;
         ending = l.ending;
         left = l.left;
-        frames = subst (λ (v : List ℕ). AreFrames v (t ∷ l.found) l.ending) (sym is)
+        frames = subst (λ (v : List ℕ). AreFrames most v (t ∷ l.found) l.ending) (sym is)
             (cut t w (t ∷ []) l.found [] l.ending (only_object t o) l.frames);
         all = ap (λ v. t ∷ v) l.all;
         rest = l.rest;
       }
 
   -- behind one that is too large
-  behind_large : (f : FrameError) → HasFault t f → IsTooLarge t → x ≡ t ++ w → Leaves (t ∷ texts) x y
+  behind_large : (f : FrameError) → HasFault most t f → IsTooLarge most t → x ≡ t ++ w → Leaves most (t ∷ texts) x y
   behind_large f h large is =
       record {
         found = [];
         ending = Fault f;
         left = t ∷ texts;
-        frames = subst (λ (l : List ℕ). AreFrames l [] (Fault f)) (sym is) (fault_on t w [] f (only_fault t f h));
+        frames = subst (λ (l : List ℕ). AreFrames most l [] (Fault f)) (sym is) (fault_on t w [] f (only_fault t f h));
         all = refl;
         rest = (t, texts, refl, large);
       }
 
-leaves : (texts : List (List ℕ)) → All IsBalanced texts → (x y : List ℕ) → x ++ y ≡ concat texts → Leaves texts x y
-leaves [] each x y e =
+leaves : {most : ℕ} (texts : List (List ℕ)) → All IsBalanced texts → (x y : List ℕ) → x ++ y ≡ concat texts → Leaves most texts x y
+leaves {most} [] each x y e =
     record {
       found = [];
       ending = Rest [];
       left = [];
-      frames = subst (λ (l : List ℕ). AreFrames l [] (Rest [])) (sym (none_come x y e)) (only_rest [] nothing);
+      frames = subst (λ (l : List ℕ). AreFrames most l [] (Rest [])) (sym (none_come x y e)) (only_rest [] nothing);
       all = refl;
       rest = subst (λ (l : List ℕ). l ++ y ≡ []) (none_come x y e) e;
     }
-leaves (t ∷ texts) each x y e =
+leaves {most} (t ∷ texts) each x y e =
     by (λ w is. leaves texts (All-tail IsBalanced t texts each) w y is) (object_or_large t (All-head IsBalanced t texts each)) (where_cut x y t (concat texts) e)
   where
-    by : ((w : List ℕ) → w ++ y ≡ concat texts → Leaves texts w y) → IsObject t ⊎ IsTooLarge t → Cut x y t (concat texts) → Leaves (t ∷ texts) x y
+    by : ((w : List ℕ) → w ++ y ≡ concat texts → Leaves most texts w y) → IsObject most t ⊎ IsTooLarge most t → Cut x y t (concat texts) → Leaves most (t ∷ texts) x y
     by go (inl o) (inl p) = behind_object t texts x y p.0 o p.1 (go p.0 p.2)
-    by go (inl o) (inr p) = within_object t texts x y p.0 (subst IsObject p.2 o) p.1 e
+    by go (inl o) (inr p) = within_object t texts x y p.0 (subst (IsObject most) p.2 o) p.1 e
     by go (inr (inl h)) (inl p) = behind_large t texts x y p.0 TooDeep h (inl h) p.1
     by go (inr (inr h)) (inl p) = behind_large t texts x y p.0 TooLong h (inr h) p.1
     by go (inr (inl h)) (inr p) = within_large t texts x y p.0 TooDeep h (inl h) p.2 e
     by go (inr (inr h)) (inr p) = within_large t texts x y p.0 TooLong h (inr h) p.2 e
 
 -- what is found is an object
-objects_each : (ps : List Part) → All IsPart ps → All IsObject (objects ps)
-objects_each [] each = All-nil IsObject
-objects_each (Space b ∷ ps) each = objects_each ps (All-tail IsPart (Space b) ps each)
-objects_each (Object o ∷ ps) each =
-    All-cons IsObject o (objects ps) (All-head IsPart (Object o) ps each) (objects_each ps (All-tail IsPart (Object o) ps each))
+objects_each : {most : ℕ} (ps : List Part) → All (IsPart most) ps → All (IsObject most) (objects ps)
+objects_each {most} [] each = All-nil (IsObject most)
+objects_each {most} (Space b ∷ ps) each = objects_each ps (All-tail (IsPart most) (Space b) ps each)
+objects_each {most} (Object o ∷ ps) each =
+    All-cons (IsObject most) o (objects ps) (All-head (IsPart most) (Object o) ps each) (objects_each ps (All-tail (IsPart most) (Object o) ps each))
 
 -- and there are no other frames
-pub cut_anywhere : (texts : List (List ℕ)) (x y : List ℕ) (found : List (List ℕ)) (ending : Ending)
-    → All IsBalanced texts → x ++ y ≡ concat texts → AreFrames x found ending
-    → All IsObject found × ((left : List (List ℕ)) × (found ++ left ≡ texts) × Remain ending y left)
-cut_anywhere texts x y found ending each e a =
+pub cut_anywhere : {most : ℕ} (texts : List (List ℕ)) (x y : List ℕ) (found : List (List ℕ)) (ending : Ending)
+    → All IsBalanced texts → x ++ y ≡ concat texts → AreFrames most x found ending
+    → All (IsObject most) found × ((left : List (List ℕ)) × (found ++ left ≡ texts) × Remain most ending y left)
+cut_anywhere {most} texts x y found ending each e a =
     let l = leaves texts each x y e in
     let same = once x l.found found l.ending ending l.frames a in (
-      subst (All IsObject) a.found_are (objects_each a.parts a.each),
+      subst (All (IsObject most)) a.found_are (objects_each a.parts a.each),
       (
         l.left,
         ap (λ (v : List (List ℕ)). v ++ l.left) (sym same.0) ∙ l.all,
-        subst (λ (v : Ending). Remain v y l.left) same.1 l.rest,
+        subst (λ (v : Ending). Remain most v y l.left) same.1 l.rest,
       ),
     )

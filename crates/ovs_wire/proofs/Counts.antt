@@ -6,7 +6,7 @@ use Rattle.std.proofs.lemmas.List.{take_more, take_all}
 use Rattle.std.proofs.Math.Seq.{take-length}
 use Rattle.std.proofs.lemmas.List.Sums.{sum_by-append}
 use Rattle.ovs_wire.specs.Depth.{Side, Outside, Inside, Escaped, next, outside, is_opener, is_closer, depth, openers, closers}
-use Rattle.ovs_wire.specs.Place.{side_after}
+use Rattle.ovs_wire.specs.ScanPosition.{side_after}
 use Rattle.ovs_wire.specs.Frames.{IsBalanced, IsBegun}
 use Rattle.ovs_wire.proofs.Depths.{level_at, depth_more}
 

@@ -3,9 +3,9 @@ use Rattle.std.proofs.Common.{◌≡◌, ℕ, ◌+◌, ◌≤◌, ◌==◌, ◌|
 use Rattle.std.proofs.lemmas.Bool.{eqb-true}
 use Rattle.std.proofs.lemmas.List.Sums.{fold-append}
 use Rattle.std.proofs.lemmas.Grind.{common_steps}
-use Rattle.ovs_wire.specs.declared.framing.place.Place.{Place}
+use Rattle.ovs_wire.specs.declared.framing.scan_position.ScanPosition.{ScanPosition}
 use Rattle.ovs_wire.specs.Depth.{Side, Outside, Inside, Escaped, next, outside, level_after, depth}
-use Rattle.ovs_wire.specs.Place.{place_at, side_after, place_after}
+use Rattle.ovs_wire.specs.ScanPosition.{place_at, side_after, place_after}
 
 -- where a byte stands, and how deep
 pub record Spot : Type 0 where
@@ -62,14 +62,14 @@ by_one u b = omega (arith, depth_more u b, level_by_one (side_after u) (depth u)
 -- ---- one byte further, by what is kept of a place
 
 -- of a place in a string: it is escaped, the byte is a backslash, the byte is a quote
-abbrev past_quoted : ℕ → Bool → Bool → Bool → Place
+abbrev past_quoted : ℕ → Bool → Bool → Bool → ScanPosition
 past_quoted depth escaped slash quote =
     record { quoted = escaped || not quote; escaped = not escaped && slash; depth = depth }
 
-abbrev past_plain : ℕ → ℕ → Place
+abbrev past_plain : ℕ → ℕ → ScanPosition
 past_plain depth b = record { quoted = b == 34; escaped = false; depth = level_after depth b }
 
-abbrev pub past_place : Place → ℕ → Place
+abbrev pub past_place : ScanPosition → ℕ → ScanPosition
 past_place p b = if p.quoted then past_quoted p.depth p.escaped (b == 92) (b == 34) else past_plain p.depth b
 
 no_slash : (b : ℕ) → (b == 34) ≡ true → (b == 92) ≡ false
@@ -93,7 +93,7 @@ past_side Outside level b = plain_side (level_after level b) (b == 34)
 past_side Inside level b = quoted_side level (b == 92) (b == 34) (no_slash b)
 past_side Escaped level b = refl
 
-pub past_is : (p : Place) (b : ℕ) (before : List ℕ) → p ≡ place_after before
+pub past_is : (p : ScanPosition) (b : ℕ) (before : List ℕ) → p ≡ place_after before
     → past_place p b ≡ place_after (before ++ b ∷ [])
-past_is p b before is = ap (λ (q : Place). past_place q b) is ∙ sym
+past_is p b before is = ap (λ (q : ScanPosition). past_place q b) is ∙ sym
     (place_more before b ∙ past_side (side_after before) (depth before) b)

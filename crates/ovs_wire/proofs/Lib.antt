@@ -14,6 +14,7 @@ pub mod Levels
 pub mod Spelled
 pub mod Written
 pub mod Through
+pub mod Larger
 pub mod Beginnings
 pub mod Lists
 pub mod Spelling

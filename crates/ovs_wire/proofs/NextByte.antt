@@ -4,11 +4,11 @@ use Rattle.std.proofs.lemmas.List.{take_more, take-append-le, take_all, drop-app
 use Rattle.std.proofs.Math.Seq.{take-length}
 use Rattle.std.proofs.lemmas.Bool.{cases_lt}
 use Rattle.ovs_wire.specs.declared.error.FrameError.{FrameError}
-use Rattle.ovs_wire.specs.Limits.{most_nesting, most_bytes}
+use Rattle.ovs_wire.specs.Limits.{most_nesting}
 use Rattle.std.proofs.lemmas.Grind.{common_steps}
-use Rattle.ovs_wire.specs.declared.framing.place.Place.{Place}
+use Rattle.ovs_wire.specs.declared.framing.scan_position.ScanPosition.{ScanPosition}
 use Rattle.ovs_wire.specs.Depth.{depth}
-use Rattle.ovs_wire.specs.Place.{place_after}
+use Rattle.ovs_wire.specs.ScanPosition.{place_after}
 use Rattle.ovs_wire.proofs.Depths.{by_one}
 use Rattle.ovs_wire.specs.Frames.{IsSpace, IsObject, IsUnfinished, IsWithinLimits, HasFault, Breaks, Ending, Rest, Fault, AreFrames}
 use Rattle.ovs_wire.proofs.Cuts.{cut, fault_on, only_rest, only_fault, only_space, only_object}
@@ -28,16 +28,16 @@ head_more [] b low here = here refl
 head_more (a ∷ u) b low here = low (omega arith)
 
 -- within the limits with one more byte too
-limits_more : (u : List ℕ) (b : ℕ) → IsWithinLimits u → depth (u ++ b ∷ []) ≤ most_nesting
-    → length u < most_bytes → IsWithinLimits (u ++ b ∷ [])
+limits_more : {most : ℕ} (u : List ℕ) (b : ℕ) → IsWithinLimits most u → depth (u ++ b ∷ []) ≤ most_nesting
+    → length u < most → IsWithinLimits most (u ++ b ∷ [])
 limits_more u b is low short = record {
   nests = λ k. front_more (λ (l : List ℕ). depth l ≤ most_nesting) u b k (λ h. is.nests k) low;
   fits = omega (arith, length-append u (b ∷ []));
 }
 
-pub unfinished_more : (u : List ℕ) (b : ℕ) → IsUnfinished u → (length u ≡ 0 → b ≡ 123)
-    → 0 < depth (u ++ b ∷ []) → depth (u ++ b ∷ []) ≤ most_nesting → length u < most_bytes
-    → IsUnfinished (u ++ b ∷ [])
+pub unfinished_more : {most : ℕ} (u : List ℕ) (b : ℕ) → IsUnfinished most u → (length u ≡ 0 → b ≡ 123)
+    → 0 < depth (u ++ b ∷ []) → depth (u ++ b ∷ []) ≤ most_nesting → length u < most
+    → IsUnfinished most (u ++ b ∷ [])
 unfinished_more u b is head deep low short = record {
   begun = record {
     begins = λ _. head_more u b is.begun.begins head;
@@ -46,8 +46,8 @@ unfinished_more u b is head deep low short = record {
   limits = limits_more u b is.limits low short;
 }
 
-pub object_whole : (u : List ℕ) (b : ℕ) → IsUnfinished u → (length u ≡ 0 → b ≡ 123) → depth (u ++ b ∷ []) ≡ 0
-    → length u < most_bytes → IsObject (u ++ b ∷ [])
+pub object_whole : {most : ℕ} (u : List ℕ) (b : ℕ) → IsUnfinished most u → (length u ≡ 0 → b ≡ 123) → depth (u ++ b ∷ []) ≡ 0
+    → length u < most → IsObject most (u ++ b ∷ [])
 object_whole u b is head deep short = record {
   balanced = record {
     begins = (omega (arith, length-append u (b ∷ [])), head_more u b is.begun.begins head);
@@ -59,7 +59,7 @@ object_whole u b is head deep short = record {
   limits = limits_more u b is.limits (omega (arith, deep)) short;
 }
 
-pub faulty : (u : List ℕ) (b : ℕ) (f : FrameError) → IsUnfinished u → Breaks u b f → HasFault (u ++ b ∷ []) f
+pub faulty : {most : ℕ} (u : List ℕ) (b : ℕ) (f : FrameError) → IsUnfinished most u → Breaks most u b f → HasFault most (u ++ b ∷ []) f
 faulty u b f is breaks = record {
   before = u;
   byte = b;
@@ -77,17 +77,17 @@ current_more bytes start i le lt = ap (drop start) (take_more bytes i 0 lt) ∙ 
     (take i bytes) (get_or bytes i 0 ∷ []) (omega (arith, length-take-le i bytes (omega arith)))
 
 -- the stream from first on, with one more byte
-more : (bytes : List ℕ) (first i : ℕ) (found found' : List (List ℕ)) (current : List ℕ) (ending : Ending)
-    → first ≤ i → i < length bytes → AreFrames (drop first (take i bytes)) found (Rest current)
-    → AreFrames (current ++ get_or bytes i 0 ∷ []) found' ending
-    → AreFrames (drop first (take (i + 1) bytes)) (found ++ found') ending
-more bytes first i found found' current ending le lt a b =
-    subst (λ (l : List ℕ). AreFrames l (found ++ found') ending) (sym (current_more bytes first i le lt))
+more : {most : ℕ} (bytes : List ℕ) (first i : ℕ) (found found' : List (List ℕ)) (current : List ℕ) (ending : Ending)
+    → first ≤ i → i < length bytes → AreFrames most (drop first (take i bytes)) found (Rest current)
+    → AreFrames most (current ++ get_or bytes i 0 ∷ []) found' ending
+    → AreFrames most (drop first (take (i + 1) bytes)) (found ++ found') ending
+more {most} bytes first i found found' current ending le lt a b =
+    subst (λ (l : List ℕ). AreFrames most l (found ++ found') ending) (sym (current_more bytes first i le lt))
     (cut (drop first (take i bytes)) (get_or bytes i 0 ∷ []) found found' current ending a b)
 
-pub unfinished_now : (x : List ℕ) (found : List (List ℕ)) (r : List ℕ) → AreFrames x found (Rest r)
-    → IsUnfinished r
-unfinished_now x found r a = subst IsUnfinished a.ends.0 a.ends.1
+pub unfinished_now : {most : ℕ} (x : List ℕ) (found : List (List ℕ)) (r : List ℕ) → AreFrames most x found (Rest r)
+    → IsUnfinished most r
+unfinished_now {most} x found r a = subst (IsUnfinished most) a.ends.0 a.ends.1
 
 -- what stands from first on, with all that is still to come
 all_from : (bytes : List ℕ) (first i : ℕ) → first ≤ i → i ≤ length bytes
@@ -96,10 +96,10 @@ all_from bytes first i le short =
     sym (drop-append-le first (take i bytes) (drop i bytes) (omega (arith, length-take-le i bytes short)))
     ∙ ap (drop first) (take-append-drop i bytes)
 
-fault_now : (bytes : List ℕ) (first i : ℕ) (found : List (List ℕ)) (f : FrameError) → first ≤ i → i ≤ length bytes
-    → AreFrames (drop first (take i bytes)) found (Fault f) → AreFrames (drop first bytes) found (Fault f)
-fault_now bytes first i found f le short a =
-    subst (λ (l : List ℕ). AreFrames l found (Fault f)) (all_from bytes first i le short)
+fault_now : {most : ℕ} (bytes : List ℕ) (first i : ℕ) (found : List (List ℕ)) (f : FrameError) → first ≤ i → i ≤ length bytes
+    → AreFrames most (drop first (take i bytes)) found (Fault f) → AreFrames most (drop first bytes) found (Fault f)
+fault_now {most} bytes first i found f le short a =
+    subst (λ (l : List ℕ). AreFrames most l found (Fault f)) (all_from bytes first i le short)
     (fault_on (drop first (take i bytes)) (drop i bytes) found f a)
 
 length_current : (bytes : List ℕ) (start i : ℕ) → start ≤ i → i ≤ length bytes
@@ -109,40 +109,40 @@ length_current bytes start i le short = grind (arith, common_steps)
 current_none : (bytes : List ℕ) (i : ℕ) → drop i (take i bytes) ≡ []
 current_none bytes i = drop_all i (take i bytes) (omega (arith, length-take i bytes))
 
--- where a scan stands before byte i, of a stream that begins at first
-pub record Stands (bytes : List ℕ) (first i start : ℕ) (found : List (List ℕ)) (p : Place) : Type 0 where
+-- where a scan stands before byte i, of a stream that begins at first, where a message may have `most` bytes
+pub record Stands (most : ℕ) (bytes : List ℕ) (first i start : ℕ) (found : List (List ℕ)) (p : ScanPosition) : Type 0 where
   pub behind : first ≤ start
   pub within : start ≤ i
-  pub frames : AreFrames (drop first (take i bytes)) found (Rest (drop start (take i bytes)))
+  pub frames : AreFrames most (drop first (take i bytes)) found (Rest (drop start (take i bytes)))
   pub place : p ≡ place_after (drop start (take i bytes))
 
-pub stands_space : (bytes : List ℕ) (first i start : ℕ) (found : List (List ℕ)) (p : Place)
-    → Stands bytes first i start found p → i < length bytes → start ≡ i → IsSpace (get_or bytes i 0)
-    → Stands bytes first (i + 1) (i + 1) found p
-stands_space bytes first i start found p s lt same blank =
+pub stands_space : {most : ℕ} (bytes : List ℕ) (first i start : ℕ) (found : List (List ℕ)) (p : ScanPosition)
+    → Stands most bytes first i start found p → i < length bytes → start ≡ i → IsSpace (get_or bytes i 0)
+    → Stands most bytes first (i + 1) (i + 1) found p
+stands_space {most} bytes first i start found p s lt same blank =
     let here : drop start (take i bytes) ≡ [] = ap (λ k. drop k (take i bytes)) same ∙ current_none bytes i in
     let none = current_none bytes (i + 1) in
-    let next : AreFrames (drop first (take (i + 1) bytes)) (found ++ []) (Rest []) =
+    let next : AreFrames most (drop first (take (i + 1) bytes)) (found ++ []) (Rest []) =
     more bytes first i found [] [] (Rest []) (omega (arith, s.behind, s.within)) lt
-    (subst (λ (l : List ℕ). AreFrames (drop first (take i bytes)) found (Rest l)) here s.frames)
+    (subst (λ (l : List ℕ). AreFrames most (drop first (take i bytes)) found (Rest l)) here s.frames)
     (only_space (get_or bytes i 0) blank) in
     record {
       behind = omega (arith, s.behind, s.within);
       within = omega arith;
-      frames = subst (λ (l : List ℕ). AreFrames (drop first (take (i + 1) bytes)) found (Rest l)) (sym none)
+      frames = subst (λ (l : List ℕ). AreFrames most (drop first (take (i + 1) bytes)) found (Rest l)) (sym none)
           (simp append-nil at next);
       place = s.place ∙ ap place_after here ∙ ap place_after (sym none);
     }
 
 -- what this byte makes of each place
-abbrev pub Next : Place → ℕ → Place → Type 0
+abbrev pub Next : ScanPosition → ℕ → ScanPosition → Type 0
 Next p b q = (before : List ℕ) → p ≡ place_after before → q ≡ place_after (before ++ b ∷ [])
 
-pub stands_more : (bytes : List ℕ) (first i start : ℕ) (found : List (List ℕ)) (p q : Place)
-    → Stands bytes first i start found p → i < length bytes → (i - start ≡ 0 → get_or bytes i 0 ≡ 123)
-    → Next p (get_or bytes i 0) q → 0 < q.depth → q.depth ≤ most_nesting → i - start < most_bytes
-    → Stands bytes first (i + 1) start found q
-stands_more bytes first i start found p q s lt head next deep low short =
+pub stands_more : {most : ℕ} (bytes : List ℕ) (first i start : ℕ) (found : List (List ℕ)) (p q : ScanPosition)
+    → Stands most bytes first i start found p → i < length bytes → (i - start ≡ 0 → get_or bytes i 0 ≡ 123)
+    → Next p (get_or bytes i 0) q → 0 < q.depth → q.depth ≤ most_nesting → i - start < most
+    → Stands most bytes first (i + 1) start found q
+stands_more {most} bytes first i start found p q s lt head next deep low short =
     let u = drop start (take i bytes) in
     let b = get_or bytes i 0 in
     let len = length_current bytes start i s.within (omega arith) in
@@ -152,22 +152,22 @@ stands_more bytes first i start found p q s lt head next deep low short =
     (λ none. head (omega (arith, none, len))) (omega (arith, d, deep)) (omega (arith, d, low))
     (omega (arith, len, short)) in
     let grown = current_more bytes start i s.within lt in
-    let frames : AreFrames (drop first (take (i + 1) bytes)) (found ++ []) (Rest (u ++ b ∷ [])) =
+    let frames : AreFrames most (drop first (take (i + 1) bytes)) (found ++ []) (Rest (u ++ b ∷ [])) =
     more bytes first i found [] u (Rest (u ++ b ∷ [])) (omega (arith, s.behind, s.within)) lt s.frames
     (only_rest (u ++ b ∷ []) is) in
     record {
       behind = s.behind;
       within = omega (arith, s.within);
-      frames = subst (λ (l : List ℕ). AreFrames (drop first (take (i + 1) bytes)) found (Rest l)) (sym grown)
+      frames = subst (λ (l : List ℕ). AreFrames most (drop first (take (i + 1) bytes)) found (Rest l)) (sym grown)
           (simp append-nil at frames);
       place = now ∙ ap place_after (sym grown);
     }
 
-pub stands_whole : (bytes : List ℕ) (first i start : ℕ) (found : List (List ℕ)) (p q : Place) (o : List ℕ)
-    → Stands bytes first i start found p → i < length bytes → (i - start ≡ 0 → get_or bytes i 0 ≡ 123)
-    → Next p (get_or bytes i 0) q → q.depth ≡ 0 → i - start < most_bytes
-    → o ≡ drop start (take (i + 1) bytes) → Stands bytes first (i + 1) (i + 1) (found ++ o ∷ []) (place_after [])
-stands_whole bytes first i start found p q o s lt head next deep short whole =
+pub stands_whole : {most : ℕ} (bytes : List ℕ) (first i start : ℕ) (found : List (List ℕ)) (p q : ScanPosition) (o : List ℕ)
+    → Stands most bytes first i start found p → i < length bytes → (i - start ≡ 0 → get_or bytes i 0 ≡ 123)
+    → Next p (get_or bytes i 0) q → q.depth ≡ 0 → i - start < most
+    → o ≡ drop start (take (i + 1) bytes) → Stands most bytes first (i + 1) (i + 1) (found ++ o ∷ []) (place_after [])
+stands_whole {most} bytes first i start found p q o s lt head next deep short whole =
     let u = drop start (take i bytes) in
     let b = get_or bytes i 0 in
     let len = length_current bytes start i s.within (omega arith) in
@@ -177,32 +177,32 @@ stands_whole bytes first i start found p q o s lt head next deep short whole =
     (λ none. head (omega (arith, none, len))) (sym d ∙ deep) (omega (arith, len, short)) in
     let o_is : u ++ b ∷ [] ≡ o = sym (whole ∙ current_more bytes start i s.within lt) in
     let none = current_none bytes (i + 1) in
-    let frames : AreFrames (drop first (take (i + 1) bytes)) (found ++ (u ++ b ∷ []) ∷ []) (Rest []) =
+    let frames : AreFrames most (drop first (take (i + 1) bytes)) (found ++ (u ++ b ∷ []) ∷ []) (Rest []) =
     more bytes first i found ((u ++ b ∷ []) ∷ []) u (Rest []) (omega (arith, s.behind, s.within)) lt s.frames
     (only_object (u ++ b ∷ []) is) in
     record {
       behind = omega (arith, s.behind, s.within);
       within = omega arith;
-      frames = subst (λ (l : List ℕ). AreFrames (drop first (take (i + 1) bytes)) (found ++ o ∷ []) (Rest l)) (sym none)
-          (subst (λ (m : List ℕ). AreFrames (drop first (take (i + 1) bytes)) (found ++ m ∷ []) (Rest [])) o_is frames);
+      frames = subst (λ (l : List ℕ). AreFrames most (drop first (take (i + 1) bytes)) (found ++ o ∷ []) (Rest l)) (sym none)
+          (subst (λ (m : List ℕ). AreFrames most (drop first (take (i + 1) bytes)) (found ++ m ∷ []) (Rest [])) o_is frames);
       place = ap place_after (sym none);
     }
 
-pub stands_fault : (bytes : List ℕ) (first i start : ℕ) (found : List (List ℕ)) (p : Place) (f : FrameError)
-    → Stands bytes first i start found p → i < length bytes
-    → ((before : List ℕ) → IsUnfinished before → length before ≡ i - start → p ≡ place_after before
-    → Breaks before (get_or bytes i 0) f) → AreFrames (drop first bytes) found (Fault f)
-stands_fault bytes first i start found p f s lt breaks =
+pub stands_fault : {most : ℕ} (bytes : List ℕ) (first i start : ℕ) (found : List (List ℕ)) (p : ScanPosition) (f : FrameError)
+    → Stands most bytes first i start found p → i < length bytes
+    → ((before : List ℕ) → IsUnfinished most before → length before ≡ i - start → p ≡ place_after before
+    → Breaks most before (get_or bytes i 0) f) → AreFrames most (drop first bytes) found (Fault f)
+stands_fault {most} bytes first i start found p f s lt breaks =
     let u = drop start (take i bytes) in
     let b = get_or bytes i 0 in
     let is = unfinished_now (drop first (take i bytes)) found u s.frames in
     let le : first ≤ i = omega (arith, s.behind, s.within) in
     let h = faulty u b f is (breaks u is (length_current bytes start i s.within (omega arith)) s.place) in
-    let frames : AreFrames (drop first (take (i + 1) bytes)) (found ++ []) (Fault f) =
+    let frames : AreFrames most (drop first (take (i + 1) bytes)) (found ++ []) (Fault f) =
     more bytes first i found [] u (Fault f) le lt s.frames (only_fault (u ++ b ∷ []) f h) in
     fault_now bytes first (i + 1) found f (omega arith) (omega arith) (simp append-nil at frames)
 
-pub nests_now : (u : List ℕ) → IsUnfinished u → depth u ≤ most_nesting
+pub nests_now : {most : ℕ} (u : List ℕ) → IsUnfinished most u → depth u ≤ most_nesting
 nests_now u is = subst (λ (l : List ℕ). depth l ≤ most_nesting) (take-length u) (is.limits.nests (length u))
 
 some_before : (u : List ℕ) (b : ℕ) → most_nesting < depth (u ++ b ∷ []) → 0 < length u
@@ -210,12 +210,12 @@ some_before [] b deep = absurd (omega (arith, by_one [] b, deep))
 some_before (a ∷ u) b deep = omega arith
 
 -- only place_after a byte, and one too many
-pub deeper : (u : List ℕ) (b : ℕ) → IsUnfinished u → most_nesting < depth (u ++ b ∷ [])
+pub deeper : {most : ℕ} (u : List ℕ) (b : ℕ) → IsUnfinished most u → most_nesting < depth (u ++ b ∷ [])
     → (0 < length u) × (depth (u ++ b ∷ []) ≡ most_nesting + 1)
 deeper u b is deep = (some_before u b deep, omega (arith, by_one u b, nests_now u is, deep))
 
-pub depth_now : (bytes : List ℕ) (first i start : ℕ) (found : List (List ℕ)) (p : Place)
-    → Stands bytes first i start found p → p.depth ≤ most_nesting
+pub depth_now : {most : ℕ} (bytes : List ℕ) (first i start : ℕ) (found : List (List ℕ)) (p : ScanPosition)
+    → Stands most bytes first i start found p → p.depth ≤ most_nesting
 depth_now bytes first i start found p s =
     let u = drop start (take i bytes) in
     omega (arith, ap (λ a. a.depth) s.place, nests_now u (unfinished_now (drop first (take i bytes)) found u s.frames))

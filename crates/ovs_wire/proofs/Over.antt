@@ -5,15 +5,15 @@ use Rattle.std.proofs.lemmas.List.{take_more, take_all, take-append-drop, length
 use Rattle.std.proofs.Math.Seq.{take-length}
 use Rattle.ovs_wire.specs.declared.error.FrameError.{FrameError}
 use Rattle.ovs_wire.specs.declared.error.FrameError.TheVariants.{TooDeep, TooLong}
-use Rattle.ovs_wire.specs.Limits.{most_nesting, most_bytes}
+use Rattle.ovs_wire.specs.Limits.{most_nesting}
 use Rattle.ovs_wire.specs.Depth.{depth}
 use Rattle.ovs_wire.specs.Frames.{IsBalanced, IsObject, IsUnfinished, IsTooLarge, HasFault, Breaks, AreFrames, Fault}
 use Rattle.ovs_wire.proofs.Cuts.{nothing, only_fault}
 use Rattle.ovs_wire.proofs.NextByte.{unfinished_more, object_whole, deeper}
 
 -- a fault at the byte after the first k
-fault_after : (o : List ℕ) (k : ℕ) (f : FrameError) → k < length o → IsUnfinished (take k o)
-    → Breaks (take k o) (get_or o k 0) f → HasFault o f
+fault_after : {most : ℕ} (o : List ℕ) (k : ℕ) (f : FrameError) → k < length o → IsUnfinished most (take k o)
+    → Breaks most (take k o) (get_or o k 0) f → HasFault most o f
 fault_after o k f lt is breaks = record {
   before = take k o;
   byte = get_or o k 0;
@@ -25,9 +25,9 @@ fault_after o k f lt is breaks = record {
 }
 
 -- one byte further within the limits of length
-one_more : (o : List ℕ) (k : ℕ) → IsBalanced o → k + 1 < length o → k < most_bytes → IsUnfinished (take k o)
-    → IsUnfinished (take (k + 1) o) ⊎ HasFault o TooDeep
-one_more o k is lt short unfinished =
+one_more : {most : ℕ} (o : List ℕ) (k : ℕ) → IsBalanced o → k + 1 < length o → k < most → IsUnfinished most (take k o)
+    → IsUnfinished most (take (k + 1) o) ⊎ HasFault most o TooDeep
+one_more {most} o k is lt short unfinished =
     let b = get_or o k 0 in
     let next : take (k + 1) o ≡ take k o ++ b ∷ [] = take_more o k 0 (omega arith) in
     let len : length (take k o) ≡ k = length-take-le k o (omega arith) in
@@ -35,54 +35,54 @@ one_more o k is lt short unfinished =
     (λ (deep : most_nesting < depth (take k o ++ b ∷ [])).
     inr (fault_after o k TooDeep (omega arith) unfinished (deeper (take k o) b unfinished deep)))
     (λ (low : depth (take k o ++ b ∷ []) ≤ most_nesting).
-    inl (subst IsUnfinished (sym next)
+    inl (subst (IsUnfinished most) (sym next)
     (unfinished_more (take k o) b unfinished
     (λ none. ap (λ i. get_or o i 0) (omega (arith, len, none)) ∙ is.begins.1)
     (subst (λ (l : List ℕ). 0 < depth l) next (is.inside (k + 1) (omega arith) lt)) low (omega (arith, len, short)))))
     (cases_lt most_nesting (depth (take k o ++ b ∷ [])))
 
-up_to : (o : List ℕ) (k : ℕ) → IsBalanced o → k < length o → k ≤ most_bytes
-    → IsUnfinished (take k o) ⊎ HasFault o TooDeep
+up_to : {most : ℕ} (o : List ℕ) (k : ℕ) → IsBalanced o → k < length o → k ≤ most
+    → IsUnfinished most (take k o) ⊎ HasFault most o TooDeep
 up_to o zero is lt short = inl nothing
-up_to o (suc k) is lt short = ⊎_elim
-    (λ (unfinished : IsUnfinished (take k o)).
-    subst (λ (i : ℕ). IsUnfinished (take i o) ⊎ HasFault o TooDeep) (add-one k)
+up_to {most} o (suc k) is lt short = ⊎_elim
+    (λ (unfinished : IsUnfinished most (take k o)).
+    subst (λ (i : ℕ). IsUnfinished most (take i o) ⊎ HasFault most o TooDeep) (add-one k)
     (one_more o k is (omega arith) (omega arith) unfinished))
-    (λ (deep : HasFault o TooDeep). inr deep) (up_to o k is (omega arith) (omega arith))
+    (λ (deep : HasFault most o TooDeep). inr deep) (up_to o k is (omega arith) (omega arith))
 
 -- a place that is too deep, with no more bytes before it than the limit
-deep_after : (o : List ℕ) (k : ℕ) → IsBalanced o → k < length o → k ≤ most_bytes
-    → most_nesting < depth (take (k + 1) o) → HasFault o TooDeep
-deep_after o k is lt short deep = ⊎_elim
-    (λ (unfinished : IsUnfinished (take k o)).
+deep_after : {most : ℕ} (o : List ℕ) (k : ℕ) → IsBalanced o → k < length o → k ≤ most
+    → most_nesting < depth (take (k + 1) o) → HasFault most o TooDeep
+deep_after {most} o k is lt short deep = ⊎_elim
+    (λ (unfinished : IsUnfinished most (take k o)).
     fault_after o k TooDeep lt unfinished (deeper (take k o) (get_or o k 0) unfinished
     (subst (λ (l : List ℕ). most_nesting < depth l) (take_more o k 0 lt) deep)))
-    (λ (h : HasFault o TooDeep). h) (up_to o k is lt short)
+    (λ (h : HasFault most o TooDeep). h) (up_to o k is lt short)
 
-deep_at : (o : List ℕ) (k : ℕ) → IsBalanced o → k ≤ length o → k ≤ most_bytes + 1
-    → most_nesting < depth (take k o) → HasFault o TooDeep
+deep_at : {most : ℕ} (o : List ℕ) (k : ℕ) → IsBalanced o → k ≤ length o → k ≤ most + 1
+    → most_nesting < depth (take k o) → HasFault most o TooDeep
 deep_at o zero is le short deep = absurd (omega arith)
 deep_at o (suc k) is le short deep = deep_after o k is (omega arith) (omega arith)
     (subst (λ (i : ℕ). most_nesting < depth (take i o)) (sym (add-one k)) deep)
 
-pub too_deep : (o : List ℕ) (k : ℕ) → IsBalanced o → k ≤ most_bytes + 1 → most_nesting < depth (take k o)
-    → AreFrames o [] (Fault TooDeep)
+pub too_deep : {most : ℕ} (o : List ℕ) (k : ℕ) → IsBalanced o → k ≤ most + 1 → most_nesting < depth (take k o)
+    → AreFrames most o [] (Fault TooDeep)
 too_deep o k is short deep = only_fault o TooDeep (⊎_elim
     (λ (lt : k < length o). deep_at o k is (omega (arith, lt)) short deep)
     (λ (le : length o ≤ k). absurd (omega (arith, ap depth (take_all k o le), is.ends, deep)))
     (cases_lt k (length o)))
 
 -- the same of bytes within the limit of length, whichever place it is
-pub deep_frames : (o : List ℕ) (k : ℕ) → IsBalanced o → length o ≤ most_bytes → most_nesting < depth (take k o)
-    → AreFrames o [] (Fault TooDeep)
+pub deep_frames : {most : ℕ} (o : List ℕ) (k : ℕ) → IsBalanced o → length o ≤ most → most_nesting < depth (take k o)
+    → AreFrames most o [] (Fault TooDeep)
 deep_frames o k is fits deep = ⊎_elim
     (λ (lt : k < length o). too_deep o k is (omega (arith, lt, fits)) deep)
     (λ (le : length o ≤ k). absurd (omega (arith, ap depth (take_all k o le), is.ends, deep)))
     (cases_lt k (length o))
 
 -- a fault that is too deep stands at a place that is
-deep_place : (o : List ℕ) → HasFault o TooDeep
-    → (k : ℕ) × (k ≤ most_bytes + 1) × (most_nesting < depth (take k o))
+deep_place : {most : ℕ} (o : List ℕ) → HasFault most o TooDeep
+    → (k : ℕ) × (k ≤ most + 1) × (most_nesting < depth (take k o))
 deep_place o h =
     let n = length (h.before ++ h.byte ∷ []) in
     let front : take n o ≡ h.before ++ h.byte ∷ [] =
@@ -94,57 +94,63 @@ deep_place o h =
     )
 
 -- more bytes than the limit, and no place that is too deep up to the one too many
-long_by : (o : List ℕ) → most_bytes < length o → ((k : ℕ) → k ≤ most_bytes + 1 → depth (take k o) ≤ most_nesting)
-    → IsUnfinished (take most_bytes o) → HasFault o TooLong
-long_by o long low unfinished = fault_after o most_bytes TooLong long unfinished (
-  length-take-le most_bytes o (omega arith),
+-- where a message may have no byte, the one too many is its first
+first_too_many : (o : List ℕ) (most : ℕ) → IsBalanced o → most < length o → length (take most o) ≡ 0 → get_or o most 0 ≡ 123
+first_too_many o most is long none =
+    ap (λ i. get_or o i 0) (omega (arith, length-take-le most o (omega (arith, long)), none)) ∙ is.begins.1
+
+long_by : {most : ℕ} (o : List ℕ) → IsBalanced o → most < length o
+    → ((k : ℕ) → k ≤ most + 1 → depth (take k o) ≤ most_nesting) → IsUnfinished most (take most o) → HasFault most o TooLong
+long_by {most} o is long low unfinished = fault_after o most TooLong long unfinished (
+  length-take-le most o (omega arith),
   subst (λ (l : List ℕ). depth l ≤ most_nesting)
-      (take_more o most_bytes 0 long) (low (most_bytes + 1) (omega arith)),
+      (take_more o most 0 long) (low (most + 1) (omega arith)),
+  first_too_many o most is long,
 )
 
-pub too_long : (o : List ℕ) → IsBalanced o → most_bytes < length o
-    → ((k : ℕ) → k ≤ most_bytes + 1 → depth (take k o) ≤ most_nesting) → AreFrames o [] (Fault TooLong)
-too_long o is long low = only_fault o TooLong (⊎_elim (long_by o long low)
-    (λ (h : HasFault o TooDeep). let at = deep_place o h in absurd (omega (arith, low at.0 at.1, at.2)))
-    (up_to o most_bytes is long (omega arith)))
+pub too_long : {most : ℕ} (o : List ℕ) → IsBalanced o → most < length o
+    → ((k : ℕ) → k ≤ most + 1 → depth (take k o) ≤ most_nesting) → AreFrames most o [] (Fault TooLong)
+too_long {most} o is long low = only_fault o TooLong (⊎_elim (long_by o is long low)
+    (λ (h : HasFault most o TooDeep). let at = deep_place o h in absurd (omega (arith, low at.0 at.1, at.2)))
+    (up_to o most is long (omega arith)))
 
 -- the byte that is one too many is one of the two faults
-long_either : (o : List ℕ) → IsBalanced o → most_bytes < length o → IsUnfinished (take most_bytes o) → IsTooLarge o
-long_either o is long unfinished =
-    let next : take (most_bytes + 1) o ≡ take most_bytes o ++ get_or o most_bytes 0 ∷ [] = take_more o most_bytes 0 long in
+long_either : {most : ℕ} (o : List ℕ) → IsBalanced o → most < length o → IsUnfinished most (take most o) → IsTooLarge most o
+long_either {most} o is long unfinished =
+    let next : take (most + 1) o ≡ take most o ++ get_or o most 0 ∷ [] = take_more o most 0 long in
     ⊎_elim
-    (λ (deep : most_nesting < depth (take (most_bytes + 1) o)). inl (deep_after o most_bytes is long (omega arith) deep))
-    (λ (low : depth (take (most_bytes + 1) o) ≤ most_nesting). inr
-    (fault_after o most_bytes TooLong long unfinished
-    (length-take-le most_bytes o (omega arith), subst (λ (l : List ℕ). depth l ≤ most_nesting) next low)))
-    (cases_lt most_nesting (depth (take (most_bytes + 1) o)))
+    (λ (deep : most_nesting < depth (take (most + 1) o)). inl (deep_after o most is long (omega arith) deep))
+    (λ (low : depth (take (most + 1) o) ≤ most_nesting). inr
+    (fault_after o most TooLong long unfinished
+    (length-take-le most o (omega arith), subst (λ (l : List ℕ). depth l ≤ most_nesting) next low, first_too_many o most is long)))
+    (cases_lt most_nesting (depth (take (most + 1) o)))
 
-above : (o : List ℕ) → IsBalanced o → most_bytes < length o → IsTooLarge o
-above o is long = ⊎_elim (long_either o is long) (λ (h : HasFault o TooDeep). inl h) (up_to o most_bytes is long (omega arith))
+above : {most : ℕ} (o : List ℕ) → IsBalanced o → most < length o → IsTooLarge most o
+above {most} o is long = ⊎_elim (long_either o is long) (λ (h : HasFault most o TooDeep). inl h) (up_to o most is long (omega arith))
 
 -- above the limit of length it is one of the two
-pub either : (o : List ℕ) → IsBalanced o → most_bytes < length o
-    → AreFrames o [] (Fault TooDeep) ⊎ AreFrames o [] (Fault TooLong)
-either o is long = ⊎_elim (λ (h : HasFault o TooDeep). inl (only_fault o TooDeep h))
-    (λ (h : HasFault o TooLong). inr (only_fault o TooLong h)) (above o is long)
+pub either : {most : ℕ} (o : List ℕ) → IsBalanced o → most < length o
+    → AreFrames most o [] (Fault TooDeep) ⊎ AreFrames most o [] (Fault TooLong)
+either {most} o is long = ⊎_elim (λ (h : HasFault most o TooDeep). inl (only_fault o TooDeep h))
+    (λ (h : HasFault most o TooLong). inr (only_fault o TooLong h)) (above o is long)
 
 -- within that limit it is an object, or has a place that is too deep
-last_byte : (o : List ℕ) → IsBalanced o → length o ≤ most_bytes → IsUnfinished (take (length o - 1) o) → IsObject o
-last_byte o is fits unfinished =
+last_byte : {most : ℕ} (o : List ℕ) → IsBalanced o → length o ≤ most → IsUnfinished most (take (length o - 1) o) → IsObject most o
+last_byte {most} o is fits unfinished =
     let k = length o - 1 in
     let lt : k < length o = omega (arith, is.begins.0) in
     let one : k + 1 ≡ length o = omega (arith, is.begins.0) in
     let len : length (take k o) ≡ k = length-take-le k o (omega (arith, lt)) in
     let whole : take k o ++ get_or o k 0 ∷ [] ≡ o = sym (take_more o k 0 lt) ∙ ap (λ n. take n o) one ∙ take-length o in
-    subst IsObject whole
+    subst (IsObject most) whole
     (object_whole (take k o) (get_or o k 0) unfinished (λ none. ap (λ i. get_or o i 0) (omega (arith, len, none)) ∙ is.begins.1)
     (ap depth whole ∙ is.ends) (omega (arith, len, lt, fits)))
 
-pub object_or_large : (o : List ℕ) → IsBalanced o → IsObject o ⊎ IsTooLarge o
-object_or_large o is = ⊎_elim
-    (λ (long : most_bytes < length o). inr (above o is long))
-    (λ (fits : length o ≤ most_bytes). ⊎_elim
-    (λ (unfinished : IsUnfinished (take (length o - 1) o)). inl (last_byte o is fits unfinished))
-    (λ (deep : HasFault o TooDeep). inr (inl deep))
+pub object_or_large : {most : ℕ} (o : List ℕ) → IsBalanced o → IsObject most o ⊎ IsTooLarge most o
+object_or_large {most} o is = ⊎_elim
+    (λ (long : most < length o). inr (above o is long))
+    (λ (fits : length o ≤ most). ⊎_elim
+    (λ (unfinished : IsUnfinished most (take (length o - 1) o)). inl (last_byte o is fits unfinished))
+    (λ (deep : HasFault most o TooDeep). inr (inl deep))
     (up_to o (length o - 1) is (omega (arith, is.begins.0)) (omega (arith, fits))))
-    (cases_lt most_bytes (length o))
+    (cases_lt most (length o))

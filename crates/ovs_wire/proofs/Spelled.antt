@@ -131,7 +131,7 @@ nests_in bytes o k n is le nests =
     (take-append-le k o is.after le) in
     omega (arith, nests i, ap depth front, depth_after_spaces is.before (take k o) is.spaces.0)
 
-pub limits_in : (bytes o : List ℕ) → IsPadded bytes o → IsWithinLimits bytes → IsWithinLimits o
+pub limits_in : {most : ℕ} (bytes o : List ℕ) → IsPadded bytes o → IsWithinLimits most bytes → IsWithinLimits most o
 limits_in bytes o is limits = record {
   nests = λ k. ⊎_elim (λ (lt : k < length o). nests_in bytes o k most_nesting is (omega (arith, lt)) limits.nests)
       (λ (le : length o ≤ k). subst (λ (l : List ℕ). depth l ≤ most_nesting) (take-length o ∙ sym (take_all k o le))
@@ -146,9 +146,9 @@ limits_in bytes o is limits = record {
 }
 
 -- padded objects are one frame
-pub padded_frames : (bytes o : List ℕ) → IsPadded bytes o → IsObject o → AreFrames bytes (o ∷ []) (Rest [])
-padded_frames bytes o is whole =
-    subst (λ (l : List ℕ). AreFrames l (o ∷ []) (Rest [])) (sym is.whole)
+pub padded_frames : {most : ℕ} (bytes o : List ℕ) → IsPadded bytes o → IsObject most o → AreFrames most bytes (o ∷ []) (Rest [])
+padded_frames {most} bytes o is whole =
+    subst (λ (l : List ℕ). AreFrames most l (o ∷ []) (Rest [])) (sym is.whole)
     (cut is.before (o ++ is.after) [] (o ∷ []) [] (Rest []) (spaces_only is.before is.spaces.0)
     (cut o is.after (o ∷ []) [] [] (Rest []) (only_object o whole) (spaces_only is.after is.spaces.1)))
 

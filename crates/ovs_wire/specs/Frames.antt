@@ -1,8 +1,8 @@
--- A stream of bytes is white space and objects, and then a rest that is no whole object yet, or a fault.
+-- A stream of bytes is white space and objects, and then a rest that is no whole object yet, or a fault. A message of it may have `most` bytes.
 use Rattle.std.specs.Prelude.{◌≡◌, ℕ, ◌+◌, ◌-◌, ◌<◌, ◌≤◌, ◌⊎◌, List, [], ◌∷◌, ◌++◌, length, take, slice_index, All}
 use Rattle.ovs_wire.specs.declared.error.FrameError.{FrameError}
 use Rattle.ovs_wire.specs.declared.error.FrameError.TheVariants.{NotObject, TooDeep, TooLong, NoMemory}
-use Rattle.ovs_wire.specs.Limits.{most_nesting, most_bytes}
+use Rattle.ovs_wire.specs.Limits.{most_nesting}
 use Rattle.ovs_wire.specs.Depth.{depth}
 
 -- space, tab, CR or LF
@@ -21,9 +21,9 @@ pub record IsBegun (r : List ℕ) : Type 0 where
   pub inside : (k : ℕ) → 0 < k → k ≤ length r → 0 < depth (take k r)
 
 -- no place is too deep, and there are not too many bytes
-pub record IsWithinLimits (bytes : List ℕ) : Type 0 where
+pub record IsWithinLimits (most : ℕ) (bytes : List ℕ) : Type 0 where
   pub nests : (k : ℕ) → depth (take k bytes) ≤ most_nesting
-  pub fits : length bytes ≤ most_bytes
+  pub fits : length bytes ≤ most
 
 -- the deepest place is this deep
 pub record IsNested (bytes : List ℕ) (n : ℕ) : Type 0 where
@@ -43,34 +43,34 @@ IsBare bytes =
     (IsSpace (slice_index bytes 0) → ⊥) × (IsSpace (slice_index bytes (length bytes - 1)) → ⊥)
 
 -- a whole message
-pub record IsObject (o : List ℕ) : Type 0 where
+pub record IsObject (most : ℕ) (o : List ℕ) : Type 0 where
   pub balanced : IsBalanced o
-  pub limits : IsWithinLimits o
+  pub limits : IsWithinLimits most o
 
 -- nothing, or a message that isn't whole yet
-pub record IsUnfinished (r : List ℕ) : Type 0 where
+pub record IsUnfinished (most : ℕ) (r : List ℕ) : Type 0 where
   pub begun : IsBegun r
-  pub limits : IsWithinLimits r
+  pub limits : IsWithinLimits most r
 
--- after what is unfinished this byte is this fault
-abbrev pub Breaks : List ℕ → ℕ → FrameError → Type 0
-Breaks u b NotObject = (length u ≡ 0) × (IsSpace b → ⊥) × (b ≡ 123 → ⊥)
-Breaks u b TooDeep = (0 < length u) × (depth (u ++ b ∷ []) ≡ most_nesting + 1)
-Breaks u b TooLong = (length u ≡ most_bytes) × (depth (u ++ b ∷ []) ≤ most_nesting)
-Breaks u b NoMemory = ⊥
+-- after what is unfinished this byte is this fault; where a message may have no byte at all its { is the one too many
+abbrev pub Breaks : ℕ → List ℕ → ℕ → FrameError → Type 0
+Breaks most u b NotObject = (length u ≡ 0) × (IsSpace b → ⊥) × (b ≡ 123 → ⊥)
+Breaks most u b TooDeep = (0 < length u) × (depth (u ++ b ∷ []) ≡ most_nesting + 1)
+Breaks most u b TooLong = (length u ≡ most) × (depth (u ++ b ∷ []) ≤ most_nesting) × (length u ≡ 0 → b ≡ 123)
+Breaks most u b NoMemory = ⊥
 
 -- what is unfinished, and then a byte that is a fault
-pub record HasFault (r : List ℕ) (f : FrameError) : Type 0 where
+pub record HasFault (most : ℕ) (r : List ℕ) (f : FrameError) : Type 0 where
   pub before : List ℕ
   pub byte : ℕ
   pub more : List ℕ
   pub whole : r ≡ before ++ byte ∷ more
-  pub unfinished : IsUnfinished before
-  pub breaks : Breaks before byte f
+  pub unfinished : IsUnfinished most before
+  pub breaks : Breaks most before byte f
 
 -- a place of it is too deep, or it is too long
-abbrev pub IsTooLarge : List ℕ → Type 0
-IsTooLarge t = HasFault t TooDeep ⊎ HasFault t TooLong
+abbrev pub IsTooLarge : ℕ → List ℕ → Type 0
+IsTooLarge most t = HasFault most t TooDeep ⊎ HasFault most t TooLong
 
 -- a byte of white space, or an object
 pub data Part : Type 0 where
@@ -78,9 +78,9 @@ pub data Part : Type 0 where
   Object : List ℕ → Part
 
 -- the byte is white space, or the bytes are an object
-abbrev pub IsPart : Part → Type 0
-IsPart (Space b) = IsSpace b
-IsPart (Object o) = IsObject o
+abbrev pub IsPart : ℕ → Part → Type 0
+IsPart most (Space b) = IsSpace b
+IsPart most (Object o) = IsObject most o
 
 -- the bytes of one part
 abbrev pub bytes_of : Part → List ℕ
@@ -108,15 +108,15 @@ pub data Ending : Type 0 where
   Fault : FrameError → Ending
 
 -- the rest is unfinished, or it has the fault
-abbrev pub EndsAs : List ℕ → Ending → Type 0
-EndsAs r (Rest s) = (r ≡ s) × IsUnfinished r
-EndsAs r (Fault f) = HasFault r f
+abbrev pub EndsAs : ℕ → List ℕ → Ending → Type 0
+EndsAs most r (Rest s) = (r ≡ s) × IsUnfinished most r
+EndsAs most r (Fault f) = HasFault most r f
 
 -- the frames of a stream: it is white space and these objects, and then this ending
-pub record AreFrames (stream : List ℕ) (found : List (List ℕ)) (ending : Ending) : Type 0 where
+pub record AreFrames (most : ℕ) (stream : List ℕ) (found : List (List ℕ)) (ending : Ending) : Type 0 where
   pub parts : List Part
   pub rest : List ℕ
   pub whole : stream ≡ joined parts ++ rest
-  pub each : All IsPart parts
+  pub each : All (IsPart most) parts
   pub found_are : objects parts ≡ found
-  pub ends : EndsAs rest ending
+  pub ends : EndsAs most rest ending

@@ -3,29 +3,31 @@ use Rattle.std.specs.Prelude.{◌≡◌, ℕ, Option, Some, None, Result, Ok, Er
 use Rattle.ovs_wire.specs.declared.error.FrameError.{FrameError}
 use Rattle.ovs_wire.specs.Frames.{Ending, Rest, Fault, AreFrames}
 
--- the whole messages that wait, and then the rest or the first fault
+-- how many bytes a message may have; the whole messages that wait, and then the rest or the first fault
 pub record Framing : Type 0 where
+  pub limit : ℕ
   pub waiting : List (List ℕ)
   pub ending : Ending
 
--- these messages wait, and the stream ends so
-abbrev pub framing : List (List ℕ) → Ending → Framing
-framing waiting ending = record { waiting = waiting; ending = ending }
+-- with this limit these messages wait, and the stream ends so
+abbrev pub framing : ℕ → List (List ℕ) → Ending → Framing
+framing limit waiting ending = record { limit = limit; waiting = waiting; ending = ending }
 
 -- the fault, if there is one, else the rest
 abbrev pub ending_of : Option FrameError → List ℕ → Ending
 ending_of None rest = Rest rest
 ending_of (Some fault) rest = Fault fault
 
--- nothing has come yet
-abbrev pub IsNew : Framing → Type 0
-IsNew now = (now.waiting ≡ []) × (now.ending ≡ Rest [])
+-- nothing has come yet, and a message may have `most` bytes
+abbrev pub IsNew : ℕ → Framing → Type 0
+IsNew most now = (now.waiting ≡ []) × (now.ending ≡ Rest []) × (now.limit ≡ most)
 
--- the frames of what was left with the piece are added
+-- the frames of what was left with the piece are added, within the same limit
 pub record Adds (old : Framing) (left : List ℕ) (piece : List ℕ) (new : Framing) : Type 0 where
   pub found : List (List ℕ)
-  pub frames : AreFrames (left ++ piece) found new.ending
+  pub frames : AreFrames old.limit (left ++ piece) found new.ending
   pub waiting : new.waiting ≡ old.waiting ++ found
+  pub limit : new.limit ≡ old.limit
 
 -- the same, by how the stream ended before
 abbrev pub FeedsAfter : Ending → Framing → List ℕ → Framing → Type 0
@@ -36,13 +38,13 @@ FeedsAfter (Fault fault) old piece new = new ≡ old
 abbrev pub Feeds : Framing → List ℕ → Framing → Type 0
 Feeds old piece new = FeedsAfter old.ending old piece new
 
--- taking the first message that waits: the others wait on
+-- taking the first message that waits: the others wait on, and the limit stays
 abbrev pub Takes : Framing → List ℕ → Framing → Type 0
-Takes old message new = (old.waiting ≡ message ∷ new.waiting) × (new.ending ≡ old.ending)
+Takes old message new = (old.waiting ≡ message ∷ new.waiting) × (new.ending ≡ old.ending) × (new.limit ≡ old.limit)
 
 -- without the first message that waits, where one does
 abbrev pub without_first : Framing → Framing
-without_first now = framing (drop 1 now.waiting) now.ending
+without_first now = framing now.limit (drop 1 now.waiting) now.ending
 
 -- a feed answers the fault, where there is one
 abbrev pub Answers : {X : Type 0} → Ending → Result X FrameError → Type 0
@@ -51,9 +53,9 @@ Answers (Rest rest) (Err e) = ⊥
 Answers (Fault fault) (Ok x) = ⊥
 Answers (Fault fault) (Err e) = fault ≡ e
 
--- the framing is that of the stream that was fed so far, of which these messages were taken
-abbrev pub Follows : List ℕ → List (List ℕ) → Framing → Type 0
-Follows stream taken now = AreFrames stream (taken ++ now.waiting) now.ending
+-- the framing is that of the stream that was fed so far to a framer of this limit, of which these messages were taken
+abbrev pub Follows : ℕ → List ℕ → List (List ℕ) → Framing → Type 0
+Follows most stream taken now = AreFrames most stream (taken ++ now.waiting) now.ending × (now.limit ≡ most)
 
 -- a call on a framer: a piece is fed, or a message taken
 pub data Call : Type 0 where

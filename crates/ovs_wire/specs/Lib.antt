@@ -1,6 +1,6 @@
 pub mod Limits
 pub mod Depth
-pub mod Place
+pub mod ScanPosition
 pub mod Frames
 pub mod Framing
 pub mod Spans

@@ -4,7 +4,7 @@ use Rattle.serde_json.specs.Data.{Data, null, string, array, object, no_members,
 use Rattle.serde_json.specs.Find.{get}
 use Rattle.serde_json.specs.Read.{read, max_depth}
 use Rattle.serde_json.specs.View.{items_of}
-use Rattle.ovs_wire.specs.Limits.{most_nesting, most_bytes}
+use Rattle.ovs_wire.specs.Limits.{most_nesting}
 use Rattle.ovs_wire.specs.Frames.{IsBalanced, IsNested}
 use Rattle.ovs_wire.specs.declared.error.MessageError.{MessageError}
 use Rattle.ovs_wire.specs.declared.error.MessageError.TheVariants.{NotJson, BadShape, NoMemory}
@@ -65,11 +65,11 @@ pub record IsWritten (m : Message) (bytes : List ℕ) : Type 0 where
   pub nested : IsNested bytes (depth (json m))
   pub says : depth (json m) ≤ max_depth → Says bytes m
 
--- what is written for the message, where that is within the limits
-pub record IsSent (m : Message) (bytes : List ℕ) : Type 0 where
+-- what is written for the message, where that is within the limits: so deep, and `most` bytes
+pub record IsSent (most : ℕ) (m : Message) (bytes : List ℕ) : Type 0 where
   pub written : IsWritten m bytes
   pub nests : depth (json m) ≤ most_nesting
-  pub fits : length bytes ≤ most_bytes
+  pub fits : length bytes ≤ most
 
 -- where there is memory, a read of the bytes gives the message
 abbrev pub ReadsBack : Message → List ℕ → Type 0

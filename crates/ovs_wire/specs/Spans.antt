@@ -2,7 +2,7 @@
 use Rattle.std.specs.Prelude.{◌≡◌, ℕ, ◌+◌, ◌≤◌, List, [], ◌∷◌, length, take, drop}
 use Rattle.ovs_wire.specs.declared.framing.scan.Span.{Span}
 use Rattle.ovs_wire.specs.declared.framing.scan.Tail.{Tail}
-use Rattle.ovs_wire.specs.Place.{place_after}
+use Rattle.ovs_wire.specs.ScanPosition.{place_after}
 use Rattle.ovs_wire.specs.Frames.{IsUnfinished}
 
 -- how many bytes the messages and the white space before them take
@@ -15,9 +15,9 @@ abbrev pub messages : List Span → List ℕ → List (List ℕ)
 messages [] bytes = []
 messages (s ∷ spans) bytes = take s.len (drop s.skip bytes) ∷ messages spans (drop (s.skip + s.len) bytes)
 
--- behind the last whole message only what is unfinished stands, up to the place
-pub record IsTail (bytes : List ℕ) (tail : Tail) : Type 0 where
+-- behind the last whole message only what is unfinished stands, up to the place, where a message may have `most` bytes
+pub record IsTail (most : ℕ) (bytes : List ℕ) (tail : Tail) : Type 0 where
   pub ends : tail.end ≤ tail.start
   pub within : tail.start ≤ length bytes
-  pub unfinished : IsUnfinished (drop tail.start bytes)
+  pub unfinished : IsUnfinished most (drop tail.start bytes)
   pub place : tail.place ≡ place_after (drop tail.start bytes)

@@ -12,8 +12,8 @@ pub enum FrameError {
     /// A message nests deeper than [`MAX_NESTING`](crate::MAX_NESTING).
     #[error("a message nested too deep")]
     TooDeep,
-    /// A message is longer than [`MAX_MESSAGE_BYTES`](crate::MAX_MESSAGE_BYTES). Where the byte that is one too many
-    /// also nests too deep, the fault is `TooDeep`.
+    /// A message is longer than the framer's limit, which is [`MAX_MESSAGE_BYTES`](crate::MAX_MESSAGE_BYTES) unless
+    /// another was given. Where the byte that is one too many also nests too deep, the fault is `TooDeep`.
     #[error("a message too long")]
     TooLong,
     /// Memory ran out.

@@ -10,7 +10,7 @@ mod message;
 pub use device::{Counted, is_passing};
 pub use error::{FrameError, MessageError};
 pub use framing::{
-    Framer, MAX_MESSAGE_BYTES, MAX_NESTING, balanced_text_laws, frame_laws, framer_laws,
+    Framer, MAX_MESSAGE_BYTES, MAX_NESTING, balanced_text_laws, frame_laws, framer_laws, limit_laws,
 };
 pub use message::{Id, Message, Method, Params, text_laws, writing_laws};
 pub use ovs_json::{Json, NoMemory};

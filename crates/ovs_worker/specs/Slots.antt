@@ -1,7 +1,7 @@
 -- What becomes of a session, and how it ends.
 use Rattle.std.specs.Prelude.{◌≡◌, ◌⊎◌, ℕ, List, Option, Some, None, Result, Err, true}
 use Rattle.ovs_session.specs.declared.limits.Limits.{Limits}
-use Rattle.ovs_session.specs.declared.limits.Pace.{Pace}
+use Rattle.ovs_session.specs.declared.limits.TurnProgress.{TurnProgress}
 use Rattle.ovs_session.specs.declared.ended.Ended.{Ended}
 use Rattle.ovs_session.specs.declared.ended.Ended.TheVariants.{Closed, ReadFault, WriteFault, BadInput, Gone}
 use Rattle.ovs_session.specs.Counting.{SpendsAtMost}
@@ -23,8 +23,8 @@ pub record HasFailed (fault : Ended) (ended : Option Ended) (failures : ℕ) : T
 -- Where the session has ended closed, all is done, and all that it asked for has come; where for bad input, that is bad; where by
 -- a fault of a device, that failed.
 pub record IsEnd {C R W : Type 0} (refuses : C → List ℕ → Type 0) (is_answered : C → Type 0) (now : WithDevices C R W) : Type 0 where
-  pub closed : now.session.ended ≡ Some Closed → IsDone now.session × is_answered now.session.core
-  pub bad : now.session.ended ≡ Some BadInput → IsBad refuses now.session × is_answered now.session.core
+  pub closed : now.session.ended ≡ Some Closed → IsDone now.session × is_answered now.session.state
+  pub bad : now.session.ended ≡ Some BadInput → IsBad refuses now.session × is_answered now.session.state
   pub read_faults : HasFailed ReadFault now.session.ended now.reader.failures
   pub write_faults : HasFailed WriteFault now.session.ended now.writer.failures
 
@@ -46,7 +46,7 @@ EndsSo ended kept = (kept ≡ Some ended) ⊎ ((kept ≡ None) × (ended ≡ Gon
 -- done; an end that is final is kept; and one device is called at most.
 pub record Turned {C R W : Type 0} (answers : C → List ℕ → List ℕ → C → Type 0) (tells : C → List ℕ → C → Type 0)
     (refuses : C → List ℕ → Type 0) (may_answer is_answered is_told may_tell is_over : C → Type 0) (is_gone : Type 0)
-    (limits : Limits) (result : Result Pace Ended) (old new : WithDevices C R W) : Type 0 where
+    (limits : Limits) (result : Result TurnProgress Ended) (old new : WithDevices C R W) : Type 0 where
   pub over : (e : Ended) → old.session.ended ≡ Some e → (result ≡ Err e) × (new ≡ old)
   pub ends : old.session.ended ≡ None → new.session.ended ≡ ended_by result
   pub lasts : (e : Ended) → result ≡ Err e → is_final e ≡ true → new.session.ended ≡ Some e

@@ -9,7 +9,7 @@ use std::marker::Model;
 use std::snapshot::Snapshot;
 
 // What became of which number, and the connections that are back.
-type State<I, O> = (LinkedList<(usize, Option<(I, O)>)>, LinkedList<(I, O)>);
+type ConnectionState<I, O> = (LinkedList<(usize, Option<(I, O)>)>, LinkedList<(I, O)>);
 
 // A connection came in under a number.
 struct Coming<I, O> {
@@ -19,7 +19,7 @@ struct Coming<I, O> {
     writer: Snapshot<O>,
 }
 
-impl<I, O> EntryFrom<Coming<I, O>, State<I, O>> for Coming<I, O> {
+impl<I, O> EntryFrom<Coming<I, O>, ConnectionState<I, O>> for Coming<I, O> {
     ghost use Rattle.std.specs.Prelude.{[], ◌∷◌, ◌++◌, Some};
 
     ghost entry = { λ c. (c.before.value.changes ++ (c.key, Some (c.reader.value, c.writer.value)) ∷ [], c.before.value.back) };
@@ -31,7 +31,7 @@ struct Leaving<I, O> {
     key: usize,
 }
 
-impl<I, O> EntryFrom<Leaving<I, O>, State<I, O>> for Leaving<I, O> {
+impl<I, O> EntryFrom<Leaving<I, O>, ConnectionState<I, O>> for Leaving<I, O> {
     ghost use Rattle.std.specs.Prelude.{[], ◌∷◌, ◌++◌, None, option_to_list};
     ghost use Rattle.ovs_worker.specs.Connections.{out_of};
 
@@ -43,7 +43,7 @@ impl<I, O> EntryFrom<Leaving<I, O>, State<I, O>> for Leaving<I, O> {
 #[derive(Drop)]
 pub struct Connections<I, O> {
     // The state that is kept is the first.
-    states: Snapshot<GhostList<State<I, O>>>,
+    states: Snapshot<GhostList<ConnectionState<I, O>>>,
 }
 
 impl<I, O> Model for Connections<I, O> {
@@ -78,7 +78,7 @@ impl<I, O> Connections<I, O> {
             reader: Snapshot::of(reader),
             writer: Snapshot::of(writer),
         };
-        let mut states = GhostList::<State<I, O>>::new();
+        let mut states = GhostList::<ConnectionState<I, O>>::new();
         states.push_as::<Coming<I, O>, Coming<I, O>>(&coming);
         self.states = Snapshot::of(&states);
         let Coming {
@@ -99,7 +99,7 @@ impl<I, O> Connections<I, O> {
             before: Snapshot::of(self),
             key,
         };
-        let mut states = GhostList::<State<I, O>>::new();
+        let mut states = GhostList::<ConnectionState<I, O>>::new();
         states.push_as::<Leaving<I, O>, Leaving<I, O>>(&leaving);
         self.states = Snapshot::of(&states);
         let Leaving { before: _, key: _ } = leaving;

@@ -12,12 +12,12 @@ ghost use Rattle.ovs_worker.specs.Totals.{totals_of};
 use crate::host::AcceptingHost;
 use crate::poller::{Poller, Timeout, Wakeup};
 use crate::run_queue::{RunQueue, Waits};
-use crate::served::{Served, SlotEnd};
+use crate::session_result::{SessionResult, SlotEnd};
 use crate::session_table::SessionTable;
 use crate::slot::Slot;
 use crate::totals::SessionTotals;
 use ovs_history::GhostList;
-use ovs_session::{Ended, Limits, Pace};
+use ovs_session::{Ended, Limits, TurnProgress};
 use std::alloc::Global;
 use std::snapshot::Snapshot;
 use std::sync::Wait;
@@ -39,7 +39,7 @@ struct EventLoop<V: AcceptingHost, D: Poller> {
     is_short: bool,
     poller: D,
     // The sessions that have ended.
-    served: GhostList<Served<V, D::In, D::Out>>,
+    served: GhostList<SessionResult<V, D::In, D::Out>>,
     ghost agree: { (key : ℕ) → D.out poller key ≡ option_map (λ slot. (slot.read_from.value, slot.write_to.value)) (get sessions.slots key) },
     ghost gave_back: { D.back poller ≡ map (λ s. (s.slot.read_from.value, s.slot.write_to.value)) served },
     ghost adds_up: { totals ≡ totals_of (map (λ s. s.slot.session.counts) served) },
@@ -97,8 +97,8 @@ impl<V: AcceptingHost, D: Poller> EventLoop<V, D> {
         ensures run_queue { (self.new.run_queue.came ≡ self.old.run_queue.came) × (self.new.run_queue.went ≡ self.old.run_queue.went) }
     {
         match self.sessions.turn(key, host) {
-            Some(Ok(Pace::Busy)) => None,
-            Some(Ok(Pace::Idle)) | None => Some(Waits::No),
+            Some(Ok(TurnProgress::Busy)) => None,
+            Some(Ok(TurnProgress::Idle)) | None => Some(Waits::No),
             Some(Err(ended)) if !ended.is_final() => Some(Waits::ForMemory),
             Some(Err(ended)) => {
                 self.end(key, ended, host);
@@ -207,12 +207,12 @@ impl<V: AcceptingHost, D: Poller> EventLoop<V, D> {
         if self.is_short {
             return None;
         }
-        let core = host.begin()?;
+        let state = host.begin()?;
         let Some((reader, writer)) = self.poller.accept(key) else {
-            host.end(&core);
+            host.end(&state);
             return None;
         };
-        let slot = Slot::new(alloc, core, reader, writer, self.limits);
+        let slot = Slot::new(alloc, state, reader, writer, self.limits);
         Some(self.sessions.enter(slot))
     }
 
@@ -286,7 +286,7 @@ impl<V: AcceptingHost, D: Poller> EventLoop<V, D> {
     }
 
     // Ends all sessions.
-    fn close(self, host: &mut V) -> (SessionTotals, D, GhostList<Served<V, D::In, D::Out>>)
+    fn close(self, host: &mut V) -> (SessionTotals, D, GhostList<SessionResult<V, D::In, D::Out>>)
         ensures poller { result.1 ≡ self.poller }
         ensures totals { result.0 ≡ totals_of (map (λ s. s.slot.session.counts) result.2) }
         ensures served { D.back result.1 ≡ map (λ s. (s.slot.read_from.value, s.slot.write_to.value)) result.2 }
@@ -318,7 +318,7 @@ pub fn serve_many<V: AcceptingHost, D: Poller, R: Wait>(
     host: &mut V,
     poller: D,
     limits: Limits,
-) -> (SessionTotals, D, GhostList<Served<V, D::In, D::Out>>)
+) -> (SessionTotals, D, GhostList<SessionResult<V, D::In, D::Out>>)
     requires none { (key : ℕ) → D.out poller key ≡ None }
     requires none_back { D.back poller ≡ [] }
     ensures totals { result.0 ≡ totals_of (map (λ s. s.slot.session.counts) result.2) }

@@ -21,7 +21,7 @@ pub trait SessionHost: Service {
 pub trait AcceptingHost: SessionHost {
     /// What is known of a new session. `None` where no more are taken.
     fn begin(&mut self) -> Option<Self::Session>
-        ensures begins { IfSome result (λ core. Self.begins core) };
+        ensures begins { IfSome result (λ state. Self.begins state) };
 
     /// The worker was woken: there may be something new to tell, to any session.
     fn woken(&mut self);

@@ -7,7 +7,7 @@ ghost use Rattle.ovs_session.specs.Moving.{Moved};
 
 use crate::host::SessionHost;
 use crate::slot::Slot;
-use ovs_session::{Ended, Pace};
+use ovs_session::{Ended, TurnProgress};
 use slab::Slab;
 use std::alloc::{AllocError, Global};
 use std::io::{Read, Write};
@@ -79,7 +79,7 @@ impl<V: SessionHost, R: Read + Drop, W: Write + Drop> SessionTable<V, R, W> {
     }
 
     /// A turn of the session of this number. Every other session is left as it was.
-    pub fn turn(&mut self, key: usize, host: &mut V) -> Option<Result<Pace, Ended>>
+    pub fn turn(&mut self, key: usize, host: &mut V) -> Option<Result<TurnProgress, Ended>>
         ensures others { (other : ℕ) → other ≢ key → get self.new.slots other ≡ get self.old.slots other }
         ensures this { Became (λ a b. (b.began ≡ a.began) × (b.read_from ≡ a.read_from) × (b.write_to ≡ a.write_to) × (b.limits ≡ a.limits)) (get self.old.slots key) (get self.new.slots key) }
         ensures moved { Became (λ a b. Moved V.answers V.tells a.limits.most_unsent (R.remaining a.reader.device) (R.remaining b.reader.device)
@@ -107,7 +107,7 @@ impl<V: SessionHost, R: Read + Drop, W: Write + Drop> SessionTable<V, R, W> {
     /// The session of this number, which is ended at its host and whose number is free then.
     pub fn leave(&mut self, key: usize, host: &mut V) -> Option<Slot<V, R, W>>
         ensures value { result ≡ get self.old.slots key }
-        ensures silent { IfSome result (λ slot. V.is_silent host.new slot.session.core) }
+        ensures silent { IfSome result (λ slot. V.is_silent host.new slot.session.state) }
         ensures stays { (other : V.Session) → V.is_silent host.old other → V.is_silent host.new other }
         ensures gone { get self.new.slots key ≡ None }
         ensures others { (other : ℕ) → other ≢ key → get self.new.slots other ≡ get self.old.slots other }
@@ -119,7 +119,7 @@ impl<V: SessionHost, R: Read + Drop, W: Write + Drop> SessionTable<V, R, W> {
 
     /// Ends all sessions at their host.
     pub fn close(self, host: &mut V)
-        ensures silent { All (λ entry. V.is_silent host.new entry.1.session.core) (entries self.slots) }
+        ensures silent { All (λ entry. V.is_silent host.new entry.1.session.state) (entries self.slots) }
     {
         let SessionTable { slots } = self;
         for (_, slot) in slots {

@@ -6,7 +6,7 @@ ghost use Rattle.ovs_session.specs.Turning.{with_devices};
 ghost use Rattle.ovs_worker.specs.Slots.{IsLawful, Turned};
 
 use crate::host::SessionHost;
-use ovs_session::{Ended, Limits, Pace, Session, turn};
+use ovs_session::{Ended, Limits, Session, TurnProgress, turn};
 use ovs_wire::Counted;
 use std::alloc::Global;
 use std::io::{Read, Write};
@@ -33,20 +33,20 @@ impl<V: SessionHost, R: Read, W: Write> Slot<V, R, W> {
     /// (`note_ready`).
     pub fn new(
         alloc: Global,
-        core: V::Session,
+        state: V::Session,
         reader: R,
         writer: W,
         limits: Limits,
     ) -> Slot<V, R, W>
-        requires begins { V.begins core }
-        ensures began { result.began.value ≡ core }
-        ensures session { result.session ≡ fresh core }
+        requires begins { V.begins state }
+        ensures began { result.began.value ≡ state }
+        ensures session { result.session ≡ fresh state }
         ensures reader { result.read_from.value ≡ reader }
         ensures writer { result.write_to.value ≡ writer }
         ensures limits { result.limits ≡ limits }
     {
-        let began = Snapshot::of(&core);
-        let mut session = Session::new(alloc, core);
+        let began = Snapshot::of(&state);
+        let mut session = Session::new(alloc, state);
         session.read_when_told();
         Slot {
             began,
@@ -74,7 +74,7 @@ impl<V: SessionHost, R: Read, W: Write> Slot<V, R, W> {
     }
 
     /// One turn of the session, as `turn` of `ovs_session` says. What it began with, and its limits, stay.
-    pub fn turn(&mut self, service: &mut V) -> Result<Pace, Ended>
+    pub fn turn(&mut self, service: &mut V) -> Result<TurnProgress, Ended>
         ensures same { (self.new.began ≡ self.old.began) × (self.new.read_from ≡ self.old.read_from)
             × (self.new.write_to ≡ self.old.write_to) × (self.new.limits ≡ self.old.limits) }
         ensures moved { Moved V.answers V.tells self.old.limits.most_unsent (R.remaining self.old.reader.device) (R.remaining self.new.reader.device)
@@ -102,9 +102,9 @@ impl<V: SessionHost, R: Read, W: Write> Slot<V, R, W> {
 
     /// Ends the session at its host.
     pub fn end(&self, host: &mut V)
-        ensures silent { V.is_silent host.new self.now.session.core }
+        ensures silent { V.is_silent host.new self.now.session.state }
         ensures stays { (other : V.Session) → V.is_silent host.old other → V.is_silent host.new other }
     {
-        host.end(self.session.core());
+        host.end(self.session.state());
     }
 }

@@ -36,7 +36,7 @@ use Rattle.ovs_upstream.specs.Requests.{CanBeAsked, schema_request, monitor_requ
 use Rattle.ovs_upstream.specs.Talk.{Reached, talk_of, answer_said, object_in}
 use Rattle.ovs_upstream.specs.declared.error.UpError.TheVariants.{OtherSchema}
 use Rattle.ovs_upstream.specs.declared.up_event.UpEvent.TheVariants.{Send}
-use Rattle.ovs_upstream.specs.declared.up_session.Stage.TheVariants as stage
+use Rattle.ovs_upstream.specs.declared.up_session.SyncState.TheVariants as stage
 use Rattle.ovs_wire.specs.declared.message.Message.{Message}
 use Rattle.ovs_wire.specs.declared.message.Message.TheVariants.{Reply}
 use Rattle.ovs_world.specs.Asking.{schema_reply, whole_monitor}
@@ -108,7 +108,7 @@ module _ (schema : SchemaValue) (chain : List Link) (asked : ℕ) (can : CanBeAs
   behind_name = string (codes "relay") ∷ requests tables ∷ string (id_text asked) ∷ []
 
   -- what comes of the request once its params are read
-  abbrev started : Data × Data × ℕ → Asking answers.Outcome
+  abbrev started : Data × Data × ℕ → Asking answers.RequestOutcome
   started parts = answers.monitor_or_refusal (read_monitor Update3 tables parts.1) >>= λ monitor. Ok (answers.starts_at (start_at folded) parts.0 monitor parts.2 (position_in folded parts.2))
 
   starts : answers.answer [] folded (codes "monitor_cond_since") (monitor_params schema asked)
@@ -130,7 +130,7 @@ module _ (schema : SchemaValue) (chain : List Link) (asked : ℕ) (can : CanBeAs
 
   module _ (s : SessionValue) (goes_on : s.is_ended ≡ false) (new : s.monitors ≡ []) (k : ℕ) (known : Bool) (id : ℕ)
       (comes : answers.answer [] folded (codes "monitor_cond_since") (monitor_params schema asked) ≡ Ok (answers.Starts (answers.reached known id) (made k))) where
-    abbrev reached : Asking answers.Outcome
+    abbrev reached : Asking answers.RequestOutcome
     reached = answers.answer s.monitors folded (codes "monitor_cond_since") (monitor_params schema asked)
 
     reached_is : reached ≡ Ok (answers.Starts (answers.reached known id) (made k))

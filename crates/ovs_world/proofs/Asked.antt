@@ -11,7 +11,7 @@ use Rattle.ovs_upstream.specs.Requests.{schema_request}
 use Rattle.ovs_wire.specs.declared.message.Message.{Message}
 use Rattle.ovs_world.specs.Carrying.{IsIdle, Passes, SendsAny}
 use Rattle.ovs_world.specs.Sessions.{Asks, IsSilent, Replies, Opens}
-use Rattle.ovs_world.specs.declared.session.Session.{Session}
+use Rattle.ovs_world.specs.declared.sim_session.SimSession.{SimSession}
 use Rattle.ovs_world.proofs.Answering.{schema_answered}
 
 never_less : (n : ℕ) → nat_lt n n ≡ false
@@ -24,7 +24,7 @@ true_false e = cc
 pub begins_here : (f : FoldedValue) (begun : ℕ) → begun ≡ start_at f → nat_lt begun (start_at f) ≡ false
 begins_here f begun is = ap (λ (n : ℕ). nat_lt n (start_at f)) is ∙ never_less (start_at f)
 
-module _ (f : FoldedValue) (asked : ℕ) (request : Message) (s t : Session) (asks : Asks f s request t) (begins : s.begun ≡ start_at f) (up : s.up ≡ opening f.database.schema asked)
+module _ (f : FoldedValue) (asked : ℕ) (request : Message) (s t : SimSession) (asks : Asks f s request t) (begins : s.begun ≡ start_at f) (up : s.up ≡ opening f.database.schema asked)
     (reader : s.reader ≡ new_session) (upward : IsIdle s.upward) (downward : IsIdle s.downward) (is : request ≡ schema_request f.database.schema) where
   replied : Replies f s request t → Opens f s.relay s.upstream asked t
   replied replies =

@@ -28,16 +28,16 @@ use Rattle.ovs_query.specs.ConditionReading.{field_named, numbered_from}
 use Rattle.ovs_query.specs.MonitorReading.{read_monitor}
 use Rattle.ovs_query.specs.MonitorSpelling.{SpellsTable, SpellsRequest}
 use Rattle.ovs_query.specs.SelectSpelling.{SpellsShown}
-use Rattle.ovs_query.specs.Shown.{shown_columns, shown_datum}
+use Rattle.ovs_query.specs.Projected.{shown_columns, shown_datum}
 use Rattle.ovs_data.specs.declared.datum.Datum.TheVariants.{Set}
 use Rattle.std.specs.Option.{unwrap_or, option_and_then}
 use Rattle.ovs_data.specs.declared.column.Column.{Column}
-use Rattle.ovs_query.specs.Shown.{id_column}
+use Rattle.ovs_query.specs.Projected.{id_column}
 use Rattle.ovs_query.specs.Whole.{IsWatchedWhole, IsWhole}
 use Rattle.ovs_query.specs.declared.monitor.Notation.TheVariants.{Update3}
 use Rattle.ovs_query.specs.declared.monitor.Watched.{Watched}
-use Rattle.ovs_query.specs.declared.shown.Field.{Field}
-use Rattle.ovs_query.specs.declared.shown.Field.TheVariants.{Id, Version, Column as Numbered}
+use Rattle.ovs_query.specs.declared.projected.Field.{Field}
+use Rattle.ovs_query.specs.declared.projected.Field.TheVariants.{Id, Version, Column as Numbered}
 use Rattle.ovs_query.proofs.MonitorLaws.{monitor_only}
 use Rattle.ovs_upstream.specs.Requests.{AreNamedColumns, CanBeAsked, columns_request, table_request, requests}
 use Rattle.ovs_world.specs.Asking.{whole_watched, whole_watches, whole_monitor}

@@ -8,8 +8,8 @@ use Rattle.ovs_world.specs.Deliveries.{Scene, scene, Leads, StopsHearing, StopsH
 use Rattle.ovs_world.specs.Sessions.{IsNotFed, IsUnheard, IsUnheardNext, with_line}
 use Rattle.ovs_world.specs.declared.error.WorldError.{WorldError}
 use Rattle.ovs_world.specs.declared.error.WorldError.TheVariants.{BadCount, NoSuchNode, NoSession, IdTaken, RowIdsSpent, EpochsSpent, Full, NotReadOnly, TooLarge, NoMemory}
-use Rattle.ovs_world.specs.declared.holding.Counts.{Counts}
-use Rattle.ovs_world.specs.declared.session.Session.{Session}
+use Rattle.ovs_world.specs.declared.holding.Taken.{Taken}
+use Rattle.ovs_world.specs.declared.sim_session.SimSession.{SimSession}
 use Rattle.ovs_world.proofs.Carried.{meets_large}
 use Rattle.ovs_world.proofs.Delivered.{did_choke, did_feed}
 use Rattle.ovs_world.proofs.Moving.{leads_none, leads_on}
@@ -30,7 +30,7 @@ if_err_weaker (Err e) f p = f e p
 
 -- ---- a message that isn't heard
 
-pub unheard_next : (s : Session) (m : Message) (line : Line) (e : WorldError) → Receives s.downward m line → IsUnheard (with_line s line) m e → IsUnheardNext s e
+pub unheard_next : (s : SimSession) (m : Message) (line : Line) (e : WorldError) → Receives s.downward m line → IsUnheard (with_line s line) m e → IsUnheardNext s e
 unheard_next s m line TooLarge r u = record { message = m; line = line; received = r; asks = u }
 unheard_next s m line NoMemory r u = tt
 unheard_next s m line BadCount r u = u
@@ -57,7 +57,7 @@ breaks_hearing source n fed a mid EpochsSpent relays le leads h = h
 breaks_hearing source n fed a mid Full relays le leads h = h
 breaks_hearing source n fed a mid NotReadOnly relays le leads h = h
 
-pub unheard_stops : (source : Stored) (s : Session) (relays : List Stored) (e : WorldError) → IsUnheardNext s e → StopsHearing source s relays e relays
+pub unheard_stops : (source : Stored) (s : SimSession) (relays : List Stored) (e : WorldError) → IsUnheardNext s e → StopsHearing source s relays e relays
 unheard_stops source s relays TooLarge u = (u, refl)
 unheard_stops source s relays NoMemory u = inl refl
 unheard_stops source s relays BadCount u = u
@@ -83,10 +83,10 @@ stops_later source a b NotReadOnly left leads h = h
 
 -- ---- bytes of which one makes a message above the limits
 
-not_fed_leads : (source : Stored) (relays : List Stored) (t u : Session) (counts : Counts) (left : ℕ) (e : WorldError) → u ≡ with_line t u.downward → IsNotFed t left e u
+not_fed_leads : (source : Stored) (relays : List Stored) (t u : SimSession) (counts : Taken) (left : ℕ) (e : WorldError) → u ≡ with_line t u.downward → IsNotFed t left e u
     → (fed : ℕ) × (fed ≤ left) × Leads source fed (scene relays t counts) (scene relays u counts)
 not_fed_leads source relays t u counts left TooLarge is h = (left, omega arith, did_choke source relays t u counts left is h)
-not_fed_leads source relays t u counts left NoMemory is h = (0, omega arith, subst (λ (x : Session). Leads source 0 (scene relays t counts) (scene relays x counts)) (sym h) (leads_none source (scene relays t counts)))
+not_fed_leads source relays t u counts left NoMemory is h = (0, omega arith, subst (λ (x : SimSession). Leads source 0 (scene relays t counts) (scene relays x counts)) (sym h) (leads_none source (scene relays t counts)))
 not_fed_leads source relays t u counts left BadCount is h = absurd h
 not_fed_leads source relays t u counts left NoSuchNode is h = absurd h
 not_fed_leads source relays t u counts left NoSession is h = absurd h
@@ -97,13 +97,13 @@ not_fed_leads source relays t u counts left Full is h = absurd h
 not_fed_leads source relays t u counts left NotReadOnly is h = absurd h
 
 -- whatever the feed answered
-pub feed_leads : (source : Stored) (relays : List Stored) (t u : Session) (counts : Counts) (left : ℕ) (r : Result ℕ WorldError) → u ≡ with_line t u.downward
+pub feed_leads : (source : Stored) (relays : List Stored) (t u : SimSession) (counts : Taken) (left : ℕ) (r : Result ℕ WorldError) → u ≡ with_line t u.downward
     → IfOk r (λ fed. (fed ≡ min left (length t.downward.flight)) × Moves t.downward fed u.downward) → IfErr r (λ e. IsNotFed t left e u)
     → (fed : ℕ) × (fed ≤ left) × Leads source fed (scene relays t counts) (scene relays u counts)
 feed_leads source relays t u counts left (Ok k) is ok err = (k, (let e = ok.0 in omega (arith, e)), did_feed source relays t u counts k (let e = ok.0 in omega (arith, e)) is ok.1)
 feed_leads source relays t u counts left (Err e) is ok err = not_fed_leads source relays t u counts left e is err
 
-pub breaks_feeding : (source : Stored) (n fed left : ℕ) (a : Scene) (relays after : List Stored) (t u v : Session) (counts sums : Counts) (e : WorldError) → fed + left ≡ n
+pub breaks_feeding : (source : Stored) (n fed left : ℕ) (a : Scene) (relays after : List Stored) (t u v : SimSession) (counts sums : Taken) (e : WorldError) → fed + left ≡ n
     → Leads source fed a (scene relays t counts) → u ≡ with_line t u.downward → Leads source 0 (scene relays u counts) (scene after v sums) → IsScene source after v → v.downward.framing.waiting ≡ []
     → v.downward.framing.ending ≡ u.downward.framing.ending → IsNotFed t left e u → BreaksOff source n a e after
 breaks_feeding source n fed left a relays after t u v counts sums TooLarge all told is heard stands waiting ending h = record {
@@ -119,7 +119,7 @@ breaks_feeding source n fed left a relays after t u v counts sums NoMemory all t
   fed = fed + 0;
   within = omega (arith, all);
   at = scene after v sums;
-  moves = leads_on source fed 0 a (scene relays u counts) (scene after v sums) (subst (λ (x : Session). Leads source fed a (scene relays x counts)) (sym h) told) heard;
+  moves = leads_on source fed 0 a (scene relays u counts) (scene after v sums) (subst (λ (x : SimSession). Leads source fed a (scene relays x counts)) (sym h) told) heard;
   left = inl refl;
 }
 breaks_feeding source n fed left a relays after t u v counts sums BadCount all told is heard stands waiting ending h = h

@@ -9,6 +9,7 @@ use Rattle.ovs_wire.specs.declared.error.FrameError.TheVariants as faults
 use Rattle.ovs_wire.specs.declared.error.MessageError.{MessageError}
 use Rattle.ovs_wire.specs.declared.error.MessageError.TheVariants.{NotJson, BadShape, NoMemory}
 use Rattle.ovs_wire.specs.declared.message.Message.{Message}
+use Rattle.ovs_wire.specs.Limits.{most_bytes}
 use Rattle.ovs_wire.specs.Frames.{Ending, Rest, Fault, IsBalanced, IsObject, IsTooLarge, HasFault, AreFrames}
 use Rattle.ovs_wire.specs.Framing.{Framing, IsNew, Feeds, FeedsAfter, Takes, Answers}
 use Rattle.ovs_wire.specs.Texts.{Remain}
@@ -24,8 +25,9 @@ pub carries_nothing : (line : Line) → IsIdle line → Carries line []
 carries_nothing line is = record {
   coming = [];
   texts = subst (λ (w : List (List ℕ)). AllZip IsTextOf [] (w ++ [])) (sym is.0.0) tt;
-  whole = subst (All IsObject) (sym is.0.0) (All-nil IsObject);
-  rest = subst (λ (e : Ending). Remain e line.flight []) (sym is.0.1) is.1;
+  whole = subst (All (IsObject most_bytes)) (sym is.0.0) (All-nil (IsObject most_bytes));
+  rest = subst (λ (e : Ending). Remain most_bytes e line.flight []) (sym is.0.1) is.1;
+  limit = is.0.2;
 }
 
 -- ---- feeding
@@ -44,39 +46,42 @@ others_balanced [] (t ∷ waiting) coming are = absurd are
 
 fed_by : (ending : Ending) (old new : Framing) (flight piece left : List ℕ) (messages : List Message)
     (coming : List (List ℕ)) → flight ≡ piece ++ left → FeedsAfter ending old piece new
-    → AllZip IsTextOf messages (old.waiting ++ coming) → All IsObject old.waiting → Remain ending flight coming
-    → ending ≡ old.ending → Carries (record { framing = new; flight = left }) messages
-fed_by (Rest rest) old new flight piece left messages coming parts feeds texts whole remain same =
+    → AllZip IsTextOf messages (old.waiting ++ coming) → All (IsObject most_bytes) old.waiting → Remain most_bytes ending flight coming
+    → ending ≡ old.ending → old.limit ≡ most_bytes → Carries (record { framing = new; flight = left }) messages
+fed_by (Rest rest) old new flight piece left messages coming parts feeds texts whole remain same limit =
     let all : (rest ++ piece) ++ left ≡ concat coming = append_assoc rest piece left ∙ ap (λ l. rest ++ l) (sym parts) ∙ remain in
-    let cut = cut_anywhere coming (rest ++ piece) left feeds.found new.ending (others_balanced messages old.waiting coming texts) all feeds.frames in
+    let frames = subst (λ (n : ℕ). AreFrames n (rest ++ piece) feeds.found new.ending) limit feeds.frames in
+    let cut = cut_anywhere coming (rest ++ piece) left feeds.found new.ending (others_balanced messages old.waiting coming texts) all frames in
     record {
       coming = cut.1.0;
       texts = subst (λ (l : List (List ℕ)). AllZip IsTextOf messages l)
           (ap (λ l. old.waiting ++ l) (sym cut.1.1) ∙ sym (append_assoc old.waiting feeds.found cut.1.0)
           ∙ ap (λ l. l ++ cut.1.0) (sym feeds.waiting)) texts;
-      whole = subst (All IsObject) (sym feeds.waiting) (All-append IsObject old.waiting feeds.found whole cut.0);
+      whole = subst (All (IsObject most_bytes)) (sym feeds.waiting) (All-append (IsObject most_bytes) old.waiting feeds.found whole cut.0);
       rest = cut.1.2;
+      limit = feeds.limit ∙ limit;
     }
-fed_by (Fault fault) old new flight piece left messages coming parts feeds texts whole remain same =
+fed_by (Fault fault) old new flight piece left messages coming parts feeds texts whole remain same limit =
     record {
       coming = coming;
       texts = subst (λ (n : Framing). AllZip IsTextOf messages (n.waiting ++ coming)) (sym feeds) texts;
-      whole = subst (λ (n : Framing). All IsObject n.waiting) (sym feeds) whole;
-      rest = subst (λ (n : Framing). Remain n.ending left coming) (sym feeds)
-          (subst (λ (e : Ending). Remain e left coming) same remain);
+      whole = subst (λ (n : Framing). All (IsObject most_bytes) n.waiting) (sym feeds) whole;
+      rest = subst (λ (n : Framing). Remain most_bytes n.ending left coming) (sym feeds)
+          (subst (λ (e : Ending). Remain most_bytes e left coming) same remain);
+      limit = ap (λ (n : Framing). n.limit) feeds ∙ limit;
     }
 
 pub carries_fed : (old new : Framing) (flight piece left : List ℕ) (messages : List Message)
     → Carries (record { framing = old; flight = flight }) messages → flight ≡ piece ++ left → Feeds old piece new
     → Carries (record { framing = new; flight = left }) messages
 carries_fed old new flight piece left messages carries parts feeds =
-    fed_by old.ending old new flight piece left messages carries.coming parts feeds carries.texts carries.whole carries.rest refl
+    fed_by old.ending old new flight piece left messages carries.coming parts feeds carries.texts carries.whole carries.rest refl carries.limit
 
 -- a fault, after which what is in flight doesn't count
 fault_stays : (ending : Ending) (fault : FrameError) (flight left : List ℕ) (coming : List (List ℕ)) → ending ≡ Fault fault
-    → Remain ending left coming → Remain ending flight coming
+    → Remain most_bytes ending left coming → Remain most_bytes ending flight coming
 fault_stays ending fault flight left coming is remain =
-    subst (λ (e : Ending). Remain e flight coming) (sym is) (subst (λ (e : Ending). Remain e left coming) is remain)
+    subst (λ (e : Ending). Remain most_bytes e flight coming) (sym is) (subst (λ (e : Ending). Remain most_bytes e left coming) is remain)
 
 pub carries_stopped : (old new : Framing) (fault : FrameError) (flight piece left : List ℕ) (messages : List Message)
     → Carries (record { framing = old; flight = flight }) messages → flight ≡ piece ++ left → Feeds old piece new
@@ -88,6 +93,7 @@ carries_stopped old new fault flight piece left messages carries parts feeds is 
       texts = next.texts;
       whole = next.whole;
       rest = fault_stays new.ending fault flight left next.coming is next.rest;
+      limit = next.limit;
     }
 
 abbrev pub refused : FrameError → Result (Unit {0}) FrameError
@@ -133,8 +139,8 @@ concat_more : (ts : List (List ℕ)) (t : List ℕ) → concat (ts ++ t ∷ []) 
 concat_more [] t = append-nil t
 concat_more (x ∷ ts) t = ap (λ l. x ++ l) (concat_more ts t) ∙ sym (append_assoc x (concat ts) t)
 
-remain_more : (ending : Ending) (flight t : List ℕ) (texts : List (List ℕ)) → Remain ending flight texts
-    → Remain ending (flight ++ t) (texts ++ t ∷ [])
+remain_more : (ending : Ending) (flight t : List ℕ) (texts : List (List ℕ)) → Remain most_bytes ending flight texts
+    → Remain most_bytes ending (flight ++ t) (texts ++ t ∷ [])
 remain_more (Rest rest) flight t texts remain =
     sym (append_assoc rest flight t) ∙ ap (λ l. l ++ t) remain ∙ sym (concat_more texts t)
 remain_more (Fault fault) flight t texts remain =
@@ -149,12 +155,13 @@ carries_sent line messages m t carries is = record {
       (written_more messages (line.framing.waiting ++ carries.coming) m t carries.texts is);
   whole = carries.whole;
   rest = remain_more line.framing.ending line.flight t carries.coming carries.rest;
+  limit = carries.limit;
 }
 
 -- ---- taking out
 
 -- an object nests no deeper than what can be read, and says the message that was written
-object_says : (m : Message) (t : List ℕ) → IsTextOf m t → IsObject t → Says t m
+object_says : (m : Message) (t : List ℕ) → IsTextOf m t → IsObject most_bytes t → Says t m
 object_says m t text object =
     let at = text.written.nested.reached in
     text.written.says (omega (arith, object.limits.nests at.0, at.1))
@@ -168,20 +175,21 @@ pub record Took (line : Line) (text : List ℕ) (messages : List Message) : Type
   pub rest : Carries line more
 
 took_by : (old new : Framing) (flight text : List ℕ) (messages : List Message) (coming : List (List ℕ))
-    → new.ending ≡ old.ending → AllZip IsTextOf messages (text ∷ (new.waiting ++ coming))
-    → All IsObject (text ∷ new.waiting) → Remain old.ending flight coming
+    → new.ending ≡ old.ending → new.limit ≡ most_bytes → AllZip IsTextOf messages (text ∷ (new.waiting ++ coming))
+    → All (IsObject most_bytes) (text ∷ new.waiting) → Remain most_bytes old.ending flight coming
     → Took (record { framing = new; flight = flight }) text messages
-took_by old new flight text [] coming same texts whole remain = absurd texts
-took_by old new flight text (m ∷ ms) coming same texts whole remain = record {
+took_by old new flight text [] coming same limit texts whole remain = absurd texts
+took_by old new flight text (m ∷ ms) coming same limit texts whole remain = record {
   first = m;
   more = ms;
   are = refl;
-  says = object_says m text texts.0 (All-head IsObject text new.waiting whole);
+  says = object_says m text texts.0 (All-head (IsObject most_bytes) text new.waiting whole);
   rest = record {
     coming = coming;
     texts = texts.1;
-    whole = All-tail IsObject text new.waiting whole;
-    rest = subst (λ (e : Ending). Remain e flight coming) (sym same) remain;
+    whole = All-tail (IsObject most_bytes) text new.waiting whole;
+    rest = subst (λ (e : Ending). Remain most_bytes e flight coming) (sym same) remain;
+    limit = limit;
   };
 }
 
@@ -189,9 +197,9 @@ pub carries_taken : (old new : Framing) (flight text : List ℕ) (messages : Lis
     → Carries (record { framing = old; flight = flight }) messages → Takes old text new
     → Took (record { framing = new; flight = flight }) text messages
 carries_taken old new flight text messages carries takes =
-    took_by old new flight text messages carries.coming takes.1
+    took_by old new flight text messages carries.coming takes.1 (takes.2 ∙ carries.limit)
     (subst (λ (l : List (List ℕ)). AllZip IsTextOf messages (l ++ carries.coming)) takes.0 carries.texts)
-    (subst (All IsObject) takes.0 carries.whole) carries.rest
+    (subst (All (IsObject most_bytes)) takes.0 carries.whole) carries.rest
 
 -- the message that was read is the first
 pub took_this : (line : Line) (text : List ℕ) (messages : List Message) (m : Message) → Took line text messages
@@ -212,30 +220,35 @@ says_no_other_error text m NoMemory says refused = refl
 
 -- a text that was fed to a framer that holds nothing, without a fault: it waits, and nothing else
 pub record IsWhole (text : List ℕ) (now : Framing) : Type 0 where
-  pub object : IsObject text
+  pub object : IsObject most_bytes text
   pub waiting : now.waiting ≡ text ∷ []
   pub ending : now.ending ≡ Rest []
+  pub limit : now.limit ≡ most_bytes
 
-fed_alone : (old new : Framing) (text : List ℕ) → IsNew old → Feeds old text new → (found : List (List ℕ)) × AreFrames text found new.ending × (new.waiting ≡ found)
+fed_alone : (old new : Framing) (text : List ℕ) → IsNew most_bytes old → Feeds old text new → (found : List (List ℕ)) × AreFrames most_bytes text found new.ending × (new.waiting ≡ found) × (new.limit ≡ most_bytes)
 fed_alone old new text is feeds =
-    let adds : FeedsAfter (Rest []) old text new = subst (λ (e : Ending). FeedsAfter e old text new) is.1 feeds in
-    (adds.found, adds.frames, adds.waiting ∙ ap (λ (w : List (List ℕ)). w ++ adds.found) is.0)
+    let adds : FeedsAfter (Rest []) old text new = subst (λ (e : Ending). FeedsAfter e old text new) is.1 feeds in (
+      adds.found,
+      subst (λ (n : ℕ). AreFrames n text adds.found new.ending) is.2 adds.frames,
+      adds.waiting ∙ ap (λ (w : List (List ℕ)). w ++ adds.found) is.0,
+      adds.limit ∙ is.2,
+    )
 
 -- there is no fault in an object, and one in every other balanced text
-pub whole_or_large : (old new : Framing) (text : List ℕ) → IsNew old → Feeds old text new → IsBalanced text
-    → IsWhole text new ⊎ (IsTooLarge text × ((fault : FrameError) × (new.ending ≡ Fault fault)))
+pub whole_or_large : (old new : Framing) (text : List ℕ) → IsNew most_bytes old → Feeds old text new → IsBalanced text
+    → IsWhole text new ⊎ (IsTooLarge most_bytes text × ((fault : FrameError) × (new.ending ≡ Fault fault)))
 whole_or_large old new text is feeds balanced = by (object_or_large text balanced)
   where
-    alone : (found : List (List ℕ)) × AreFrames text found new.ending × (new.waiting ≡ found)
+    alone : (found : List (List ℕ)) × AreFrames most_bytes text found new.ending × (new.waiting ≡ found) × (new.limit ≡ most_bytes)
     alone = fed_alone old new text is feeds
 
-    large : (fault : FrameError) → HasFault text fault → IsTooLarge text → IsWhole text new ⊎ (IsTooLarge text × ((fault : FrameError) × (new.ending ≡ Fault fault)))
+    large : (fault : FrameError) → HasFault most_bytes text fault → IsTooLarge most_bytes text → IsWhole text new ⊎ (IsTooLarge most_bytes text × ((fault : FrameError) × (new.ending ≡ Fault fault)))
     large fault has is_large = inr (is_large, (fault, sym (once text [] alone.0 (Fault fault) new.ending (only_fault text fault has) alone.1).1))
 
-    by : IsObject text ⊎ IsTooLarge text → IsWhole text new ⊎ (IsTooLarge text × ((fault : FrameError) × (new.ending ≡ Fault fault)))
+    by : IsObject most_bytes text ⊎ IsTooLarge most_bytes text → IsWhole text new ⊎ (IsTooLarge most_bytes text × ((fault : FrameError) × (new.ending ≡ Fault fault)))
     by (inl object) =
         let same = once text (text ∷ []) alone.0 (Rest []) new.ending (only_object text object) alone.1 in
-        inl (record { object = object; waiting = alone.2 ∙ sym same.0; ending = sym same.1 })
+        inl (record { object = object; waiting = alone.2 ∙ sym same.0; ending = sym same.1; limit = alone.3 })
     by (inr (inl deep)) = large TooDeep deep (inl deep)
     by (inr (inr long)) = large TooLong long (inr long)
 
@@ -261,7 +274,7 @@ passes old mid new m n idle sends all moves answers = (text, sends.1, whole (who
     no_fault (Rest rest) fault is a = absurd cc
     no_fault (Fault f) fault is a = a
 
-    whole : IsWhole text new.framing ⊎ (IsTooLarge text × ((fault : FrameError) × (new.framing.ending ≡ Fault fault))) → IsWhole text new.framing
+    whole : IsWhole text new.framing ⊎ (IsTooLarge most_bytes text × ((fault : FrameError) × (new.framing.ending ≡ Fault fault))) → IsWhole text new.framing
     whole (inl w) = w
     whole (inr large) = absurd (no_fault new.framing.ending large.1.0 large.1.1 answers)
 
@@ -273,12 +286,12 @@ passed_this m other text now new written whole none receives =
     let same : receives.0 ≡ text = cc in
     let rest : new.framing.waiting ≡ [] = cc in (
       one_message text other m (subst (λ (t : List ℕ). Says t other) same receives.1) (object_says m text written whole.object),
-      ((rest, receives.2.1 ∙ whole.ending), receives.3 ∙ none),
+      ((rest, receives.2.1 ∙ whole.ending, receives.2.2 ∙ whole.limit), receives.3 ∙ none),
     )
 
 -- a fault tells that the message is too large
 pub stopped_large : (old mid : Line) (now : Framing) (m : Message) (n : ℕ) (fault : FrameError) → IsIdle old → Sends old m mid → n ≡ length mid.flight → Feeds mid.framing (take n mid.flight) now
-    → now.ending ≡ Fault fault → (text : List ℕ) × IsTextOf m text × IsTooLarge text
+    → now.ending ≡ Fault fault → (text : List ℕ) × IsTextOf m text × IsTooLarge most_bytes text
 stopped_large old mid now m n fault idle sends all fed is = (text, sends.1, large (whole_or_large old.framing now text idle.0 feeds sends.1.written.balanced))
   where
     text : List ℕ
@@ -291,7 +304,7 @@ stopped_large old mid now m n fault idle sends all fed is = (text, sends.1, larg
     feeds = subst (λ (f : Framing). Feeds f text now) (ap (λ (l : Line). l.framing) sends.2)
         (subst (λ (p : List ℕ). Feeds mid.framing p now) (ap (λ k. take k mid.flight) all ∙ take-length mid.flight ∙ flight_is) fed)
 
-    large : IsWhole text now ⊎ (IsTooLarge text × ((fault : FrameError) × (now.ending ≡ Fault fault))) → IsTooLarge text
+    large : IsWhole text now ⊎ (IsTooLarge most_bytes text × ((fault : FrameError) × (now.ending ≡ Fault fault))) → IsTooLarge most_bytes text
     large (inl w) = absurd (let e : Rest [] ≡ Fault fault = sym w.ending ∙ is in cc)
     large (inr l) = l.0
 
@@ -299,13 +312,13 @@ stopped_large old mid now m n fault idle sends all fed is = (text, sends.1, larg
 pub meets_large : (line : Line) (messages : List Message) → Carries line messages → line.framing.waiting ≡ [] → IsFaulty line.framing.ending → MeetsLarge line
 meets_large line messages carries none faulty = let is = over line.framing.ending faulty carries.rest in split messages is carries (zipped is.0 is.1 is.2)
   where
-    over : (e : Ending) → IsFaulty e → Remain e line.flight carries.coming → (large : List ℕ) × (more : List (List ℕ)) × (carries.coming ≡ large ∷ more) × IsTooLarge large
+    over : (e : Ending) → IsFaulty e → Remain most_bytes e line.flight carries.coming → (large : List ℕ) × (more : List (List ℕ)) × (carries.coming ≡ large ∷ more) × IsTooLarge most_bytes large
     over (Rest rest) f r = absurd f
     over (Fault fault) f r = r
 
     zipped : (large : List ℕ) (more : List (List ℕ)) → carries.coming ≡ large ∷ more → AllZip IsTextOf messages (large ∷ more)
     zipped large more e = subst (AllZip IsTextOf messages) (ap (λ (ts : List (List ℕ)). ts ++ carries.coming) none ∙ e) carries.texts
 
-    split : (ms : List Message) (is : (large : List ℕ) × (more : List (List ℕ)) × (carries.coming ≡ large ∷ more) × IsTooLarge large) → Carries line ms → AllZip IsTextOf ms (is.0 ∷ is.1) → MeetsLarge line
+    split : (ms : List Message) (is : (large : List ℕ) × (more : List (List ℕ)) × (carries.coming ≡ large ∷ more) × IsTooLarge most_bytes large) → Carries line ms → AllZip IsTextOf ms (is.0 ∷ is.1) → MeetsLarge line
     split [] is c z = absurd z
     split (m ∷ ms) is c z = record { waiting = none; faulty = faulty; message = m; more = ms; carried = c; large = (is.0, z.0, is.3) }

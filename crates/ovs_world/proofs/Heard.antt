@@ -19,8 +19,8 @@ use Rattle.ovs_upstream.specs.Requests.{monitor_request}
 use Rattle.ovs_upstream.specs.Talk.{Talk, Schema, Reached, Update, Aside, Improper, talk_of}
 use Rattle.ovs_upstream.specs.declared.up_event.UpEvent.TheVariants.{Links, Send, Nothing}
 use Rattle.ovs_upstream.specs.declared.up_session.Heard.{Heard}
-use Rattle.ovs_upstream.specs.declared.up_session.Stage.{Stage}
-use Rattle.ovs_upstream.specs.declared.up_session.Stage.TheVariants.{Opening, Asking, At, Ended}
+use Rattle.ovs_upstream.specs.declared.up_session.SyncState.{SyncState}
+use Rattle.ovs_upstream.specs.declared.up_session.SyncState.TheVariants.{Opening, Asking, At, Ended}
 use Rattle.ovs_upstream.specs.declared.up_session.UpSession.{UpSession}
 use Rattle.ovs_wire.specs.declared.message.Message.{Message}
 use Rattle.ovs_world.specs.Asking.{schema_reply}
@@ -122,7 +122,7 @@ behind_awaits : (schema : SchemaValue) (ls : List Link) (n : ℕ) (asked : ℕ) 
     → StandsBehind ls h k → HasMonitor schema.description.tables n monitors m → TellLinks schema.description.tables ls k m.position more
     → Awaits schema ls n asked h.stage monitors more
 behind_awaits schema ls n asked monitors m more h k behind has links =
-    subst (λ (stage : Stage). Awaits schema ls n asked stage monitors more) (sym behind.stage)
+    subst (λ (stage : SyncState). Awaits schema ls n asked stage monitors more) (sym behind.stage)
     (record { monitor = m; has = has; place = k; stands = behind.stands; links = links })
 
 module _ (schema : SchemaValue) (ls : List Link) (is : IsLine schema.description.tables ls)
@@ -167,7 +167,7 @@ module _ (schema : SchemaValue) (ls : List Link) (is : IsLine schema.description
       let t = tells_link s ls line id a.place (talk_of m) a.stands tells in
       onward (suc a.place) a.monitor t.0 (ap (λ stage. hears_at stage s (talk_of m)) at ∙ t.1) t.2 a.has a.links.1
 
-  by_stage : (stage : Stage) → s.stage ≡ stage → Awaits schema ls n s.asked stage monitors (m ∷ more) → Hears
+  by_stage : (stage : SyncState) → s.stage ≡ stage → Awaits schema ls n s.asked stage monitors (m ∷ more) → Hears
   by_stage Opening at a = schema_first at a
   by_stage Asking at a = answer_first at a
   by_stage (At id) at a = update_first id at a

@@ -31,8 +31,8 @@ use Rattle.ovs_upstream.specs.Talk.{Talk, Schema, Reached, Update, Aside, Improp
 use Rattle.ovs_upstream.specs.declared.up_event.UpEvent.{UpEvent}
 use Rattle.ovs_upstream.specs.declared.up_event.UpEvent.TheVariants.{Links, Send, ReplyFor, Locked, Stolen, Nothing}
 use Rattle.ovs_upstream.specs.declared.up_session.Heard.{Heard}
-use Rattle.ovs_upstream.specs.declared.up_session.Stage.{Stage}
-use Rattle.ovs_upstream.specs.declared.up_session.Stage.TheVariants.{Opening, Asking, At, Ended}
+use Rattle.ovs_upstream.specs.declared.up_session.SyncState.{SyncState}
+use Rattle.ovs_upstream.specs.declared.up_session.SyncState.TheVariants.{Opening, Asking, At, Ended}
 use Rattle.ovs_upstream.specs.declared.up_session.UpSession.{UpSession}
 use Rattle.ovs_wire.specs.declared.message.Message.{Message}
 use Rattle.ovs_world.specs.Awaiting.{IsRelayMonitor, TellsPlace, TellLinks}
@@ -40,7 +40,7 @@ use Rattle.ovs_world.specs.Carrying.{Line, IsIdle, Carries, Sends, SendsAll, Sen
 use Rattle.ovs_world.specs.Leading.{HasMonitor, Awaits, IsLineOf, IsLed}
 use Rattle.ovs_world.specs.Nodes.{Extends, IsNode, folded_in}
 use Rattle.ovs_world.specs.Sessions.{Opens, Asks, IsSilent, Replies, Pumps, Goes, Hears, is_behind, moved_on, with_line}
-use Rattle.ovs_world.specs.declared.session.Session.{Session}
+use Rattle.ovs_world.specs.declared.sim_session.SimSession.{SimSession}
 use Rattle.ovs_world.specs.Asking.{schema_reply}
 use Rattle.ovs_world.proofs.Answering.{schema_answered, monitor_answered}
 use Rattle.ovs_world.proofs.Carried.{carries_nothing, carries_sent}
@@ -114,11 +114,11 @@ true_false : true ≡ false → ⊥
 true_false e = cc
 
 -- what the node's reader is shown is over exactly where the session is behind
-pub led_over : (source node : Stored) (s : Session) → IsLed source node s → is_over s.reader.start (folded_in node) ≡ is_behind (folded_in node) s
+pub led_over : (source node : Stored) (s : SimSession) → IsLed source node s → is_over s.reader.start (folded_in node) ≡ is_behind (folded_in node) s
 led_over source node s is = ap (λ (o : Option ℕ). is_over o (folded_in node)) is.start
 
 -- the first message on its way is heard
-pub led_first : (source node : Stored) (s : Session) (m : Message) (more : List Message) → (is : IsLed source node s) → is.messages ≡ m ∷ more
+pub led_first : (source node : Stored) (s : SimSession) (m : Message) (more : List Message) → (is : IsLed source node s) → is.messages ≡ m ∷ more
     → (h : Heard) × IsHeard source.schema is.line s.reader.shown s.up s.reader.monitors m more h
 led_first source node s m more is are = by is.awaits
   where
@@ -129,7 +129,7 @@ led_first source node s m more is are = by is.awaits
         (subst (λ (ms : List Message). Awaits source.schema is.line s.reader.shown s.up.asked s.up.stage s.reader.monitors ms) are awaits)
 
 -- it tells the chain that the node has folded, of which it was shown the first links
-pub record IsHere (node : Stored) (s : Session) (line : List Link) : Type 0 where
+pub record IsHere (node : Stored) (s : SimSession) (line : List Link) : Type 0 where
   pub start : start_at (folded_in node) ≡ s.begun
   pub begins : start_in node ≡ start_of line
   pub front : node.folded ≡ take (length node.folded) line
@@ -152,7 +152,7 @@ module _ (source node : Stored) (is_node : IsNode source node) where
   begins_at = start_steps node.schema.description.tables no_rows node.folded
 
   -- as a session does that isn't behind
-  here : (s : Session) → (is : IsLed source node s) → is_behind f s ≡ false → IsHere node s is.line
+  here : (s : SimSession) → (is : IsLed source node s) → is_behind f s ≡ false → IsHere node s is.line
   here s is goes_on = by (subst (λ (o : Option ℕ). GoesOn f o s.reader.shown s.reader.head) is.start is.shown.extends)
     where
       by : ((start_at f ≡ s.begun) × ExtendsShown f s.reader.shown s.reader.head) ⊎ (s.begun < start_at f) → IsHere node s is.line
@@ -169,19 +169,19 @@ module _ (source node : Stored) (is_node : IsNode source node) where
           }
 
   -- at its stage, a session that has the same monitors awaits these messages
-  awaits_now : (t : Session) (line : List Link) (n asked : ℕ) (stage : Stage) (monitors : List Subscription) (messages : List Message) → t.reader.shown ≡ n → t.up.asked ≡ asked → t.up.stage ≡ stage
+  awaits_now : (t : SimSession) (line : List Link) (n asked : ℕ) (stage : SyncState) (monitors : List Subscription) (messages : List Message) → t.reader.shown ≡ n → t.up.asked ≡ asked → t.up.stage ≡ stage
       → t.reader.monitors ≡ monitors → Awaits source.schema line n asked stage monitors messages → Awaits source.schema line t.reader.shown t.up.asked t.up.stage t.reader.monitors messages
   awaits_now t line n asked stage monitors messages z a b c awaits =
       subst (λ (x : ℕ). Awaits source.schema line x t.up.asked t.up.stage t.reader.monitors messages) (sym z)
       (subst (λ (x : ℕ). Awaits source.schema line n x t.up.stage t.reader.monitors messages) (sym a)
-      (subst (λ (x : Stage). Awaits source.schema line n asked x t.reader.monitors messages) (sym b)
+      (subst (λ (x : SyncState). Awaits source.schema line n asked x t.reader.monitors messages) (sym b)
       (subst (λ (x : List Subscription). Awaits source.schema line n asked stage x messages) (sym c) awaits)))
 
   -- ---- what is heard
 
-  module _ (s : Session) (m : Message) (way : Line) (more : List Message) (is : IsLed source node s) (carries : Carries way more) where
+  module _ (s : SimSession) (m : Message) (way : Line) (more : List Message) (is : IsLed source node s) (carries : Carries way more) where
     -- the monitor was asked for, of a node that goes on
-    replied_for : (t : Session) → Asks f (moved_on s Asking way) (monitor_request s.up.schema s.up.asked) t → Replies f (moved_on s Asking way) (monitor_request s.up.schema s.up.asked) t
+    replied_for : (t : SimSession) → Asks f (moved_on s Asking way) (monitor_request s.up.schema s.up.asked) t → Replies f (moved_on s Asking way) (monitor_request s.up.schema s.up.asked) t
         → MayBeShown t.reader f → CanBeAsked s.up.schema s.up.asked → s.reader.monitors ≡ [] → more ≡ [] → IsLed source node t
     replied_for t asks replies shown can new none =
         let same : s.up.schema ≡ node.schema = is.schema ∙ sym is_node.schema in
@@ -228,7 +228,7 @@ module _ (source node : Stored) (is_node : IsNode source node) where
         }
 
     -- and of one that has begun anew: it replies nothing
-    asked_in_vain : (t : Session) → Asks f (moved_on s Asking way) (monitor_request s.up.schema s.up.asked) t → IsSilent f (moved_on s Asking way) t → MayBeShown t.reader f → more ≡ [] → IsLed source node t
+    asked_in_vain : (t : SimSession) → Asks f (moved_on s Asking way) (monitor_request s.up.schema s.up.asked) t → IsSilent f (moved_on s Asking way) t → MayBeShown t.reader f → more ≡ [] → IsLed source node t
     asked_in_vain t asks silent shown none = record {
       schema = ap (λ (u : UpSession). u.schema) asks.up ∙ is.schema;
       says = subst (λ (u : UpSession). read_description u.schema.json ≡ Ok u.schema.description) (sym asks.up) is.says;
@@ -244,14 +244,14 @@ module _ (source node : Stored) (is_node : IsNode source node) where
       awaits = inl (none, ap (λ (n : ℕ). nat_lt n (start_at f)) asks.ends.2 ∙ silent.behind);
     }
 
-    asked_for : (t : Session) → Asks f (moved_on s Asking way) (monitor_request s.up.schema s.up.asked) t → MayBeShown t.reader f
+    asked_for : (t : SimSession) → Asks f (moved_on s Asking way) (monitor_request s.up.schema s.up.asked) t → MayBeShown t.reader f
         → CanBeAsked s.up.schema s.up.asked → s.reader.monitors ≡ [] → more ≡ [] → IsLed source node t
     asked_for t asks shown can new none =
         ⊎_elim (λ (silent : IsSilent f (moved_on s Asking way) t). asked_in_vain t asks silent shown none)
         (λ (replies : Replies f (moved_on s Asking way) (monitor_request s.up.schema s.up.asked) t). replied_for t asks replies shown can new none) asks.answered
 
     -- nothing has to be asked
-    went_on : (stage : Stage) → Awaits source.schema is.line s.reader.shown s.up.asked stage s.reader.monitors more → IsLed source node (moved_on s stage way)
+    went_on : (stage : SyncState) → Awaits source.schema is.line s.reader.shown s.up.asked stage s.reader.monitors more → IsLed source node (moved_on s stage way)
     went_on stage awaits = record {
       schema = is.schema;
       says = is.says;
@@ -267,7 +267,7 @@ module _ (source node : Stored) (is_node : IsNode source node) where
       awaits = inr awaits;
     }
 
-    heard_by : (stage : Stage) (event : UpEvent) (t : Session) (h : Heard) → heard stage event ≡ Ok h → (s.up.stage ≡ Opening → stage ≡ Asking → CanBeAsked s.up.schema s.up.asked)
+    heard_by : (stage : SyncState) (event : UpEvent) (t : SimSession) (h : Heard) → heard stage event ≡ Ok h → (s.up.stage ≡ Opening → stage ≡ Asking → CanBeAsked s.up.schema s.up.asked)
         → MayBeShown t.reader f → Goes f (moved_on s stage way) event t → IsHeard source.schema is.line s.reader.shown s.up s.reader.monitors m more h
         → AllOf (Holds source.links) (links_in event) × IsLed source node t
     heard_by stage event t h same can shown goes first = by first.then
@@ -284,13 +284,13 @@ module _ (source node : Stored) (is_node : IsNode source node) where
             let e : event ≡ Nothing = event_is ∙ none in
             let t_is : t ≡ moved_on s stage way = subst (λ (x : UpEvent). Goes f (moved_on s stage way) x t) e goes in (
               subst (λ (x : UpEvent). AllOf (Holds source.links) (links_in x)) (sym e) tt,
-              subst (IsLed source node) (sym t_is) (went_on stage (subst (λ (x : Stage). Awaits source.schema is.line s.reader.shown s.up.asked x s.reader.monitors more) (sym stage_is) awaits)),
+              subst (IsLed source node) (sym t_is) (went_on stage (subst (λ (x : SyncState). Awaits source.schema is.line s.reader.shown s.up.asked x s.reader.monitors more) (sym stage_is) awaits)),
             )
         by_event awaits (inr some) =
             let e : event ≡ Links (some.0 ∷ []) = event_is ∙ some.1 in
             let t_is : t ≡ moved_on s stage way = subst (λ (x : UpEvent). Goes f (moved_on s stage way) x t) e goes in (
               subst (λ (x : UpEvent). AllOf (Holds source.links) (links_in x)) (sym e) (line_held source is.line is.is_line some.0 some.2, tt),
-              subst (IsLed source node) (sym t_is) (went_on stage (subst (λ (x : Stage). Awaits source.schema is.line s.reader.shown s.up.asked x s.reader.monitors more) (sym stage_is) awaits)),
+              subst (IsLed source node) (sym t_is) (went_on stage (subst (λ (x : SyncState). Awaits source.schema is.line s.reader.shown s.up.asked x s.reader.monitors more) (sym stage_is) awaits)),
             )
 
         by : ((h.stage ≡ Asking) × (h.event ≡ Send (monitor_request s.up.schema s.up.asked)) × (s.up.stage ≡ Opening) × (s.reader.monitors ≡ []) × (more ≡ []))
@@ -301,13 +301,13 @@ module _ (source node : Stored) (is_node : IsNode source node) where
             let e : event ≡ Send (monitor_request s.up.schema s.up.asked) = event_is ∙ a.1 in
             let st : stage ≡ Asking = stage_is ∙ a.0 in
             let asks : Asks f (moved_on s Asking way) (monitor_request s.up.schema s.up.asked) t =
-            subst (λ (x : Stage). Asks f (moved_on s x way) (monitor_request s.up.schema s.up.asked) t) st
+            subst (λ (x : SyncState). Asks f (moved_on s x way) (monitor_request s.up.schema s.up.asked) t) st
             (subst (λ (x : UpEvent). Goes f (moved_on s stage way) x t) e goes) in (
               subst (λ (x : UpEvent). AllOf (Holds source.links) (links_in x)) (sym e) tt,
               asked_for t asks shown (can a.2 st) a.3 a.4,
             )
 
-  pub led_heard : (s : Session) (m : Message) (way : Line) (more : List Message) (stage : Stage) (event : UpEvent) (t : Session) → (is : IsLed source node s)
+  pub led_heard : (s : SimSession) (m : Message) (way : Line) (more : List Message) (stage : SyncState) (event : UpEvent) (t : SimSession) → (is : IsLed source node s)
       → is.messages ≡ m ∷ more → Carries way more → hears s.up m ≡ heard stage event → (s.up.stage ≡ Opening → stage ≡ Asking → CanBeAsked s.up.schema s.up.asked)
       → MayBeShown t.reader f → Goes f (moved_on s stage way) event t → AllOf (Holds source.links) (links_in event) × IsLed source node t
   led_heard s m way more stage event t is are carries hears_is can shown goes =
@@ -342,7 +342,7 @@ module _ (source node : Stored) (is_node : IsNode source node) where
       none [] k = refl
       none (s ∷ ss) k = none ss (k + 1)
 
-  module _ (s t : Session) (is : IsLed source node s) (pumps : Pumps f s t) (readable : AreToldReadably s.reader.monitors f.steps) (shown : MayBeShown t.reader f) where
+  module _ (s t : SimSession) (is : IsLed source node s) (pumps : Pumps f s t) (readable : AreToldReadably s.reader.monitors f.steps) (shown : MayBeShown t.reader f) where
     at : IsHere node s is.line
     at = here s is pumps.goes_on
 
@@ -367,7 +367,7 @@ module _ (source node : Stored) (is_node : IsNode source node) where
     abbrev more : List Message
     more = told s.reader.monitors f.steps
 
-    told_on : (stage : Stage) → Awaits source.schema line s.reader.shown s.up.asked stage s.reader.monitors is.messages → Awaits source.schema line count s.up.asked stage t.reader.monitors (is.messages ++ more)
+    told_on : (stage : SyncState) → Awaits source.schema line s.reader.shown s.up.asked stage s.reader.monitors is.messages → Awaits source.schema line count s.up.asked stage t.reader.monitors (is.messages ++ more)
     told_on Opening a = (
       ap (λ (r : SessionValue). r.monitors) pumps.reader ∙ ap (map (moved_to (length f.steps))) a.0,
       ap (λ (ms : List Message). is.messages ++ ms) (ap (λ (ms : List Subscription). told ms f.steps) a.0 ∙ told_none) ∙ append-nil is.messages ∙ a.1,
@@ -413,7 +413,7 @@ module _ (source node : Stored) (is_node : IsNode source node) where
             (λ (a : Awaits source.schema line s.reader.shown s.up.asked s.up.stage s.reader.monitors is.messages). a) is.awaits
 
   -- a session that was opened
-  pub led_opened : IsSource source → (relay upstream asked : ℕ) (t : Session) → Opens f relay upstream asked t → MayBeShown t.reader f
+  pub led_opened : IsSource source → (relay upstream asked : ℕ) (t : SimSession) → Opens f relay upstream asked t → MayBeShown t.reader f
       → read_description t.up.schema.json ≡ Ok t.up.schema.description → IsLed source node t
   led_opened is_source relay upstream asked t opens shown says =
       let answered = schema_answered f new_session refl in
@@ -436,7 +436,7 @@ module _ (source node : Stored) (is_node : IsNode source node) where
       }
 
 -- what is on its way came nearer
-pub led_fed : (source node : Stored) (s : Session) (way : Line) → IsLed source node s → ((messages : List Message) → Carries s.downward messages → Carries way messages)
+pub led_fed : (source node : Stored) (s : SimSession) (way : Line) → IsLed source node s → ((messages : List Message) → Carries s.downward messages → Carries way messages)
     → IsLed source node (moved_on s s.up.stage way)
 led_fed source node s way is keeps = record {
   schema = is.schema;
@@ -454,17 +454,17 @@ led_fed source node s way is keeps = record {
 }
 
 -- what the relay's end heard doesn't depend on what it has to send
-goes_up : (f : FoldedValue) (s t : Session) (event : UpEvent) → Goes f s event t → t.up ≡ s.up
-goes_up f s t (Links ls) goes = ap (λ (x : Session). x.up) goes
+goes_up : (f : FoldedValue) (s t : SimSession) (event : UpEvent) → Goes f s event t → t.up ≡ s.up
+goes_up f s t (Links ls) goes = ap (λ (x : SimSession). x.up) goes
 goes_up f s t (Send m) goes = goes.up
-goes_up f s t (ReplyFor n a) goes = ap (λ (x : Session). x.up) goes
-goes_up f s t (Locked name) goes = ap (λ (x : Session). x.up) goes
-goes_up f s t (Stolen name) goes = ap (λ (x : Session). x.up) goes
-goes_up f s t Nothing goes = ap (λ (x : Session). x.up) goes
+goes_up f s t (ReplyFor n a) goes = ap (λ (x : SimSession). x.up) goes
+goes_up f s t (Locked name) goes = ap (λ (x : SimSession). x.up) goes
+goes_up f s t (Stolen name) goes = ap (λ (x : SimSession). x.up) goes
+goes_up f s t Nothing goes = ap (λ (x : SimSession). x.up) goes
 
 -- the first message that is whole
 pub led_next : (source node : Stored) → IsNode source node
-    → (s t : Session) (m : Message) (way : Line) (more : List Message) (links : List Link) → (is : IsLed source node s) → is.messages ≡ m ∷ more → Carries way more
+    → (s t : SimSession) (m : Message) (way : Line) (more : List Message) (links : List Link) → (is : IsLed source node s) → is.messages ≡ m ∷ more → Carries way more
     → Hears (folded_in node) (with_line s way) m links t → (s.up.stage ≡ Opening → t.up.stage ≡ Asking → CanBeAsked s.up.schema s.up.asked) → MayBeShown t.reader (folded_in node)
     → AllOf (Holds source.links) links × IsLed source node t
 led_next source node is_node s t m way more links is are carries hears_is can shown =
@@ -476,7 +476,7 @@ led_next source node is_node s t m way more links is are carries hears_is can sh
 -- ---- a node that took more
 
 -- what it has folded goes on
-pub led_goes_on : (source node more : Stored) (s : Session) → more.schema ≡ node.schema → IsStore more → GrowsInto node.folded more.folded → IsLed source node s → IsLed source more s
+pub led_goes_on : (source node more : Stored) (s : SimSession) → more.schema ≡ node.schema → IsStore more → GrowsInto node.folded more.folded → IsLed source node s → IsLed source more s
 led_goes_on source node more s schema store grows is = record {
   schema = is.schema;
   says = is.says;
@@ -497,5 +497,5 @@ led_goes_on source node more s schema store grows is = record {
     behind e = over_later (folded_in node) (folded_in more) (Some s.begun)
         (subst (λ (v : SchemaValue). StepsGoOn (folded_in node).steps (steps_of v.description.tables no_rows more.folded)) (sym schema) (grown_steps (tables_of node) node.folded more.folded grows)) e
 
-pub led_grows : (source node more : Stored) (s : Session) → Extends node more → IsLed source node s → IsLed source more s
+pub led_grows : (source node more : Stored) (s : SimSession) → Extends node more → IsLed source node s → IsLed source more s
 led_grows source node more s extends is = led_goes_on source node more s extends.schema extends.store extends.grows is

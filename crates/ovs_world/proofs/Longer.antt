@@ -26,8 +26,8 @@ use Rattle.ovs_source.specs.declared.trim_error.TrimError.{TrimError}
 use Rattle.ovs_source.specs.declared.trim_error.TrimError.TheVariants as trimming
 use Rattle.ovs_upstream.specs.Lawful.{IsAt, IsLinkAt, Answers}
 use Rattle.ovs_upstream.specs.Talk.{Talk, Schema, Reached, Update, Aside, Improper, talk_of}
-use Rattle.ovs_upstream.specs.declared.up_session.Stage.{Stage}
-use Rattle.ovs_upstream.specs.declared.up_session.Stage.TheVariants.{Opening, Asking, At, Ended}
+use Rattle.ovs_upstream.specs.declared.up_session.SyncState.{SyncState}
+use Rattle.ovs_upstream.specs.declared.up_session.SyncState.TheVariants.{Opening, Asking, At, Ended}
 use Rattle.ovs_reader.specs.declared.subscription.Subscription.{Subscription}
 use Rattle.ovs_wire.specs.declared.message.Message.{Message}
 use Rattle.ovs_world.specs.Awaiting.{TellsPlace, TellsLink, TellLinks}
@@ -35,7 +35,7 @@ use Rattle.ovs_world.specs.Leading.{Awaits, IsLineOf, IsLed}
 use Rattle.ovs_world.specs.Nodes.{Extends, IsNode, IsTier, folded_in, node_at}
 use Rattle.ovs_world.specs.Sessions.{is_behind}
 use Rattle.ovs_world.specs.Worlds.{IsOpen, IsWorld}
-use Rattle.ovs_world.specs.declared.session.Session.{Session}
+use Rattle.ovs_world.specs.declared.sim_session.SimSession.{SimSession}
 use Rattle.ovs_world.proofs.Led.{led_grows}
 use Rattle.ovs_world.proofs.Lines.{LineGoesOn, keeps_lines, begins_lines}
 
@@ -80,7 +80,7 @@ module _ (tables : List Table) (ls more : List Link) (begins : start_of (ls ++ m
   links_more k t [] a = a
   links_more k t (m ∷ ms) a = (update_more k (talk_of m) a.0, links_more (suc k) t ms a.1)
 
-awaits_more : (schema : SchemaValue) (ls more : List Link) → start_of (ls ++ more) ≡ start_of ls → (n asked : ℕ) (stage : Stage) (monitors : List Subscription) (messages : List Message)
+awaits_more : (schema : SchemaValue) (ls more : List Link) → start_of (ls ++ more) ≡ start_of ls → (n asked : ℕ) (stage : SyncState) (monitors : List Subscription) (messages : List Message)
     → Awaits schema ls n asked stage monitors messages → Awaits schema (ls ++ more) n asked stage monitors messages
 awaits_more schema ls more begins n asked Opening monitors messages a = a
 awaits_more schema ls more begins n asked Asking monitors messages a = record {
@@ -110,7 +110,7 @@ pub record Makes (s t : Stored) : Type 0 where
   pub lines : (line : List Link) → IsLineOf s line → LineGoesOn t line
 
 module _ (s t : Stored) (makes : Makes s t) where
-  led_more : (node : Stored) (x : Session) → IsLed s node x → IsLed t node x
+  led_more : (node : Stored) (x : SimSession) → IsLed s node x → IsLed t node x
   led_more node x is =
       let goes = makes.lines is.line is.is_line in
       record {
@@ -146,7 +146,7 @@ module _ (s t : Stored) (makes : Makes s t) where
     tier_more : IsSource t → IsTier s relays → IsTier t relays
     tier_more source tier = record { is_source = source; store = makes.extends.store; each = each_more relays tier.each }
 
-    at_node : (n : ℕ) (x : Session) → n ≤ length relays → IsLed s (node_at s relays n) x → IsLed t (node_at t relays n) x
+    at_node : (n : ℕ) (x : SimSession) → n ≤ length relays → IsLed s (node_at s relays n) x → IsLed t (node_at t relays n) x
     at_node zero x le is = led_grows t s t x makes.extends (led_more s x is)
     at_node (suc i) x le is = subst (λ (v : Stored). IsLed t v x) (same relays i (omega (arith, le))) (led_more (get_or relays i s) x is)
       where
@@ -155,15 +155,15 @@ module _ (s t : Stored) (makes : Makes s t) where
         same (y ∷ ss) zero lt = refl
         same (y ∷ ss) (suc i) lt = same ss i (omega (arith, lt))
 
-    open_more : (o : Option Session) → IsOpen s relays o → IsOpen t relays o
+    open_more : (o : Option SimSession) → IsOpen s relays o → IsOpen t relays o
     open_more None is = is
     open_more (Some x) is = (record { relay = is.0.relay; upstream = is.0.upstream; led = at_node x.upstream x is.0.upstream is.0.led }, is.1)
 
-    sessions_more : (os : List (Option Session)) → AllByRecursion (IsOpen s relays) os → AllByRecursion (IsOpen t relays) os
+    sessions_more : (os : List (Option SimSession)) → AllByRecursion (IsOpen s relays) os → AllByRecursion (IsOpen t relays) os
     sessions_more [] a = tt
     sessions_more (o ∷ os) a = (open_more o a.0, sessions_more os a.1)
 
-    pub world_made : (fresh rest : ℕ) (os : List (Option Session)) → IsSource t → IsWorld (record { source = s; fresh = fresh; relays = relays; sessions = os })
+    pub world_made : (fresh rest : ℕ) (os : List (Option SimSession)) → IsSource t → IsWorld (record { source = s; fresh = fresh; relays = relays; sessions = os })
         → IsWorld (record { source = t; fresh = rest; relays = relays; sessions = os })
     world_made fresh rest os source w = record { tier = tier_more source w.tier; sessions = sessions_more os w.sessions }
 
@@ -181,7 +181,7 @@ lead_grown s t id (Some rows) None h = h.1
 lead_grown s t id (Some rows) (Some l) h = h.2
 
 pub transacted : (s t : Stored) (fresh rest : ℕ) (a : Asked) (o : Outcome) → TransactsTo s fresh a (Ok o) t rest → Grown s o.link t
-transacted s t fresh rest a o h = lead_grown s t a.id (effect_in s a h.1.given).rows o.link h.1.leads
+transacted s t fresh rest a o h = lead_grown s t a.id (effect_in s a h.1.row_ids).rows o.link h.1.leads
 
 no_room : (s t : Stored) (id : ℕ) (rows : Option Rows) → FindsNoRoom s id rows t → t ≡ s
 no_room s t id None h = absurd h
@@ -214,14 +214,14 @@ makes_commit s t l source store is keeps =
       lines = keeps_lines s t (Some l) schema keeps;
     }
 
-pub world_committed : (s t : Stored) (fresh rest : ℕ) (relays : List Stored) (os : List (Option Session)) (made : Option Link) → IsWorld (record { source = s; fresh = fresh; relays = relays; sessions = os })
+pub world_committed : (s t : Stored) (fresh rest : ℕ) (relays : List Stored) (os : List (Option SimSession)) (made : Option Link) → IsWorld (record { source = s; fresh = fresh; relays = relays; sessions = os })
     → Grown s made t → KeepsHistory s made t → IsSource t → IsStore t → IsWorld (record { source = t; fresh = rest; relays = relays; sessions = os })
 world_committed s t fresh rest relays os None w same keeps source store =
     subst (λ (x : Stored). IsWorld (record { source = x; fresh = rest; relays = relays; sessions = os })) (sym same) (record { tier = w.tier; sessions = w.sessions })
 world_committed s t fresh rest relays os (Some l) w grown keeps source store =
     world_made s t (makes_commit s t l w.tier.is_source store grown keeps) relays fresh rest os source w
 
-pub world_same : (s t : Stored) (fresh rest : ℕ) (relays : List Stored) (os : List (Option Session)) → IsWorld (record { source = s; fresh = fresh; relays = relays; sessions = os })
+pub world_same : (s t : Stored) (fresh rest : ℕ) (relays : List Stored) (os : List (Option SimSession)) → IsWorld (record { source = s; fresh = fresh; relays = relays; sessions = os })
     → t ≡ s → IsWorld (record { source = t; fresh = rest; relays = relays; sessions = os })
 world_same s t fresh rest relays os w same =
     subst (λ (x : Stored). IsWorld (record { source = x; fresh = rest; relays = relays; sessions = os })) (sym same) (record { tier = w.tier; sessions = w.sessions })
@@ -252,7 +252,7 @@ makes_epoch s t id l source store trims begins =
       lines = begins_lines s t l schema begins;
     }
 
-pub world_trimmed : (s t : Stored) (fresh : ℕ) (relays : List Stored) (os : List (Option Session)) (id : ℕ) (l : Link) → IsWorld (record { source = s; fresh = fresh; relays = relays; sessions = os })
+pub world_trimmed : (s t : Stored) (fresh : ℕ) (relays : List Stored) (os : List (Option SimSession)) (id : ℕ) (l : Link) → IsWorld (record { source = s; fresh = fresh; relays = relays; sessions = os })
     → TrimsTo s id (Ok l) t → BeginsEpoch s l t → IsSource t → IsStore t → IsWorld (record { source = t; fresh = fresh; relays = relays; sessions = os })
 world_trimmed s t fresh relays os id l w trims begins source store =
     world_made s t (makes_epoch s t id l w.tier.is_source store trims begins) relays fresh fresh os source w

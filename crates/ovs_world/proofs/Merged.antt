@@ -14,7 +14,7 @@ use Rattle.ovs_links.proofs.JoinLemmas.{in_join, join_left, join_is_set}
 use Rattle.ovs_source.specs.Commits.{IsSource}
 use Rattle.ovs_world.specs.Nodes.{IsNode, IsTier, Extends, Grow, LeavesMerge, MergesNodes, LeavesMergeOfNodes, node_at}
 use Rattle.ovs_world.specs.Worlds.{IsWorld}
-use Rattle.ovs_world.specs.declared.session.Session.{Session}
+use Rattle.ovs_world.specs.declared.sim_session.SimSession.{SimSession}
 use Rattle.ovs_world.proofs.Counting.{few_held}
 use Rattle.ovs_world.proofs.Held.{node_settled}
 use Rattle.ovs_world.proofs.Opened.{sessions_grow, relay_at}
@@ -134,7 +134,7 @@ module _ (source : Stored) (relays : List Stored) (into from : ℕ) (places : Ar
           (subst (λ (x : Stored). Extends x new) (s_is ∙ sym (relay_at source relays into s places.0 places.1)) more))
 
 -- some relays have more, and the sessions are as they were
-pub world_grown : (source : Stored) (fresh : ℕ) (ss ts us : List Stored) (os : List (Option Session)) → IsWorld (record { source = source; fresh = fresh; relays = ss; sessions = os })
+pub world_grown : (source : Stored) (fresh : ℕ) (ss ts us : List Stored) (os : List (Option SimSession)) → IsWorld (record { source = source; fresh = fresh; relays = ss; sessions = os })
     → IsTier source ts → Grow ss ts → us ≡ ts → IsWorld (record { source = source; fresh = fresh; relays = us; sessions = os })
 world_grown source fresh ss ts us os w tier grow us_is =
     subst (λ (x : List Stored). IsWorld (record { source = source; fresh = fresh; relays = x; sessions = os })) (sym us_is)

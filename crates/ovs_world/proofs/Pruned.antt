@@ -9,7 +9,7 @@ use Rattle.ovs_links.specs.Store.{Stored, IsStore}
 use Rattle.ovs_world.specs.Leading.{IsLed}
 use Rattle.ovs_world.specs.Nodes.{IsNode, IsTier, DropsOld, node_at}
 use Rattle.ovs_world.specs.Worlds.{IsOpen, IsWorld}
-use Rattle.ovs_world.specs.declared.session.Session.{Session}
+use Rattle.ovs_world.specs.declared.sim_session.SimSession.{SimSession}
 use Rattle.ovs_world.proofs.Led.{led_goes_on}
 use Rattle.ovs_world.proofs.Opened.{all_weaker, other_node, relay_at}
 use Rattle.ovs_world.proofs.Scenes.{node_of, tier_set}
@@ -45,7 +45,7 @@ module _ (source : Stored) (ss : List Stored) (r : ℕ) (place : (0 < r) × (r �
       let last = place.1 in
       sym (relay_at source after r t place.0 (omega (arith, last, long))) ∙ get_or-set_same ss (r - 1) t t (omega (arith, first, last))
 
-  led_after : (x : Session) → IsLed source (node_at source ss x.upstream) x → IsLed source (node_at source after x.upstream) x
+  led_after : (x : SimSession) → IsLed source (node_at source ss x.upstream) x → IsLed source (node_at source after x.upstream) x
   led_after x led = ⊎_elim
       (λ (same : x.upstream ≡ r).
       (let before : IsLed source s x = subst (λ (n : Stored). IsLed source n x) (ap (node_at source ss) same ∙ sym s_is) led in
@@ -54,7 +54,7 @@ module _ (source : Stored) (ss : List Stored) (r : ℕ) (place : (0 < r) × (r �
       (led_goes_on source s t x (is_node.schema ∙ sym was.schema) is_node.store grows before)))
       (λ (other : x.upstream ≢ r). subst (λ (n : Stored). IsLed source n x) (other_node source ss r t place.0 x.upstream other) led) (cases_eq x.upstream r)
 
-  open_after : (o : Option Session) → IsOpen source ss o → IsOpen source after o
+  open_after : (o : Option SimSession) → IsOpen source ss o → IsOpen source after o
   open_after None is = is
   open_after (Some x) is =
       let long : length after ≡ length ss = length-set ss (r - 1) t in
@@ -65,6 +65,6 @@ module _ (source : Stored) (ss : List Stored) (r : ℕ) (place : (0 < r) × (r �
   pub tier_after : IsTier source after
   tier_after = tier_set source ss (r - 1) t tier is_node
 
-  pub world_after : (fresh : ℕ) (os : List (Option Session)) → IsWorld (record { source = source; fresh = fresh; relays = ss; sessions = os })
+  pub world_after : (fresh : ℕ) (os : List (Option SimSession)) → IsWorld (record { source = source; fresh = fresh; relays = ss; sessions = os })
       → IsWorld (record { source = source; fresh = fresh; relays = after; sessions = os })
   world_after fresh os w = record { tier = tier_after; sessions = all_weaker (IsOpen source ss) (IsOpen source after) os open_after w.sessions }

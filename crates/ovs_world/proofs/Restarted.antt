@@ -6,7 +6,7 @@ use Rattle.ovs_links.specs.Store.{Stored}
 use Rattle.ovs_world.specs.Leading.{IsLed}
 use Rattle.ovs_world.specs.Nodes.{IsNode}
 use Rattle.ovs_world.specs.Worlds.{IsOpen, IsWorld, cut_of, empty_store}
-use Rattle.ovs_world.specs.declared.session.Session.{Session}
+use Rattle.ovs_world.specs.declared.sim_session.SimSession.{SimSession}
 use Rattle.ovs_world.proofs.Faithful.{empty_is_store, none_held}
 use Rattle.ovs_world.proofs.Opened.{other_node}
 use Rattle.ovs_world.proofs.Scenes.{tier_set}
@@ -25,7 +25,7 @@ module _ (source : Stored) (ss : List Stored) (r : ℕ) (place : (0 < r) × (r �
   abbrev anew : List Stored
   anew = slice_set ss (r - 1) (empty_store source.schema)
 
-  open_anew : (o : Option Session) → IsOpen source ss o → IsOpen source anew (cut_of r o)
+  open_anew : (o : Option SimSession) → IsOpen source ss o → IsOpen source anew (cut_of r o)
   open_anew None is = is
   open_anew (Some s) is = by (s.relay == r || s.upstream == r) refl
     where
@@ -38,17 +38,17 @@ module _ (source : Stored) (ss : List Stored) (r : ℕ) (place : (0 < r) × (r �
           let upstream = is.0.upstream in
           (record { relay = (relay.0, omega (arith, relay.1, long)); upstream = omega (arith, upstream, long); led = subst (λ (n : Stored). IsLed source n s) (other_node source ss r (empty_store source.schema) place.0 s.upstream other) is.0.led }, is.1)
 
-  sessions_anew : (os : List (Option Session)) → AllByRecursion (IsOpen source ss) os → AllByRecursion (IsOpen source anew) (map (cut_of r) os)
+  sessions_anew : (os : List (Option SimSession)) → AllByRecursion (IsOpen source ss) os → AllByRecursion (IsOpen source anew) (map (cut_of r) os)
   sessions_anew [] a = tt
   sessions_anew (o ∷ os) a = (open_anew o a.0, sessions_anew os a.1)
 
-  pub world_restarted : (fresh : ℕ) (os : List (Option Session)) → IsWorld (record { source = source; fresh = fresh; relays = ss; sessions = os })
+  pub world_restarted : (fresh : ℕ) (os : List (Option SimSession)) → IsWorld (record { source = source; fresh = fresh; relays = ss; sessions = os })
       → IsWorld (record { source = source; fresh = fresh; relays = anew; sessions = map (cut_of r) os })
   world_restarted fresh os w = record { tier = tier_set source ss (r - 1) (empty_store source.schema) w.tier (empty_node source); sessions = sessions_anew os w.sessions }
 
 -- one more of them is cut
-pub one_cut : (r : ℕ) (os : List (Option Session)) (i : ℕ) (d : Option Session) → i < length os
+pub one_cut : (r : ℕ) (os : List (Option SimSession)) (i : ℕ) (d : Option SimSession) → i < length os
     → set (map (cut_of r) (take i os) ++ drop i os) i (cut_of r (get_or (map (cut_of r) (take i os) ++ drop i os) i d)) ≡ map (cut_of r) (take (suc i) os) ++ drop (suc i) os
 one_cut r [] i d h = absurd (omega (arith, h))
 one_cut r (o ∷ os) zero d h = refl
-one_cut r (o ∷ os) (suc i) d h = ap (λ (l : List (Option Session)). cut_of r o ∷ l) (one_cut r os i d (omega (arith, h)))
+one_cut r (o ∷ os) (suc i) d h = ap (λ (l : List (Option SimSession)). cut_of r o ∷ l) (one_cut r os i d (omega (arith, h)))

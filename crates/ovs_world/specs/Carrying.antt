@@ -3,6 +3,7 @@ use Rattle.std.specs.Prelude.{◌≡◌, ℕ, false, List, [], ◌∷◌, ◌++�
 use Rattle.std.specs.List.{AllZip}
 use Rattle.serde_json.specs.Written.{has_float, compact_text}
 use Rattle.ovs_wire.specs.declared.message.Message.{Message}
+use Rattle.ovs_wire.specs.Limits.{most_bytes}
 use Rattle.ovs_wire.specs.Frames.{IsObject, IsTooLarge, Ending, Rest, Fault}
 use Rattle.ovs_wire.specs.Framing.{Framing, IsNew, Feeds, Takes}
 use Rattle.ovs_wire.specs.Texts.{Remain}
@@ -20,7 +21,7 @@ pub record Line : Type 0 where
 
 -- nothing was sent yet
 abbrev pub IsIdle : Line → Type 0
-IsIdle line = IsNew line.framing × (line.flight ≡ [])
+IsIdle line = IsNew most_bytes line.framing × (line.flight ≡ [])
 
 -- the message's text came behind what was in flight
 abbrev pub Sends : Line → Message → Line → Type 0
@@ -69,15 +70,16 @@ pub record Chokes (old : Line) (n : ℕ) (new : Line) : Type 0 where
 
 -- the message's text is above the limits
 abbrev pub IsLarge : Message → Type 0
-IsLarge message = (text : List ℕ) × IsTextOf message text × IsTooLarge text
+IsLarge message = (text : List ℕ) × IsTextOf message text × IsTooLarge most_bytes text
 
 -- these messages were sent and weren't taken out yet: those that are whole at the receiving end, and those of which
 -- bytes are still to come, or of which the first is above the limits
 pub record Carries (line : Line) (messages : List Message) : Type 0 where
   pub coming : List (List ℕ)
   pub texts : AllZip IsTextOf messages (line.framing.waiting ++ coming)
-  pub whole : All IsObject line.framing.waiting
-  pub rest : Remain line.framing.ending line.flight coming
+  pub whole : All (IsObject most_bytes) line.framing.waiting
+  pub rest : Remain most_bytes line.framing.ending line.flight coming
+  pub limit : line.framing.limit ≡ most_bytes
 
 -- none of those that are whole is left, and the next of them is above the limits
 pub record MeetsLarge (line : Line) : Type 0 where

@@ -11,16 +11,16 @@ use Rattle.ovs_world.specs.Nodes.{IsTier, node_at, folded_in, held, plus, counts
 use Rattle.ovs_world.specs.declared.error.WorldError.{WorldError}
 use Rattle.ovs_world.specs.declared.error.WorldError.TheVariants.{TooLarge, NoMemory}
 use Rattle.ovs_world.specs.Sessions.{Pumps, HearsNext, IsGone, AsksLargeNext, with_line}
-use Rattle.ovs_world.specs.declared.holding.Counts.{Counts}
-use Rattle.ovs_world.specs.declared.session.Session.{Session}
+use Rattle.ovs_world.specs.declared.holding.Taken.{Taken}
+use Rattle.ovs_world.specs.declared.sim_session.SimSession.{SimSession}
 
 -- the relays, a session, and what its delivery has counted so far
 pub record Scene : Type 0 where
   pub relays : List Stored
-  pub session : Session
-  pub counts : Counts
+  pub session : SimSession
+  pub counts : Taken
 
-abbrev pub scene : List Stored → Session → Counts → Scene
+abbrev pub scene : List Stored → SimSession → Taken → Scene
 scene relays session counts = record { relays = relays; session = session; counts = counts }
 
 -- what the node that the session follows has folded
@@ -76,12 +76,12 @@ Leads source n a b = (moves : List Move) × DoesAll source moves a b × (fed_by 
 -- ---- a delivery
 
 -- no message waits to be heard, and none above the limits has come
-pub record IsQuiet (s : Session) : Type 0 where
+pub record IsQuiet (s : SimSession) : Type 0 where
   pub heard : s.downward.framing.waiting ≡ []
   pub whole : IsWhole s.downward.framing.ending
 
 -- nothing is in flight, and nothing is left to be told, or the session is gone
-abbrev pub IsToldOut : FoldedValue → Session → Type 0
+abbrev pub IsToldOut : FoldedValue → SimSession → Type 0
 IsToldOut f s = ((s.downward.flight ≡ []) × AllByRecursion (λ m. m.position ≡ length f.steps) s.reader.monitors) ⊎ IsGone f s
 
 -- n bytes reach the relay, or, if there are fewer, all that the node has to tell; and the relay has heard all that is whole
@@ -99,14 +99,14 @@ abbrev pub TakesSome : Stored → List Link → Stored → Type 0
 TakesSome s links t = (l : Link) → Holds t.links l → Holds s.links l ⊎ Among links l
 
 -- of the first message that waits the relay may have taken some links
-abbrev pub TakesSomeNext : Stored → Session → List Stored → List Stored → Type 0
+abbrev pub TakesSomeNext : Stored → SimSession → List Stored → List Stored → Type 0
 TakesSomeNext source s relays left =
     (left ≡ relays)
-    ⊎ ((links : List Link) × (t : Session) × HearsNext (folded_in (node_at source relays s.upstream)) s links t
+    ⊎ ((links : List Link) × (t : SimSession) × HearsNext (folded_in (node_at source relays s.upstream)) s links t
     × ((store : Stored) × TakesSome (node_at source relays s.relay) links store × (left ≡ slice_set relays (s.relay - 1) store)))
 
 -- the first message that waits isn't heard: what the relay has to ask is above the limits; or memory ran out
-abbrev pub StopsHearing : Stored → Session → List Stored → WorldError → List Stored → Type 0
+abbrev pub StopsHearing : Stored → SimSession → List Stored → WorldError → List Stored → Type 0
 StopsHearing source s relays TooLarge left = AsksLargeNext s × (left ≡ relays)
 StopsHearing source s relays NoMemory left = TakesSomeNext source s relays left
 StopsHearing source s relays e left = ⊥
@@ -143,11 +143,11 @@ BreaksOff source n a e relays = ⊥
 -- ---- what is so of a session between two nodes
 
 -- a session between a relay and a node that leads it along links of the source
-pub record IsBetween (source : Stored) (relays : List Stored) (s : Session) : Type 0 where
+pub record IsBetween (source : Stored) (relays : List Stored) (s : SimSession) : Type 0 where
   pub relay : (0 < s.relay) × (s.relay ≤ length relays)
   pub upstream : s.upstream ≤ length relays
   pub led : IsLed source (node_at source relays s.upstream) s
 
-pub record IsScene (source : Stored) (relays : List Stored) (s : Session) : Type 0 where
+pub record IsScene (source : Stored) (relays : List Stored) (s : SimSession) : Type 0 where
   pub tier : IsTier source relays
   pub between : IsBetween source relays s

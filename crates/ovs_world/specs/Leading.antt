@@ -12,15 +12,15 @@ use Rattle.ovs_reader.specs.declared.subscription.Subscription.{Subscription}
 use Rattle.ovs_source.specs.Commits.{IsSourceOf}
 use Rattle.ovs_upstream.specs.Lawful.{IsAt}
 use Rattle.ovs_upstream.specs.Talk.{talk_of}
-use Rattle.ovs_upstream.specs.declared.up_session.Stage.{Stage}
-use Rattle.ovs_upstream.specs.declared.up_session.Stage.TheVariants.{Opening, Asking, At, Ended}
+use Rattle.ovs_upstream.specs.declared.up_session.SyncState.{SyncState}
+use Rattle.ovs_upstream.specs.declared.up_session.SyncState.TheVariants.{Opening, Asking, At, Ended}
 use Rattle.ovs_wire.specs.declared.message.Message.{Message}
 use Rattle.ovs_world.specs.Asking.{schema_reply}
 use Rattle.ovs_world.specs.Awaiting.{IsRelayMonitor, TellsPlace, TellLinks}
 use Rattle.ovs_world.specs.Carrying.{IsIdle, Carries}
 use Rattle.ovs_world.specs.Nodes.{folded_in}
 use Rattle.ovs_world.specs.Sessions.{is_behind}
-use Rattle.ovs_world.specs.declared.session.Session.{Session}
+use Rattle.ovs_world.specs.declared.sim_session.SimSession.{SimSession}
 
 -- ---- along links
 
@@ -54,7 +54,7 @@ pub record AwaitsLinks (tables : List Table) (line : List Link) (n id : ℕ) (mo
   pub links : TellLinks tables line place monitor.position messages
 
 -- what is on its way at a stage, where the node was shown the first n of the links
-abbrev pub Awaits : SchemaValue → List Link → ℕ → ℕ → Stage → List Subscription → List Message → Type 0
+abbrev pub Awaits : SchemaValue → List Link → ℕ → ℕ → SyncState → List Subscription → List Message → Type 0
 Awaits schema line n asked Opening monitors messages = AwaitsSchema schema monitors messages
 Awaits schema line n asked Asking monitors messages = AwaitsAnswer schema.description.tables line n asked monitors messages
 Awaits schema line n asked (At id) monitors messages = AwaitsLinks schema.description.tables line n id monitors messages
@@ -72,7 +72,7 @@ pub record IsLineOf (source : Stored) (line : List Link) : Type 0 where
 
 -- the node leads the relay's end of the session along the links of an epoch, and tells nothing more once it has folded those
 -- of a later one
-pub record IsLed (source node : Stored) (s : Session) : Type 0 where
+pub record IsLed (source node : Stored) (s : SimSession) : Type 0 where
   pub schema : s.up.schema ≡ source.schema
   pub says : read_description s.up.schema.json ≡ Ok s.up.schema.description
   pub goes_on : s.reader.is_ended ≡ false

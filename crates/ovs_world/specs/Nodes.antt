@@ -11,7 +11,7 @@ use Rattle.ovs_links.specs.Steps.{FoldedValue, folded_of}
 use Rattle.ovs_links.specs.Store.{Stored, IsStore, IsChainOf, start_in}
 use Rattle.ovs_links.specs.declared.link.Link.{Link}
 use Rattle.ovs_source.specs.Commits.{IsSource}
-use Rattle.ovs_world.specs.declared.holding.Counts.{Counts}
+use Rattle.ovs_world.specs.declared.holding.Taken.{Taken}
 
 -- ---- one node
 
@@ -79,17 +79,17 @@ LeavesMergeOfNodes source relays into from new =
 
 -- ---- counts, each of which stays at its last value
 
-abbrev pub no_counts : Counts
+abbrev pub no_counts : Taken
 no_counts = record { took = 0; held = 0 }
 
 abbrev pub most_counted : ℕ
 most_counted = 2 ^ 64 - 1
 
-abbrev pub plus : Counts → Counts → Counts
+abbrev pub plus : Taken → Taken → Taken
 plus a b = record { took = min (a.took + b.took) most_counted; held = min (a.held + b.held) most_counted }
 
 -- how many of the links a store didn't hold, and how many it did
-abbrev pub counts_of : Stored → List Link → Counts
+abbrev pub counts_of : Stored → List Link → Taken
 counts_of s ls =
     let took : ℕ = len (taken_all s ls).links - len s.links in
     record { took = took; held = length ls - took }

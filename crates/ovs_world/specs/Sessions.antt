@@ -10,36 +10,36 @@ use Rattle.ovs_upstream.specs.Hearing.{heard, hears, links_in, at_stage, opening
 use Rattle.ovs_upstream.specs.Requests.{schema_request}
 use Rattle.ovs_upstream.specs.declared.up_event.UpEvent.{UpEvent}
 use Rattle.ovs_upstream.specs.declared.up_event.UpEvent.TheVariants.{Links, Send, ReplyFor, Locked, Stolen, Nothing}
-use Rattle.ovs_upstream.specs.declared.up_session.Stage.{Stage}
+use Rattle.ovs_upstream.specs.declared.up_session.SyncState.{SyncState}
 use Rattle.ovs_wire.specs.declared.message.Message.{Message}
 use Rattle.ovs_world.specs.Asking.{schema_reply}
 use Rattle.ovs_world.specs.Carrying.{Line, IsIdle, IsLarge, Chokes, Passes, Sends, SendsAll, SendsAny, Receives}
 use Rattle.ovs_world.specs.declared.error.WorldError.{WorldError}
 use Rattle.ovs_world.specs.declared.error.WorldError.TheVariants.{TooLarge, NoMemory}
-use Rattle.ovs_world.specs.declared.session.Session.{Session}
+use Rattle.ovs_world.specs.declared.sim_session.SimSession.{SimSession}
 
 -- the chain that the node has folded begins at a greater start than the one that the session tells
-abbrev pub is_behind : FoldedValue → Session → Bool
+abbrev pub is_behind : FoldedValue → SimSession → Bool
 is_behind f s = nat_lt s.begun (start_at f)
 
 -- its ends are those that they were, and the start of the chain that it tells
-abbrev pub HasEndsOf : Session → Session → Type 0
+abbrev pub HasEndsOf : SimSession → SimSession → Type 0
 HasEndsOf old new = (new.relay ≡ old.relay) × (new.upstream ≡ old.upstream) × (new.begun ≡ old.begun)
 
 -- the node replies from all that it has folded
-pub record Replies (f : FoldedValue) (old : Session) (request : Message) (new : Session) : Type 0 where
+pub record Replies (f : FoldedValue) (old : SimSession) (request : Message) (new : SimSession) : Type 0 where
   pub goes_on : is_behind f old ≡ false
   pub reader : new.reader ≡ after_turn old.reader f request
   pub reply : SendsAny old.downward (turn old.reader f request).out new.downward
 
 -- it has begun anew, and replies nothing
-pub record IsSilent (f : FoldedValue) (old new : Session) : Type 0 where
+pub record IsSilent (f : FoldedValue) (old new : SimSession) : Type 0 where
   pub behind : is_behind f old ≡ true
   pub reader : new.reader ≡ old.reader
   pub downward : new.downward ≡ old.downward
 
 -- a request passes up as bytes, all of it at once, and what the node replies is in flight
-pub record Asks (f : FoldedValue) (old : Session) (request : Message) (new : Session) : Type 0 where
+pub record Asks (f : FoldedValue) (old : SimSession) (request : Message) (new : SimSession) : Type 0 where
   pub ends : HasEndsOf old new
   pub up : new.up ≡ old.up
   pub passed : Passes old.upward request new.upward
@@ -47,7 +47,7 @@ pub record Asks (f : FoldedValue) (old : Session) (request : Message) (new : Ses
   pub answered : IsSilent f old new ⊎ Replies f old request new
 
 -- a session opens, which tells the node's chain: the request for the schema was answered
-pub record Opens (f : FoldedValue) (relay upstream asked : ℕ) (new : Session) : Type 0 where
+pub record Opens (f : FoldedValue) (relay upstream asked : ℕ) (new : SimSession) : Type 0 where
   pub ends : (new.relay ≡ relay) × (new.upstream ≡ upstream)
   pub begun : new.begun ≡ start_at f
   pub up : new.up ≡ opening f.database.schema asked
@@ -61,7 +61,7 @@ pub record Opens (f : FoldedValue) (relay upstream asked : ℕ) (new : Session) 
   pub reply : Sends before (schema_reply f.database.schema) new.downward
 
 -- the node tells what it has folded and hasn't told
-pub record Pumps (f : FoldedValue) (old new : Session) : Type 0 where
+pub record Pumps (f : FoldedValue) (old new : SimSession) : Type 0 where
   pub ends : HasEndsOf old new
   pub goes_on : is_behind f old ≡ false
   pub up : new.up ≡ old.up
@@ -70,17 +70,17 @@ pub record Pumps (f : FoldedValue) (old new : Session) : Type 0 where
   pub told : SendsAll old.downward (told old.reader.monitors f.steps) new.downward
 
 -- the same where nothing is in flight and the session isn't behind, else nothing
-abbrev pub PumpsIdle : FoldedValue → Session → Session → Type 0
+abbrev pub PumpsIdle : FoldedValue → SimSession → SimSession → Type 0
 PumpsIdle f old new =
     (((0 < length old.downward.flight) ⊎ (is_behind f old ≡ true)) × (new ≡ old)) ⊎ ((old.downward.flight ≡ []) × Pumps f old new)
 
 -- the relay's end at this stage, with this line behind it
-abbrev pub moved_on : Session → Stage → Line → Session
+abbrev pub moved_on : SimSession → SyncState → Line → SimSession
 moved_on s stage line =
     record { relay = s.relay; upstream = s.upstream; begun = s.begun; up = at_stage s.up stage; reader = s.reader; upward = s.upward; downward = line }
 
 -- what the relay's end has to send goes up
-abbrev pub Goes : FoldedValue → Session → UpEvent → Session → Type 0
+abbrev pub Goes : FoldedValue → SimSession → UpEvent → SimSession → Type 0
 Goes f s (Links ls) t = t ≡ s
 Goes f s (Send m) t = Asks f s m t
 Goes f s (ReplyFor n a) t = t ≡ s
@@ -89,18 +89,18 @@ Goes f s (Stolen name) t = t ≡ s
 Goes f s Nothing t = t ≡ s
 
 -- the relay hears a message, of which it makes these links
-pub record Hears (f : FoldedValue) (old : Session) (message : Message) (links : List Link) (new : Session) : Type 0 where
-  pub stage : Stage
+pub record Hears (f : FoldedValue) (old : SimSession) (message : Message) (links : List Link) (new : SimSession) : Type 0 where
+  pub stage : SyncState
   pub event : UpEvent
   pub is : hears old.up message ≡ heard stage event
   pub goes : Goes f (moved_on old stage old.downward) event new
   pub makes : links ≡ links_in event
 
-abbrev pub with_line : Session → Line → Session
+abbrev pub with_line : SimSession → Line → SimSession
 with_line s line = moved_on s s.up.stage line
 
 -- the relay hears the first message that waits, of which it makes these links
-pub record HearsNext (f : FoldedValue) (old : Session) (links : List Link) (new : Session) : Type 0 where
+pub record HearsNext (f : FoldedValue) (old : SimSession) (links : List Link) (new : SimSession) : Type 0 where
   pub message : Message
   pub line : Line
   pub received : Receives old.downward message line
@@ -109,7 +109,7 @@ pub record HearsNext (f : FoldedValue) (old : Session) (links : List Link) (new 
 -- ---- what ends a session
 
 -- nothing is in flight, and nothing more will be
-abbrev pub IsGone : FoldedValue → Session → Type 0
+abbrev pub IsGone : FoldedValue → SimSession → Type 0
 IsGone f s = (s.downward.flight ≡ []) × (is_behind f s ≡ true)
 
 -- memory ran out, or this message is above the limits
@@ -128,32 +128,32 @@ IsNotSent (Stolen name) e = ⊥
 IsNotSent Nothing e = ⊥
 
 -- memory ran out, and nothing reached the relay; or one of the next n bytes makes a message above the limits
-abbrev pub IsNotFed : Session → ℕ → WorldError → Session → Type 0
+abbrev pub IsNotFed : SimSession → ℕ → WorldError → SimSession → Type 0
 IsNotFed old n TooLarge new = Chokes old.downward n new.downward
 IsNotFed old n NoMemory new = new ≡ old
 IsNotFed old n e new = ⊥
 
 -- what the relay has to ask, once it has heard this message, is above the limits
-pub record AsksLarge (s : Session) (message : Message) : Type 0 where
-  pub stage : Stage
+pub record AsksLarge (s : SimSession) (message : Message) : Type 0 where
+  pub stage : SyncState
   pub request : Message
   pub is : hears s.up message ≡ heard stage (Send request)
   pub large : IsLarge request
 
 -- the same of the first message that waits
-pub record AsksLargeNext (s : Session) : Type 0 where
+pub record AsksLargeNext (s : SimSession) : Type 0 where
   pub message : Message
   pub line : Line
   pub received : Receives s.downward message line
   pub asks : AsksLarge (with_line s line) message
 
 -- memory ran out, or what has to be asked is above the limits
-abbrev pub IsUnheard : Session → Message → WorldError → Type 0
+abbrev pub IsUnheard : SimSession → Message → WorldError → Type 0
 IsUnheard s message TooLarge = AsksLarge s message
 IsUnheard s message NoMemory = Unit {0}
 IsUnheard s message e = ⊥
 
-abbrev pub IsUnheardNext : Session → WorldError → Type 0
+abbrev pub IsUnheardNext : SimSession → WorldError → Type 0
 IsUnheardNext s TooLarge = AsksLargeNext s
 IsUnheardNext s NoMemory = Unit {0}
 IsUnheardNext s e = ⊥

@@ -18,7 +18,7 @@ use Rattle.ovs_world.specs.declared.event.Event.{Event}
 use Rattle.ovs_world.specs.declared.event.Event.TheVariants.{Commit, Trim, Connect, Deliver, Cut, Restart, MergeFrom, Prune, Read}
 use Rattle.ovs_world.specs.declared.event.Reply.{Reply}
 use Rattle.ovs_world.specs.declared.event.Reply.TheVariants.{Results, Session, Took, Dropped, Done}
-use Rattle.ovs_world.specs.declared.session.Session as sessions
+use Rattle.ovs_world.specs.declared.sim_session.SimSession as sessions
 
 -- ---- why an event is refused, and what is left
 
@@ -38,7 +38,7 @@ RefusesConnect w relay upstream e = ⊥
 
 -- the delivery breaks off, and the session is cut
 pub record StopsDelivery (w : WorldValue) (number bytes : ℕ) (e : WorldError) (v : WorldValue) : Type 0 where
-  pub before : sessions.Session
+  pub before : sessions.SimSession
   pub is_open : IsOpenAt w number before
   pub grow : Grow w.relays v.relays
   pub breaks : BreaksOff w.source bytes (scene w.relays before no_counts) e v.relays

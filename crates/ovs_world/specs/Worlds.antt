@@ -17,15 +17,15 @@ use Rattle.ovs_source.specs.declared.transacting.Outcome.{Outcome}
 use Rattle.ovs_world.specs.Deliveries.{scene, Delivers, IsBetween, IsQuiet}
 use Rattle.ovs_world.specs.Nodes.{IsTier, IsSettled, MergesNodes, DropsOld, node_at, folded_in, no_counts}
 use Rattle.ovs_world.specs.Sessions.{Opens, IsGone}
-use Rattle.ovs_world.specs.declared.holding.Counts.{Counts}
-use Rattle.ovs_world.specs.declared.session.Session.{Session}
+use Rattle.ovs_world.specs.declared.holding.Taken.{Taken}
+use Rattle.ovs_world.specs.declared.sim_session.SimSession.{SimSession}
 
 -- the source, the next row id, the relays, and the sessions that were opened, of which some were cut
 pub record WorldValue : Type 0 where
   pub source : Stored
   pub fresh : ℕ
   pub relays : List Stored
-  pub sessions : List (Option Session)
+  pub sessions : List (Option SimSession)
 
 abbrev pub empty_store : SchemaValue → Stored
 empty_store schema = record { schema = schema; links = empty; folded = [] }
@@ -35,7 +35,7 @@ new_world schema relays = record { source = empty_store schema; fresh = 1; relay
 
 -- ---- what is so of every world
 
-abbrev pub IsOpen : Stored → List Stored → Option Session → Type 0
+abbrev pub IsOpen : Stored → List Stored → Option SimSession → Type 0
 IsOpen source relays None = Unit {0}
 IsOpen source relays (Some s) = IsBetween source relays s × IsQuiet s
 
@@ -67,37 +67,37 @@ abbrev pub AreSettled : WorldValue → Type 0
 AreSettled w = (n : ℕ) → IsSettled (node_of w n)
 
 -- sessions are counted from 1
-abbrev pub StandsAt : List (Option Session) → ℕ → Session → Type 0
+abbrev pub StandsAt : List (Option SimSession) → ℕ → SimSession → Type 0
 StandsAt sessions zero s = ⊥
 StandsAt sessions (suc n) s = slice_get sessions n ≡ Some (Some s)
 
 -- there is a session, and it isn't gone
-abbrev pub GoesOn : Stored → List Stored → Option Session → Type 0
+abbrev pub GoesOn : Stored → List Stored → Option SimSession → Type 0
 GoesOn source relays None = ⊥
 GoesOn source relays (Some s) = ¬ (IsGone (folded_in (node_at source relays s.upstream)) s)
 
 -- a session of this number was opened, and was neither cut nor is it gone
-abbrev pub IsOpenIn : Stored → List Stored → List (Option Session) → ℕ → Session → Type 0
+abbrev pub IsOpenIn : Stored → List Stored → List (Option SimSession) → ℕ → SimSession → Type 0
 IsOpenIn source relays sessions n s = StandsAt sessions n s × GoesOn source relays (Some s)
 
-abbrev pub IsOpenAt : WorldValue → ℕ → Session → Type 0
+abbrev pub IsOpenAt : WorldValue → ℕ → SimSession → Type 0
 IsOpenAt w n s = IsOpenIn w.source w.relays w.sessions n s
 
 -- there was no session of this number, or it was cut, or it is gone
 abbrev pub NoneIsOpenAt : WorldValue → ℕ → Type 0
-NoneIsOpenAt w n = (s : Session) → ¬ (IsOpenAt w n s)
+NoneIsOpenAt w n = (s : SimSession) → ¬ (IsOpenAt w n s)
 
 -- ---- what an event changes
 
-abbrev pub with_sessions : WorldValue → List (Option Session) → WorldValue
+abbrev pub with_sessions : WorldValue → List (Option SimSession) → WorldValue
 with_sessions w sessions = record { source = w.source; fresh = w.fresh; relays = w.relays; sessions = sessions }
 
-abbrev pub with_relays : WorldValue → List Stored → List (Option Session) → WorldValue
+abbrev pub with_relays : WorldValue → List Stored → List (Option SimSession) → WorldValue
 with_relays w relays sessions = record { source = w.source; fresh = w.fresh; relays = relays; sessions = sessions }
 
 -- session 0 asks, which owns no lock
 abbrev pub asked_by : ℕ → List Data → Asked
-asked_by id operations = record { who = 0; operations = operations; id = id; locks = [] }
+asked_by id operations = record { session = 0; operations = operations; id = id; locks = [] }
 
 -- the source answers a transaction
 pub record Commits (w : WorldValue) (id : ℕ) (operations : List Data) (answer : Result Outcome SourceError) (v : WorldValue) : Type 0 where
@@ -123,28 +123,28 @@ Renews w id v = (link : Link) × Trims w id (Ok link) v
 -- a relay asks another node for what comes after its last id
 pub record Connects (w : WorldValue) (relay upstream number : ℕ) (v : WorldValue) : Type 0 where
   pub nodes : AreTwo w relay upstream
-  pub session : Session
+  pub session : SimSession
   pub opens : Opens (folded_in (node_of w upstream)) relay upstream (head_of (node_of w relay)) session
   pub after : v ≡ with_sessions w (w.sessions ++ Some session ∷ [])
   pub number_is : number ≡ length v.sessions
 
 -- so many bytes reach the relay
-pub record Brings (w : WorldValue) (number bytes : ℕ) (counts : Counts) (v : WorldValue) : Type 0 where
-  pub before : Session
+pub record Brings (w : WorldValue) (number bytes : ℕ) (counts : Taken) (v : WorldValue) : Type 0 where
+  pub before : SimSession
   pub is_open : IsOpenAt w number before
   pub relays : List Stored
-  pub after : Session
+  pub after : SimSession
   pub delivers : Delivers w.source bytes (scene w.relays before no_counts) (scene relays after counts)
   pub world : v ≡ with_relays w relays (slice_set w.sessions (number - 1) (Some after))
 
 -- the session is cut
 pub record Cuts (w : WorldValue) (number : ℕ) (v : WorldValue) : Type 0 where
-  pub before : Session
+  pub before : SimSession
   pub is_open : IsOpenAt w number before
   pub world : v ≡ with_sessions w (slice_set w.sessions (number - 1) None)
 
 -- the session, unless the relay is one of its ends
-abbrev pub cut_of : ℕ → Option Session → Option Session
+abbrev pub cut_of : ℕ → Option SimSession → Option SimSession
 cut_of relay None = None
 cut_of relay (Some s) = if s.relay == relay || s.upstream == relay then None else Some s
 

@@ -6,8 +6,8 @@ ghost use Rattle.ovs_world.specs.Deliveries.{scene, Hear, Does, Leads, Delivers,
 ghost use Rattle.ovs_world.specs.Nodes.{IsTier, Grow, no_counts};
 
 use crate::error::WorldError;
-use crate::holding::{Counts, hold, node};
-use crate::session::Session;
+use crate::holding::{Taken, hold, node};
+use crate::sim_session::SimSession;
 use ovs_links::LinkStore;
 use std::alloc::Global;
 
@@ -16,8 +16,8 @@ fn hear_next(
     alloc: Global,
     source: &LinkStore,
     relays: &mut [LinkStore],
-    session: &mut Session,
-    counts: &mut Counts,
+    session: &mut SimSession,
+    counts: &mut Taken,
 ) -> Result<bool, WorldError>
     requires scene { IsScene source.now relays.old session.old }
     ensures tier { IsTier source.now relays.new }
@@ -42,8 +42,8 @@ fn hear_all(
     alloc: Global,
     source: &LinkStore,
     relays: &mut [LinkStore],
-    session: &mut Session,
-    counts: &mut Counts,
+    session: &mut SimSession,
+    counts: &mut Taken,
 ) -> Result<(), WorldError>
     requires scene { IsScene source.now relays.old session.old }
     ensures tier { IsTier source.now relays.new }
@@ -71,9 +71,9 @@ pub(crate) fn deliver(
     alloc: Global,
     source: &LinkStore,
     relays: &mut [LinkStore],
-    session: &mut Session,
+    session: &mut SimSession,
     n: usize,
-) -> Result<Counts, WorldError>
+) -> Result<Taken, WorldError>
     requires scene { IsScene source.now relays.old session.old }
     requires quiet { IsQuiet session.old }
     ensures tier { IsTier source.now relays.new }
@@ -82,7 +82,7 @@ pub(crate) fn deliver(
     ensures delivers { IfOk result (λ counts. Delivers source.now n (scene relays.old session.old no_counts) (scene relays.new session.new counts)) }
     ensures refused { IfErr result (λ e. BreaksOff source.now n (scene relays.old session.old no_counts) e relays.new) }
 {
-    let mut counts = Counts::none();
+    let mut counts = Taken::none();
     let mut left = n;
     'turns: while left > 0 {
         session.pump(alloc, node(source, relays, session.upstream))?;

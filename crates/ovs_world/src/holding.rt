@@ -19,24 +19,24 @@ use std::alloc::Global;
 
 /// How many links a relay was told that it didn't hold, and how many that it did. Each count stays at its last value.
 #[derive(Clone, Copy, Debug, PartialEq, Eq)]
-pub struct Counts {
+pub struct Taken {
     pub took: usize,
     pub held: usize,
 }
 
-impl Counts {
+impl Taken {
     /// Nothing was told.
-    pub(crate) fn none() -> Counts
+    pub(crate) fn none() -> Taken
         ensures value { result ≡ no_counts }
     {
-        Counts { took: 0, held: 0 }
+        Taken { took: 0, held: 0 }
     }
 
     /// With what was told next.
-    pub(crate) fn plus(self, next: Counts) -> Counts
+    pub(crate) fn plus(self, next: Taken) -> Taken
         ensures value { result ≡ plus self next }
     {
-        Counts {
+        Taken {
             took: self.took.saturating_add(next.took),
             held: self.held.saturating_add(next.held),
         }
@@ -71,7 +71,7 @@ pub(crate) fn hold(
     alloc: Global,
     store: &mut LinkStore,
     links: Vec<Link>,
-) -> Result<Counts, WorldError>
+) -> Result<Taken, WorldError>
     requires node { (source : Stored) × IsStore source × IsNode source store.old × AllOf (Holds source.links) links.items }
     requires of_tables { AllOf (IsOfTables (tables_of store.old)) links.items }
     ensures held { IfOk result (λ counts. (store.new ≡ held store.old links.items) × (counts ≡ counts_of store.old links.items)) }
@@ -93,7 +93,7 @@ pub(crate) fn hold(
         Err(error) => return Err(error.into()),
     }
     let took = store.len().saturating_sub(before);
-    Ok(Counts {
+    Ok(Taken {
         took,
         held: told.saturating_sub(took),
     })

@@ -19,7 +19,7 @@ ghost use Rattle.ovs_upstream.specs.Hearing.{heard, hears, opening};
 ghost use Rattle.ovs_upstream.specs.Requests.{CanBeAsked, schema_request, monitor_request};
 ghost use Rattle.ovs_upstream.specs.Talk.{talk_of};
 ghost use Rattle.ovs_upstream.specs.declared.up_event.UpEvent.TheVariants.{Send};
-ghost use Rattle.ovs_upstream.specs.declared.up_session.Stage.TheVariants.{Asking};
+ghost use Rattle.ovs_upstream.specs.declared.up_session.SyncState.TheVariants.{Asking};
 ghost use Rattle.ovs_wire.specs.declared.message.Message.{Message};
 ghost use Rattle.ovs_world.specs.Asking.{schema_reply};
 ghost use Rattle.ovs_world.specs.Awaiting.{IsRelayMonitor, TellsPlace, TellLinks};

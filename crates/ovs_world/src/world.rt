@@ -11,8 +11,8 @@ ghost use Rattle.ovs_world.specs.Worlds.{IsOpen, GoesOn, IsOpenIn, empty_store, 
 use crate::delivering::deliver;
 use crate::error::WorldError;
 use crate::event::{Event, Reply};
-use crate::holding::{Counts, merge_nodes, node, prune_store};
-use crate::session::Session;
+use crate::holding::{Taken, merge_nodes, node, prune_store};
+use crate::sim_session::SimSession;
 use ovs_json::Json;
 use ovs_links::{Folded, LinkStore};
 use ovs_locks::LockTable;
@@ -39,7 +39,7 @@ fn empty_stores(alloc: Global, schema: &Schema, count: usize) -> Result<Vec<Link
 }
 
 // Whether there is a session here that isn't gone.
-fn is_open(source: &LinkStore, relays: &[LinkStore], session: &Option<Session>) -> bool
+fn is_open(source: &LinkStore, relays: &[LinkStore], session: &Option<SimSession>) -> bool
     requires stands { IsOpen source.now relays.now session.now }
     ensures value { IsTrue result ↔ GoesOn source.now relays.now session.now }
 {
@@ -53,9 +53,9 @@ fn is_open(source: &LinkStore, relays: &[LinkStore], session: &Option<Session>) 
 fn take_session(
     source: &LinkStore,
     relays: &[LinkStore],
-    sessions: &mut [Option<Session>],
+    sessions: &mut [Option<SimSession>],
     number: usize,
-) -> Option<Session>
+) -> Option<SimSession>
     requires stand { AllByRecursion (IsOpen source.now relays.now) sessions.old }
     ensures taken { IfSome result (λ s. IsOpenIn source.now relays.now sessions.old number s × (sessions.new ≡ slice_set sessions.old (number - 1) None)) }
     ensures none { result ≡ None → ((s : _) → ¬ (IsOpenIn source.now relays.now sessions.old number s)) × (sessions.new ≡ sessions.old) }
@@ -69,7 +69,7 @@ fn take_session(
     sessions[number - 1].take()
 }
 
-fn push_session(sessions: &mut Vec<Option<Session>>, session: Session) -> Result<(), NoMemory>
+fn push_session(sessions: &mut Vec<Option<SimSession>>, session: SimSession) -> Result<(), NoMemory>
     ensures pushed { OnOk result (sessions.new.items ≡ sessions.old.items ++ Some session ∷ []) }
     ensures unchanged { OnErr result (sessions.new.items ≡ sessions.old.items) }
 {
@@ -78,7 +78,7 @@ fn push_session(sessions: &mut Vec<Option<Session>>, session: Session) -> Result
 }
 
 // Cuts a session, if it is open and the relay is one of its ends.
-fn cut_if_end(session: &mut Option<Session>, relay: usize)
+fn cut_if_end(session: &mut Option<SimSession>, relay: usize)
     ensures cut { session.new ≡ cut_of relay session.old }
 {
     if let Some(open) = session
@@ -90,7 +90,7 @@ fn cut_if_end(session: &mut Option<Session>, relay: usize)
 }
 
 // Cuts each session of which the relay is an end.
-fn cut_sessions_of(sessions: &mut [Option<Session>], relay: usize)
+fn cut_sessions_of(sessions: &mut [Option<SimSession>], relay: usize)
     ensures cut { sessions.new ≡ map (cut_of relay) sessions.old }
 {
     for session in sessions.iter_mut() {
@@ -106,7 +106,7 @@ pub struct World {
     fresh: FreshRows,
     relays: Vec<LinkStore>,
     // In the order of their opening; `None` where one was cut.
-    sessions: Vec<Option<Session>>,
+    sessions: Vec<Option<SimSession>>,
 }
 
 impl Model for World {
@@ -114,13 +114,13 @@ impl Model for World {
     ghost use Rattle.std.specs.Coded.{code_by, coded×, coded_ℕ, coded_list, coded_option};
     ghost use Rattle.ovs_links.specs.contracts.store.LinkStore as store_row;
     ghost use Rattle.ovs_links.specs.Store.{Stored};
-    ghost use Rattle.ovs_world.specs.contracts.session.Session as session_row;
-    ghost use Rattle.ovs_world.specs.declared.session.Session.{Session};
+    ghost use Rattle.ovs_world.specs.contracts.sim_session.SimSession as session_row;
+    ghost use Rattle.ovs_world.specs.declared.sim_session.SimSession.{SimSession};
     ghost use Rattle.ovs_world.specs.Worlds.{WorldValue, IsWorld};
 
     ghost Value = { WorldValue };
 
-    ghost coded = { code_by (Stored × (ℕ × (List Stored × List (Option Session))))
+    ghost coded = { code_by (Stored × (ℕ × (List Stored × List (Option SimSession))))
         (coded× store_row.the_row.coded (coded× coded_ℕ (coded× (coded_list store_row.the_row.coded) (coded_list (coded_option session_row.the_row.coded)))))
         (λ w. (w.source, (w.fresh, (w.relays, w.sessions))))
         (λ p. record { source = p.0; fresh = p.1.0; relays = p.1.1.0; sessions = p.1.1.1 }) (λ _. refl) };
@@ -233,7 +233,7 @@ impl World {
                 Ok(Reply::Session(self.connect(alloc, *relay, *upstream)?))
             }
             Event::Deliver { session, bytes } => {
-                let Counts { took, held } = self.deliver(alloc, *session, *bytes)?;
+                let Taken { took, held } = self.deliver(alloc, *session, *bytes)?;
                 Ok(Reply::Took { took, held })
             }
             Event::Cut { session } => {
@@ -341,7 +341,7 @@ impl World {
         }
         let asked = self.relays[relay - 1].head();
         let followed = node(self.source.store(), &self.relays, upstream);
-        let session = Session::open(alloc, relay, upstream, asked, followed)?;
+        let session = SimSession::open(alloc, relay, upstream, asked, followed)?;
         push_session(&mut self.sessions, session)?;
         Ok(self.sessions.len())
     }
@@ -360,7 +360,7 @@ impl World {
         alloc: Global,
         session: usize,
         bytes: usize,
-    ) -> Result<Counts, WorldError>
+    ) -> Result<Taken, WorldError>
         ensures brings { IfOk result (λ counts. Brings self.old session bytes counts self.new) }
         ensures settled { OnOk result (AreSettled self.old → AreSettled self.new) }
         ensures refused { IfErr result (λ e. RefusesDelivery self.old session bytes e self.new) }

@@ -14,7 +14,7 @@ ghost use Rattle.ovs_world_script.specs.Story.{story_rules, beginning, stage_aft
 use crate::closing::last_lines;
 use crate::events::answer_line;
 use crate::reading::relays_of_line;
-use ovs_script::{Closing, LineFault, RunEnd, SchemaRefusal, Script, run_script, schema_of_line};
+use ovs_script::{LineFault, RunEnd, SchemaRefusal, Script, ScriptEnd, run_script, schema_of_line};
 use ovs_types::{NoMemory, Schema};
 use ovs_wire::Counted;
 use ovs_world::{World, WorldError};
@@ -135,7 +135,7 @@ impl Script for Story {
         matches!(&self.stage, ScriptStage::Over)
     }
 
-    fn close(&mut self, alloc: Global) -> Result<Closing, NoMemory> {
+    fn close(&mut self, alloc: Global) -> Result<ScriptEnd, NoMemory> {
         let (text, is_content) = match &self.stage {
             ScriptStage::Schema => (
                 SchemaRefusal::BadLine(LineFault::BadJson).line(alloc)?,
@@ -145,7 +145,7 @@ impl Script for Story {
             ScriptStage::Events(world) => (last_lines(alloc, world)?, !self.refused),
             ScriptStage::Over => (String::new(alloc), false),
         };
-        Ok(Closing { text, is_content })
+        Ok(ScriptEnd { text, is_content })
     }
 }
 

@@ -8,14 +8,14 @@ ghost use Rattle.ovs_data.specs.Difference.{IsExchange, exchange_of};
 ghost use Rattle.ovs_data.specs.declared.datum.Datum.TheVariants.{Set};
 
 use crate::atom::Atom;
-use crate::datum::exchange::{Entry, copies, exchanged, joined};
+use crate::datum::exchange::{SortedEntry, copies, exchanged, joined};
 use crate::datum::keyed::{Keyed, find};
 use ovs_json::NoMemory;
 use std::alloc::Global;
 use std::cmp::Ordering;
 use std::marker::Model;
 
-impl Entry for Atom {
+impl SortedEntry for Atom {
     ghost order = { atom_cmp };
 
     ghost is_same = { λ _ _. true };

@@ -11,7 +11,7 @@ use std::alloc::Global;
 use std::cmp::Ordering;
 
 /// What stands in a list in ascending order, at most once for each key.
-pub(crate) trait Entry: Drop {
+pub(crate) trait SortedEntry: Drop {
     /// The order of the keys.
     ghost order: { Self → Self → Ordering };
 
@@ -33,7 +33,7 @@ pub(crate) trait Entry: Drop {
 
 // The entries of one list alone, and of the keys in both the second list's entry, ascending; where two that are the same are
 // wanted too, or else differ.
-fn merged<E: Entry>(
+fn merged<E: SortedEntry>(
     alloc: Global,
     old: &[E],
     other: &[E],
@@ -79,7 +79,11 @@ fn merged<E: Entry>(
 }
 
 /// The entries of one list alone, and of the keys in both the second list's entry where the two differ, ascending.
-pub(crate) fn exchanged<E: Entry>(alloc: Global, old: &[E], other: &[E]) -> Result<Vec<E>, NoMemory>
+pub(crate) fn exchanged<E: SortedEntry>(
+    alloc: Global,
+    old: &[E],
+    other: &[E],
+) -> Result<Vec<E>, NoMemory>
     requires old { IsAscending E.order (λ x. x) old.now }
     requires other { IsAscending E.order (λ x. x) other.now }
     ensures ascending { IfOk result (λ v. IsAscending E.order (λ x. x) v.items) }
@@ -89,7 +93,11 @@ pub(crate) fn exchanged<E: Entry>(alloc: Global, old: &[E], other: &[E]) -> Resu
 }
 
 /// The entries of both lists, ascending; of a key in both the first list's.
-pub(crate) fn joined<E: Entry>(alloc: Global, old: &[E], other: &[E]) -> Result<Vec<E>, NoMemory>
+pub(crate) fn joined<E: SortedEntry>(
+    alloc: Global,
+    old: &[E],
+    other: &[E],
+) -> Result<Vec<E>, NoMemory>
     requires old { IsAscending E.order (λ x. x) old.now }
     requires other { IsAscending E.order (λ x. x) other.now }
     ensures ascending { IfOk result (λ v. IsAscending E.order (λ x. x) v.items) }
@@ -99,7 +107,7 @@ pub(crate) fn joined<E: Entry>(alloc: Global, old: &[E], other: &[E]) -> Result<
 }
 
 /// Equal entries.
-pub(crate) fn copies<E: Entry>(alloc: Global, entries: &[E]) -> Result<Vec<E>, NoMemory>
+pub(crate) fn copies<E: SortedEntry>(alloc: Global, entries: &[E]) -> Result<Vec<E>, NoMemory>
     ensures value { IfOk result (λ v. v.items ≡ entries.now) }
 {
     let mut out = Vec::with_capacity(alloc, entries.len())?;

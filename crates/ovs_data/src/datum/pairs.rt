@@ -10,7 +10,7 @@ ghost use Rattle.ovs_data.specs.Difference.{IsExchange, exchange_of};
 ghost use Rattle.ovs_data.specs.declared.datum.Datum.TheVariants.{Map};
 
 use crate::atom::Atom;
-use crate::datum::exchange::{Entry, copies, exchanged, joined};
+use crate::datum::exchange::{SortedEntry, copies, exchanged, joined};
 use crate::datum::keyed::{Keyed, find};
 use ovs_json::NoMemory;
 use std::alloc::Global;
@@ -41,7 +41,7 @@ impl Pair {
     }
 }
 
-impl Entry for Pair {
+impl SortedEntry for Pair {
     ghost order = { key_cmp };
 
     ghost is_same = { same_value };

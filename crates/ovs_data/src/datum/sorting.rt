@@ -7,12 +7,12 @@ ghost use Rattle.ovs_data.specs.Ascending.{ascends, distinct};
 
 use crate::atom::Atom;
 use crate::datum::atoms::Atoms;
-use crate::datum::exchange::Entry;
+use crate::datum::exchange::SortedEntry;
 use crate::datum::pairs::{Pair, Pairs};
 use std::cmp::Ordering;
 
 // Whether each entry is before the next.
-fn ascends<E: Entry>(entries: &[E]) -> bool
+fn ascends<E: SortedEntry>(entries: &[E]) -> bool
     ensures value { result ≡ ascends E.order entries.now }
 {
     let mut rest = entries;

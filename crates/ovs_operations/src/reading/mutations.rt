@@ -4,8 +4,8 @@ ghost use Rattle.std.specs.Prelude.{◌≡◌, IfOk, Ok, [], option_map};
 ghost use Rattle.serde_json.specs.View.{view, items_view, members_view};
 ghost use Rattle.ovs_operations.specs.Reading.{read_items, read_members, read_mutation_of, read_mutation, read_mutations, read_cell, read_row};
 
-use crate::fault::Fault;
 use crate::operation::{Mutation, Mutations, Mutator};
+use crate::operation_error::OperationError;
 use crate::reading::mutators::{read_column, read_mutator, value_column};
 use crate::reading::parts::read_value;
 use ovs_json::{both, three_items, with_one};
@@ -20,7 +20,7 @@ fn read_mutation_of(
     column: (usize, Column),
     mutator: Mutator,
     value: &Value,
-) -> Result<Result<Mutation, Fault>, NoMemory>
+) -> Result<Result<Mutation, OperationError>, NoMemory>
     ensures exact { IfOk result (λ r. r ≡ read_mutation_of names.now column mutator (view value.now)) }
 {
     let (number, column) = column;
@@ -44,11 +44,11 @@ fn read_mutation(
     names: &NamedIds,
     columns: &NamedColumns,
     value: &Value,
-) -> Result<Result<Mutation, Fault>, NoMemory>
+) -> Result<Result<Mutation, OperationError>, NoMemory>
     ensures exact { IfOk result (λ r. r ≡ read_mutation names.now columns.now (view value.now)) }
 {
     let Some((column, mutator, value)) = three_items(value) else {
-        return Ok(Err(Fault::BadOperation));
+        return Ok(Err(OperationError::BadOperation));
     };
     match both(read_column(columns, column), read_mutator(mutator)) {
         Ok((column, mutator)) => read_mutation_of(alloc, names, column, mutator, value),
@@ -61,7 +61,7 @@ fn read_each_mutation(
     names: &NamedIds,
     columns: &NamedColumns,
     values: &[Value],
-) -> Result<Result<Mutations, Fault>, NoMemory>
+) -> Result<Result<Mutations, OperationError>, NoMemory>
     ensures exact { IfOk result (λ r. r ≡ read_items (read_mutation names.now columns.now) (Ok []) (items_view values.now)) }
 {
     let mut so_far = Ok(Vec::new(alloc));
@@ -80,12 +80,12 @@ pub(crate) fn read_mutations(
     names: &NamedIds,
     columns: &NamedColumns,
     value: Option<&Value>,
-) -> Result<Result<Mutations, Fault>, NoMemory>
+) -> Result<Result<Mutations, OperationError>, NoMemory>
     ensures exact { IfOk result (λ r. r ≡ read_mutations names.now columns.now (option_map (λ v. view v.now) value.entry)) }
 {
     match value.and_then(Value::as_array) {
         Some(values) => read_each_mutation(alloc, names, columns, values),
-        None => Ok(Err(Fault::BadOperation)),
+        None => Ok(Err(OperationError::BadOperation)),
     }
 }
 
@@ -96,12 +96,12 @@ fn read_cell(
     columns: &NamedColumns,
     name: &str,
     value: &Value,
-) -> Result<Result<Mutation, Fault>, NoMemory>
+) -> Result<Result<Mutation, OperationError>, NoMemory>
     ensures exact { IfOk result (λ r. r ≡ read_cell names.now columns.now name.now (view value.now)) }
 {
     match columns.find(name) {
         Some(column) => read_mutation_of(alloc, names, column, Mutator::Set, value),
-        None => Ok(Err(Fault::UnknownColumn)),
+        None => Ok(Err(OperationError::UnknownColumn)),
     }
 }
 
@@ -110,7 +110,7 @@ fn read_each_cell(
     names: &NamedIds,
     columns: &NamedColumns,
     members: &Map<String, Value>,
-) -> Result<Result<Mutations, Fault>, NoMemory>
+) -> Result<Result<Mutations, OperationError>, NoMemory>
     ensures exact { IfOk result (λ r. r ≡ read_members (read_cell names.now columns.now) (Ok []) (members_view members.now.entries)) }
 {
     let mut so_far = Ok(Vec::new(alloc));
@@ -132,11 +132,11 @@ pub(crate) fn read_row(
     names: &NamedIds,
     columns: &NamedColumns,
     value: Option<&Value>,
-) -> Result<Result<Mutations, Fault>, NoMemory>
+) -> Result<Result<Mutations, OperationError>, NoMemory>
     ensures exact { IfOk result (λ r. r ≡ read_row names.now columns.now (option_map (λ v. view v.now) value.entry)) }
 {
     match value.and_then(Value::as_object) {
         Some(members) => read_each_cell(alloc, names, columns, members),
-        None => Ok(Err(Fault::BadOperation)),
+        None => Ok(Err(OperationError::BadOperation)),
     }
 }

@@ -6,8 +6,8 @@ ghost use Rattle.serde_json.specs.View.{view};
 ghost use Rattle.ovs_query.specs.ConditionReading.{is_integer};
 ghost use Rattle.ovs_operations.specs.Reading.{is_scalar, read_mutator, summed_column, deleted_column, value_column, read_column};
 
-use crate::fault::Fault;
 use crate::operation::Mutator;
+use crate::operation_error::OperationError;
 use ovs_json::begins_with;
 use ovs_types::{AtomKind, Column, NamedColumns};
 use serde_json::Value;
@@ -29,11 +29,11 @@ fn is_integer(kind: AtomKind) -> bool
 }
 
 /// The mutator of a name.
-pub(crate) fn read_mutator(value: &Value) -> Result<Mutator, Fault>
+pub(crate) fn read_mutator(value: &Value) -> Result<Mutator, OperationError>
     ensures exact { result ≡ read_mutator (as_str (view value.now)) }
 {
     let Some(name) = value.as_str() else {
-        return Err(Fault::BadOperation);
+        return Err(OperationError::BadOperation);
     };
     if name == "+=" {
         Ok(Mutator::Add)
@@ -44,23 +44,23 @@ pub(crate) fn read_mutator(value: &Value) -> Result<Mutator, Fault>
     } else if name == "delete" {
         Ok(Mutator::Delete)
     } else if name == "*=" || name == "/=" || name == "%=" {
-        Err(Fault::NotSupported)
+        Err(OperationError::NotSupported)
     } else {
-        Err(Fault::BadOperation)
+        Err(OperationError::BadOperation)
     }
 }
 
-fn summed_column(column: &Column) -> Result<Column, Fault>
+fn summed_column(column: &Column) -> Result<Column, OperationError>
     ensures exact { result ≡ summed_column column.now }
 {
     if is_integer(column.key) && column.value.is_none() {
         if is_scalar(column) {
             Ok(*column)
         } else {
-            Err(Fault::NotSupported)
+            Err(OperationError::NotSupported)
         }
     } else {
-        Err(Fault::BadOperation)
+        Err(OperationError::BadOperation)
     }
 }
 
@@ -80,7 +80,7 @@ pub(crate) fn value_column(
     mutator: Mutator,
     column: &Column,
     value: &Value,
-) -> Result<Column, Fault>
+) -> Result<Column, OperationError>
     ensures exact { result ≡ value_column mutator column.now (view value.now) }
 {
     match mutator {
@@ -88,14 +88,14 @@ pub(crate) fn value_column(
         Mutator::Add | Mutator::Subtract => summed_column(column),
         Mutator::Insert => {
             if is_scalar(column) {
-                Err(Fault::BadOperation)
+                Err(OperationError::BadOperation)
             } else {
                 Ok(column.loose())
             }
         }
         Mutator::Delete => {
             if is_scalar(column) {
-                Err(Fault::BadOperation)
+                Err(OperationError::BadOperation)
             } else {
                 Ok(deleted_column(column, value))
             }
@@ -104,9 +104,12 @@ pub(crate) fn value_column(
 }
 
 /// The column of a name, with its number.
-pub(crate) fn read_column(columns: &NamedColumns, value: &Value) -> Result<(usize, Column), Fault>
+pub(crate) fn read_column(
+    columns: &NamedColumns,
+    value: &Value,
+) -> Result<(usize, Column), OperationError>
     ensures exact { result ≡ read_column columns.now (view value.now) }
 {
-    let name = value.as_str().ok_or(Fault::BadOperation)?;
-    columns.find(name).ok_or(Fault::UnknownColumn)
+    let name = value.as_str().ok_or(OperationError::BadOperation)?;
+    columns.find(name).ok_or(OperationError::UnknownColumn)
 }

@@ -5,21 +5,21 @@ ghost use Rattle.serde_json.specs.View.{view};
 ghost use Rattle.ovs_json.specs.Results.{result_map};
 ghost use Rattle.ovs_query.specs.ConditionReading.{named};
 ghost use Rattle.ovs_query.specs.SelectReading.{read_select};
-ghost use Rattle.ovs_operations.specs.Fault.{in_query};
+ghost use Rattle.ovs_operations.specs.OperationError.{in_query};
 ghost use Rattle.ovs_operations.specs.Operation.{IsOperationOf};
 ghost use Rattle.ovs_operations.specs.Owning.{owns};
 ghost use Rattle.ovs_operations.specs.Reading.{read_inserted, read_insert, altered_by, read_altered, read_alteration, read_comment, read_commit, read_assert, read_named_operation, read_operation};
 ghost use Rattle.ovs_operations.specs.declared.operation.Operation.TheVariants as does;
 
-use crate::fault::Fault;
 use crate::operation::{Alteration, Altering, Operation};
+use crate::operation_error::OperationError;
 use crate::reading::mutations::{read_mutations, read_row};
 use crate::reading::parts::{query_fault, read_conditions, read_own_name, read_table};
-use crate::setting::Setting;
-use ovs_json::both;
+use crate::transaction_context::TransactionContext;
+use ovs_json::{SessionId, both};
 use ovs_locks::LockTable;
 use ovs_query::{QueryError, Select};
-use ovs_rows::Place;
+use ovs_rows::RowKey;
 use ovs_types::{NamedIds, NoMemory, RowId, Schema, Table, Text};
 use serde_json::Value;
 use std::alloc::Global;
@@ -30,7 +30,7 @@ fn read_inserted(
     schema: &Schema,
     id: RowId,
     operation: &Value,
-) -> Result<Result<Operation, Fault>, NoMemory>
+) -> Result<Result<Operation, OperationError>, NoMemory>
     ensures exact { IfOk result (λ r. r ≡ read_inserted names.now schema.now.description.tables id (view operation.now)) }
 {
     let (table, columns) = match read_table(schema, operation) {
@@ -39,7 +39,7 @@ fn read_inserted(
     };
     match read_row(alloc, names, columns, operation.get("row"))? {
         Ok(mutations) => Ok(Ok(Operation::Insert {
-            place: Place { table, id },
+            place: RowKey { table, id },
             mutations,
         })),
         Err(fault) => Ok(Err(fault)),
@@ -53,7 +53,7 @@ fn read_insert(
     schema: &Schema,
     id: RowId,
     operation: &Value,
-) -> Result<Result<Operation, Fault>, NoMemory>
+) -> Result<Result<Operation, OperationError>, NoMemory>
     ensures exact { IfOk result (λ r. r ≡ read_insert names.now schema.now.description.tables id (view operation.now)) }
 {
     let inserted = read_inserted(alloc, names, schema, id, operation)?;
@@ -71,7 +71,7 @@ fn read_altered(
     altering: Altering,
     table: &Table,
     operation: &Value,
-) -> Result<Result<Alteration, Fault>, NoMemory>
+) -> Result<Result<Alteration, OperationError>, NoMemory>
     ensures exact { IfOk result (λ r. r ≡ read_altered names.now altering table.now.columns (view operation.now)) }
 {
     let columns = &table.columns;
@@ -92,9 +92,9 @@ fn altered(
     names: &NamedIds,
     number: usize,
     table: &Table,
-    alteration: Result<Alteration, Fault>,
+    alteration: Result<Alteration, OperationError>,
     operation: &Value,
-) -> Result<Result<Operation, Fault>, NoMemory>
+) -> Result<Result<Operation, OperationError>, NoMemory>
     ensures exact { IfOk result (λ r. r ≡ altered_by names.now (number, table.now) alteration (view operation.now)) }
 {
     let conditions = read_conditions(alloc, names, table, operation.get("where"))?;
@@ -114,7 +114,7 @@ fn read_alteration(
     schema: &Schema,
     altering: Altering,
     operation: &Value,
-) -> Result<Result<Operation, Fault>, NoMemory>
+) -> Result<Result<Operation, OperationError>, NoMemory>
     ensures exact { IfOk result (λ r. r ≡ read_alteration names.now schema.now.description.tables (read_altered names.now altering) (view operation.now)) }
 {
     match read_table(schema, operation) {
@@ -131,7 +131,7 @@ fn read_selected(
     names: &NamedIds,
     schema: &Schema,
     operation: &Value,
-) -> Result<Result<Operation, Fault>, NoMemory>
+) -> Result<Result<Operation, OperationError>, NoMemory>
     ensures exact { IfOk result (λ r. r ≡ result_map does.Select (in_query (read_select (named names.now) schema.now.description.tables (view operation.now)))) }
 {
     match Select::read_named(alloc, operation, schema, names) {
@@ -142,23 +142,23 @@ fn read_selected(
 }
 
 // "comment" has a text.
-fn read_comment(operation: &Value) -> Result<Operation, Fault>
+fn read_comment(operation: &Value) -> Result<Operation, OperationError>
     ensures exact { result ≡ read_comment (view operation.now) }
 {
     match operation.get("comment").and_then(Value::as_str) {
         Some(_) => Ok(Operation::Nothing),
-        None => Err(Fault::BadOperation),
+        None => Err(OperationError::BadOperation),
     }
 }
 
 // A commit is never durable.
-fn read_commit(operation: &Value) -> Result<Operation, Fault>
+fn read_commit(operation: &Value) -> Result<Operation, OperationError>
     ensures exact { result ≡ read_commit (view operation.now) }
 {
     match operation.get("durable").and_then(Value::as_bool) {
-        Some(true) => Err(Fault::NotSupported),
+        Some(true) => Err(OperationError::NotSupported),
         Some(false) => Ok(Operation::Nothing),
-        None => Err(Fault::BadOperation),
+        None => Err(OperationError::BadOperation),
     }
 }
 
@@ -166,38 +166,38 @@ fn read_commit(operation: &Value) -> Result<Operation, Fault>
 fn read_assert(
     alloc: Global,
     locks: &LockTable,
-    who: u64,
+    session: SessionId,
     operation: &Value,
-) -> Result<Result<Operation, Fault>, NoMemory>
-    ensures exact { IfOk result (λ r. r ≡ read_assert (owns who locks.now) (view operation.now)) }
+) -> Result<Result<Operation, OperationError>, NoMemory>
+    ensures exact { IfOk result (λ r. r ≡ read_assert (owns session locks.now) (view operation.now)) }
 {
     let Some(name) = operation.get("lock").and_then(Value::as_str) else {
-        return Ok(Err(Fault::BadOperation));
+        return Ok(Err(OperationError::BadOperation));
     };
     let name = Text::new(alloc, name)?;
-    if locks.owner(&name) == Some(who) {
+    if locks.owner(&name) == Some(session) {
         Ok(Ok(Operation::Nothing))
     } else {
-        Ok(Err(Fault::NotOwner))
+        Ok(Err(OperationError::NotOwner))
     }
 }
 
 // An operation of this name.
 fn read_named_operation(
     alloc: Global,
-    setting: &Setting<'_>,
+    context: &TransactionContext<'_>,
     schema: &Schema,
     id: Option<RowId>,
     name: &str,
     operation: &Value,
-) -> Result<Result<Operation, Fault>, NoMemory>
-    ensures exact { IfOk result (λ r. r ≡ read_named_operation setting.now.names.now schema.now.description.tables (owns setting.now.who setting.now.locks.now) id name.now (view operation.now)) }
+) -> Result<Result<Operation, OperationError>, NoMemory>
+    ensures exact { IfOk result (λ r. r ≡ read_named_operation context.now.names.now schema.now.description.tables (owns context.now.session context.now.locks.now) id name.now (view operation.now)) }
 {
-    let names = setting.names;
+    let names = context.names;
     if name == "insert" {
         match id {
             Some(id) => read_insert(alloc, names, schema, id, operation),
-            None => Ok(Err(Fault::BadOperation)),
+            None => Ok(Err(OperationError::BadOperation)),
         }
     } else if name == "update" {
         read_alteration(alloc, names, schema, Altering::Update, operation)
@@ -212,41 +212,41 @@ fn read_named_operation(
     } else if name == "commit" {
         Ok(read_commit(operation))
     } else if name == "abort" {
-        Ok(Err(Fault::Aborted))
+        Ok(Err(OperationError::Aborted))
     } else if name == "wait" {
-        Ok(Err(Fault::NotSupported))
+        Ok(Err(OperationError::NotSupported))
     } else if name == "assert" {
-        read_assert(alloc, setting.locks, setting.who, operation)
+        read_assert(alloc, context.locks, context.session, operation)
     } else {
-        Ok(Err(Fault::BadOperation))
+        Ok(Err(OperationError::BadOperation))
     }
 }
 
 fn operation_of(
     alloc: Global,
-    setting: &Setting<'_>,
+    context: &TransactionContext<'_>,
     schema: &Schema,
     id: Option<RowId>,
     operation: &Value,
-) -> Result<Result<Operation, Fault>, NoMemory>
-    ensures exact { IfOk result (λ r. r ≡ read_operation setting.now.names.now schema.now.description.tables (owns setting.now.who setting.now.locks.now) id (view operation.now)) }
+) -> Result<Result<Operation, OperationError>, NoMemory>
+    ensures exact { IfOk result (λ r. r ≡ read_operation context.now.names.now schema.now.description.tables (owns context.now.session context.now.locks.now) id (view operation.now)) }
 {
     match operation.get("op").and_then(Value::as_str) {
-        Some(name) => read_named_operation(alloc, setting, schema, id, name, operation),
-        None => Ok(Err(Fault::BadOperation)),
+        Some(name) => read_named_operation(alloc, context, schema, id, name, operation),
+        None => Ok(Err(OperationError::BadOperation)),
     }
 }
 
 /// The operation that a value stands for, or the first of its faults.
 pub(crate) fn read_operation(
     alloc: Global,
-    setting: &Setting<'_>,
+    context: &TransactionContext<'_>,
     schema: &Schema,
     id: Option<RowId>,
     operation: &Value,
-) -> Result<Result<Operation, Fault>, NoMemory>
-    ensures exact { IfOk result (λ r. r ≡ read_operation setting.now.names.now schema.now.description.tables (owns setting.now.who setting.now.locks.now) id (view operation.now)) }
+) -> Result<Result<Operation, OperationError>, NoMemory>
+    ensures exact { IfOk result (λ r. r ≡ read_operation context.now.names.now schema.now.description.tables (owns context.now.session context.now.locks.now) id (view operation.now)) }
     ensures of_tables { IfOk result (λ r. IfOk r (IsOperationOf schema.now.description.tables)) }
 {
-    operation_of(alloc, setting, schema, id, operation)
+    operation_of(alloc, context, schema, id, operation)
 }

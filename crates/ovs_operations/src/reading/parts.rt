@@ -3,11 +3,11 @@
 ghost use Rattle.std.specs.Prelude.{◌≡◌, IfOk, option_map};
 ghost use Rattle.serde_json.specs.View.{view};
 ghost use Rattle.ovs_types.specs.NamedReading.{read_named};
-ghost use Rattle.ovs_operations.specs.Fault.{in_value, query_fault};
+ghost use Rattle.ovs_operations.specs.OperationError.{in_value, query_fault};
 ghost use Rattle.ovs_operations.specs.Reading.{read_conditions, read_table, read_own_name};
 ghost use Rattle.ovs_json.specs.Results.{result_map};
 
-use crate::fault::Fault;
+use crate::operation_error::OperationError;
 use ovs_query::{Conditions, QueryError};
 use ovs_types::{Column, Datum, DatumError, NamedIds, NoMemory, RowId, Schema, Table, Text, is_id};
 use serde_json::Value;
@@ -19,31 +19,31 @@ pub(crate) fn read_value(
     names: &NamedIds,
     column: &Column,
     value: &Value,
-) -> Result<Result<Datum, Fault>, NoMemory>
+) -> Result<Result<Datum, OperationError>, NoMemory>
     ensures exact { IfOk result (λ r. r ≡ in_value (read_named names.now column.now (view value.now))) }
 {
     match Datum::read_named(alloc, value, column, names) {
         Ok(datum) => Ok(Ok(datum)),
         Err(DatumError::NoMemory) => Err(NoMemory),
-        Err(DatumError::UnknownName) => Ok(Err(Fault::UnknownName)),
-        Err(DatumError::WrongCount) => Ok(Err(Fault::Constraint)),
-        Err(_) => Ok(Err(Fault::BadValue)),
+        Err(DatumError::UnknownName) => Ok(Err(OperationError::UnknownName)),
+        Err(DatumError::WrongCount) => Ok(Err(OperationError::Constraint)),
+        Err(_) => Ok(Err(OperationError::BadValue)),
     }
 }
 
 /// A query's fault as the operation's.
-pub(crate) fn query_fault(error: QueryError) -> Fault
+pub(crate) fn query_fault(error: QueryError) -> OperationError
     ensures value { result ≡ query_fault error }
 {
     match error {
-        QueryError::UnknownTable => Fault::UnknownTable,
-        QueryError::UnknownColumn => Fault::UnknownColumn,
-        QueryError::BadCondition => Fault::BadCondition,
-        QueryError::UnknownName => Fault::UnknownName,
+        QueryError::UnknownTable => OperationError::UnknownTable,
+        QueryError::UnknownColumn => OperationError::UnknownColumn,
+        QueryError::BadCondition => OperationError::BadCondition,
+        QueryError::UnknownName => OperationError::UnknownName,
         QueryError::ManyRequests
         | QueryError::BadSelect
         | QueryError::BadOperation
-        | QueryError::NoMemory => Fault::BadOperation,
+        | QueryError::NoMemory => OperationError::BadOperation,
     }
 }
 
@@ -53,11 +53,11 @@ pub(crate) fn read_conditions(
     names: &NamedIds,
     table: &Table,
     value: Option<&Value>,
-) -> Result<Result<Conditions, Fault>, NoMemory>
+) -> Result<Result<Conditions, OperationError>, NoMemory>
     ensures exact { IfOk result (λ r. r ≡ read_conditions names.now table.now.columns (option_map (λ v. view v.now) value.entry)) }
 {
     let Some(value) = value else {
-        return Ok(Err(Fault::BadOperation));
+        return Ok(Err(OperationError::BadOperation));
     };
     match Conditions::read_named(alloc, value, table, names) {
         Ok(conditions) => Ok(Ok(conditions)),
@@ -70,14 +70,14 @@ pub(crate) fn read_conditions(
 pub(crate) fn read_table<'a>(
     schema: &'a Schema,
     operation: &Value,
-) -> Result<(usize, &'a Table), Fault>
+) -> Result<(usize, &'a Table), OperationError>
     ensures exact { result_map (λ p. (p.0, p.1.now)) result ≡ read_table schema.now.description.tables (view operation.now) }
 {
     let name = operation
         .get("table")
         .and_then(Value::as_str)
-        .ok_or(Fault::BadOperation)?;
-    schema.table(name).ok_or(Fault::UnknownTable)
+        .ok_or(OperationError::BadOperation)?;
+    schema.table(name).ok_or(OperationError::UnknownTable)
 }
 
 /// "uuid-name": a name that no earlier row has, so that it stands for this one.
@@ -86,22 +86,22 @@ pub(crate) fn read_own_name(
     names: &NamedIds,
     id: RowId,
     value: Option<&Value>,
-) -> Result<Result<(), Fault>, NoMemory>
+) -> Result<Result<(), OperationError>, NoMemory>
     ensures exact { IfOk result (λ r. r ≡ read_own_name names.now id (option_map (λ v. view v.now) value.entry)) }
 {
     let Some(value) = value else {
         return Ok(Ok(()));
     };
     let Some(name) = value.as_str() else {
-        return Ok(Err(Fault::BadOperation));
+        return Ok(Err(OperationError::BadOperation));
     };
     if !is_id(name) {
-        return Ok(Err(Fault::BadOperation));
+        return Ok(Err(OperationError::BadOperation));
     }
     let name = Text::new(alloc, name)?;
     if names.get(&name) == Some(id) {
         Ok(Ok(()))
     } else {
-        Ok(Err(Fault::DuplicateName))
+        Ok(Err(OperationError::DuplicateName))
     }
 }

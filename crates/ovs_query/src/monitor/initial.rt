@@ -5,7 +5,7 @@ ghost use Rattle.serde_json.specs.Data.{no_members};
 ghost use Rattle.serde_json.specs.View.{view, members_view};
 ghost use Rattle.ovs_rows.specs.ChangeWriting.{with_some};
 ghost use Rattle.ovs_rows.specs.Writing.{with_member};
-ghost use Rattle.ovs_query.specs.Shown.{shown_data, shown_columns};
+ghost use Rattle.ovs_query.specs.Projected.{shown_data, shown_columns};
 ghost use Rattle.ovs_query.specs.Telling.{first_row_json, first_json_of, first_members};
 ghost use Rattle.ovs_query.specs.UpdateWriting.{table_member, tables_json};
 
@@ -13,7 +13,7 @@ use crate::monitor::row_update1::whole_json;
 use crate::monitor::row_update2::insert_json;
 use crate::monitor::tables::{put_row, put_table};
 use crate::monitor::{Notation, Watched};
-use crate::shown::Shown;
+use crate::projected::Projected;
 use ovs_json::under_name;
 use ovs_rows::{Database, Row};
 use ovs_types::{NoMemory, RowId};
@@ -23,7 +23,7 @@ use std::alloc::Global;
 fn first_row_json(
     alloc: Global,
     notation: Notation,
-    shown: &[Shown],
+    shown: &[Projected],
     id: RowId,
     row: &Row,
 ) -> Result<Value, NoMemory>

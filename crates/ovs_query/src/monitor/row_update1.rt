@@ -7,12 +7,12 @@ ghost use Rattle.serde_json.specs.View.{view};
 ghost use Rattle.ovs_rows.specs.ChangeWriting.{modify_json};
 ghost use Rattle.ovs_rows.specs.Writing.{object_of};
 ghost use Rattle.ovs_query.specs.RowUpdates.{previous_datum, previous, row_update_between};
-ghost use Rattle.ovs_query.specs.Shown.{shown_data, shown_columns};
+ghost use Rattle.ovs_query.specs.Projected.{shown_data, shown_columns};
 ghost use Rattle.ovs_query.specs.UpdateWriting.{whole_json, row_update_json};
 ghost use Rattle.ovs_query.specs.Updates.{row_update_told};
 
 use crate::monitor::Watched;
-use crate::shown::{Shown, shown_datum, shown_json};
+use crate::projected::{Projected, shown_datum, shown_json};
 use ovs_json::{put, under_name};
 use ovs_rows::{Row, put_cell};
 use ovs_types::{Datum, NoMemory, RowId};
@@ -22,7 +22,7 @@ use std::alloc::Global;
 /// All that is shown of a row.
 pub(crate) fn whole_json(
     alloc: Global,
-    shown: &[Shown],
+    shown: &[Projected],
     id: RowId,
     row: &Row,
 ) -> Result<Value, NoMemory>
@@ -41,7 +41,7 @@ fn previous_datum<'a>(old: &'a Datum, new: &'a Datum) -> Option<&'a Datum>
 // Whether shown columns changed, and their previous data, each under its name. No other datum is copied.
 fn previous_json(
     alloc: Global,
-    shown: &[Shown],
+    shown: &[Projected],
     id: RowId,
     old: &Row,
     new: &Row,
@@ -73,7 +73,7 @@ fn new_and_old(alloc: Global, new: Value, old: Value) -> Result<Value, NoMemory>
 // What is told of a row whose data are others, or nothing where they are the same.
 fn changed_json(
     alloc: Global,
-    shown: &[Shown],
+    shown: &[Projected],
     id: RowId,
     old: &Row,
     new: &Row,

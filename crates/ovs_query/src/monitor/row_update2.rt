@@ -6,12 +6,12 @@ ghost use Rattle.serde_json.specs.View.{view};
 ghost use Rattle.ovs_rows.specs.ChangeWriting.{beside_default, as_edited, insert_json, modify_json, action_json, AreSpelled, IsSpelledAction};
 ghost use Rattle.ovs_rows.specs.DatabaseDifference.{edits_between};
 ghost use Rattle.ovs_rows.specs.Row.{AreDataOf};
-ghost use Rattle.ovs_query.specs.Shown.{shown_data, shown_columns};
+ghost use Rattle.ovs_query.specs.Projected.{shown_data, shown_columns};
 ghost use Rattle.ovs_query.specs.Telling.{AreShown};
 ghost use Rattle.ovs_query.specs.Updates.{update_between, action_told};
 
 use crate::monitor::Watched;
-use crate::shown::{Shown, shown_datum};
+use crate::projected::{Projected, shown_datum};
 use ovs_json::under_name;
 use ovs_rows::{Row, beside_default, edit_between, has_edit, put_cell};
 use ovs_types::{Datum, NoMemory, RowId};
@@ -21,7 +21,7 @@ use std::alloc::Global;
 /// The shown columns of a row that aren't at their default.
 pub(crate) fn insert_json(
     alloc: Global,
-    shown: &[Shown],
+    shown: &[Projected],
     id: RowId,
     row: &Row,
 ) -> Result<Value, NoMemory>
@@ -40,7 +40,7 @@ pub(crate) fn insert_json(
 // The edits of the shown columns that lead from one row to another.
 fn edits_between(
     alloc: Global,
-    shown: &[Shown],
+    shown: &[Projected],
     id: RowId,
     old: &Row,
     new: &Row,
@@ -59,7 +59,11 @@ fn edits_between(
 }
 
 // The columns of which something is written, each under its name.
-fn modify_json(alloc: Global, shown: &[Shown], edits: &[Option<Datum>]) -> Result<Value, NoMemory>
+fn modify_json(
+    alloc: Global,
+    shown: &[Projected],
+    edits: &[Option<Datum>],
+) -> Result<Value, NoMemory>
     ensures value { IfOk result (λ v. view v ≡ modify_json (shown_columns shown.now) edits.now) }
     ensures spelled { OnOk result (AreSpelled as_edited (shown_columns shown.now) edits.now) }
 {
@@ -73,7 +77,7 @@ fn modify_json(alloc: Global, shown: &[Shown], edits: &[Option<Datum>]) -> Resul
 // What is told of a row whose data are others, or nothing where they are the same.
 fn changed_json(
     alloc: Global,
-    shown: &[Shown],
+    shown: &[Projected],
     id: RowId,
     old: &Row,
     new: &Row,

@@ -5,8 +5,8 @@ ghost use Rattle.serde_json.specs.View.{view, items_view};
 ghost use Rattle.ovs_query.specs.ConditionReading.{read_shown, read_each_shown, read_listed, numbered_from, all_but_id, all_shown};
 
 use crate::error::QueryError;
+use crate::projected::{Field, Projected, ShownColumns};
 use crate::reading::fields::{field_named, id_column, shown_field};
-use crate::shown::{Field, Shown, ShownColumns};
 use ovs_json::with_one;
 use ovs_types::{NamedColumn, NamedColumns, NoMemory};
 use serde_json::Value;
@@ -15,7 +15,7 @@ use std::alloc::Global;
 // These, and all columns after them.
 fn with_all(
     alloc: Global,
-    mut items: Vec<Shown>,
+    mut items: Vec<Projected>,
     columns: &[NamedColumn],
 ) -> Result<ShownColumns, NoMemory>
     ensures value { IfOk result (λ s. s ≡ items.items ++ numbered_from 0 columns.now) }
@@ -52,7 +52,7 @@ fn read_shown(
     fault: QueryError,
     columns: &NamedColumns,
     value: &Value,
-) -> Result<Result<Shown, QueryError>, NoMemory>
+) -> Result<Result<Projected, QueryError>, NoMemory>
     ensures exact { IfOk result (λ r. r ≡ read_shown fault columns.now (view value.now)) }
 {
     let Some(name) = value.as_str() else {

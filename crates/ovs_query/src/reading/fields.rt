@@ -2,9 +2,9 @@
 
 ghost use Rattle.std.specs.Prelude.{◌≡◌, IfOk};
 ghost use Rattle.ovs_query.specs.ConditionReading.{field_named, shown_field};
-ghost use Rattle.ovs_query.specs.Shown.{id_column};
+ghost use Rattle.ovs_query.specs.Projected.{id_column};
 
-use crate::shown::{Field, Shown};
+use crate::projected::{Field, Projected};
 use ovs_types::{AtomKind, Column, NamedColumn, NamedColumns, NoMemory, Text};
 use std::alloc::Global;
 
@@ -42,10 +42,10 @@ pub(crate) fn shown_field(
     name: &str,
     field: Field,
     column: Column,
-) -> Result<Shown, NoMemory>
+) -> Result<Projected, NoMemory>
     ensures value { IfOk result (λ s. s ≡ shown_field name.now (field, column)) }
 {
-    Ok(Shown {
+    Ok(Projected {
         field,
         named: NamedColumn {
             name: Text::new(alloc, name)?,

@@ -10,9 +10,9 @@ ghost use Rattle.ovs_query.specs.MonitorReading.{read_kind, read_each_kind, all_
 use crate::clauses::{Clause, Clauses};
 use crate::error::QueryError;
 use crate::monitor::{Kinds, Notation, Watched};
+use crate::projected::ShownColumns;
 use crate::reading::columns::{all_but_id, read_listed};
 use crate::reading::conditions::{PlainValues, read_condition};
-use crate::shown::ShownColumns;
 use ovs_json::{both, with_one};
 use ovs_types::{NamedColumns, NoMemory, Table};
 use serde_json::Value;

@@ -16,10 +16,10 @@ ghost use Rattle.ovs_query.specs.QueryFaults.{InPlain, InNamed, InConditions, In
 
 use crate::conditions::Conditions;
 use crate::error::QueryError;
+use crate::projected::ShownColumns;
 use crate::reading::columns::{all_shown, read_listed};
 use crate::reading::conditions::{PlainValues, ValueReader, read_conditions};
 use crate::select::Select;
-use crate::shown::ShownColumns;
 use ovs_json::both;
 use ovs_types::{NamedColumns, NamedIds, NoMemory, Schema, Table};
 use serde_json::Value;

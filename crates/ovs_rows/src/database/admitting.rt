@@ -8,8 +8,8 @@ ghost use Rattle.ovs_rows.specs.Admitting.{admit_all, table_admits, admitted_at,
 
 use crate::applied::Touched;
 use crate::database::overlay::row_of;
-use crate::place::Place;
 use crate::row::Row;
+use crate::row_key::RowKey;
 use ovs_types::{Datum, NamedColumn, NoMemory, Table};
 use std::alloc::Global;
 
@@ -45,7 +45,7 @@ fn table_at(tables: &[Table], number: usize) -> Option<&Table>
 }
 
 /// Whether the row, or none, may stand at the place.
-pub(crate) fn admitted_at(tables: &[Table], place: Place, row: Option<&Row>) -> bool
+pub(crate) fn admitted_at(tables: &[Table], place: RowKey, row: Option<&Row>) -> bool
     ensures value { result ≡ admitted_at tables.now place (option_copied row.entry) }
     ensures decides { IsTrue result ↔ IsRowAt tables.now place (option_copied row.entry) }
 {

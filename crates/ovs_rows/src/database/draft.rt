@@ -14,8 +14,8 @@ use crate::database::Database;
 use crate::database::applying::columns_at;
 use crate::database::differing::{arrival, fate, with_action};
 use crate::database::overlay::{Overlay, row_of};
-use crate::place::Place;
 use crate::row::Row;
+use crate::row_key::RowKey;
 use crate::shared_row::SharedRow;
 use ovs_types::{NamedColumn, NoMemory, RowId, Schema};
 use std::alloc::Global;
@@ -123,14 +123,14 @@ impl<'a> Draft<'a> {
     }
 
     /// The row at a place, or `None` where none is to stand.
-    pub fn row(&self, place: Place) -> Option<&Row>
+    pub fn row(&self, place: RowKey) -> Option<&Row>
         ensures value { option_copied result ≡ get self.now.rows place }
     {
         let base = &*self.base;
-        let Place { table, id } = place;
-        match self.changed.get(Place { table, id }) {
+        let RowKey { table, id } = place;
+        match self.changed.get(RowKey { table, id }) {
             Some(put) => row_of(put),
-            None => base.row(Place { table, id }),
+            None => base.row(RowKey { table, id }),
         }
     }
 
@@ -139,7 +139,7 @@ impl<'a> Draft<'a> {
     ///
     /// # Errors
     /// `NoMemory` alone; the draft is then as it was.
-    pub fn set_row(&mut self, place: Place, row: Option<SharedRow>) -> Result<(), NoMemory>
+    pub fn set_row(&mut self, place: RowKey, row: Option<SharedRow>) -> Result<(), NoMemory>
         requires of_table { IsRowAt self.old.before.schema.description.tables place row }
         ensures value { OnOk result (self.new ≡ record { before = self.old.before; rows = put_at self.old.rows place row }) }
         ensures unchanged { OnErr result (self.new ≡ self.old) }
@@ -161,7 +161,7 @@ impl<'a> Draft<'a> {
             if before.is_some() {
                 return before;
             }
-            if let Some(row) = self.changed.row(Place { table, id }) {
+            if let Some(row) = self.changed.row(RowKey { table, id }) {
                 return Some((id, row));
             }
             last = Some(id);

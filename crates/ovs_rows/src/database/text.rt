@@ -11,8 +11,8 @@ ghost use Rattle.ovs_rows.specs.ObjectText.{name_text, member_text};
 use crate::database::Database;
 use crate::database::row_map::RowMap;
 use crate::database::writing::row_json;
-use crate::place::Place;
 use crate::row::Row;
+use crate::row_key::RowKey;
 use ovs_json::text_json;
 use ovs_types::{NamedColumn, NoMemory, RowId, Table};
 use std::alloc::Global;
@@ -80,7 +80,7 @@ fn push_table(
     requires { number + 1 < 2 ^ 64 }
     ensures text { OnOk result (string_bytes text.new ≡ string_bytes text.old ++ compact_text (table_json rows.now (number, table.now))) }
 {
-    let places = Place::first(number)..Place::first(number + 1);
+    let places = RowKey::first(number)..RowKey::first(number + 1);
     let mut later = false;
     text.push_str("{")?;
     for (place, row) in rows.as_map().range(places) {

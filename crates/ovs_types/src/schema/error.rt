@@ -3,7 +3,7 @@
 ghost use Rattle.std.specs.Prelude.{◌≡◌};
 ghost use Rattle.ovs_types.specs.SchemaFaults.{rank, schema_word};
 
-use ovs_json::{Fault, NoMemory};
+use ovs_json::{NoMemory, Ranked};
 use std::alloc::AllocError;
 use thiserror::Error;
 
@@ -45,7 +45,7 @@ impl SchemaError {
     }
 }
 
-impl Fault for SchemaError {
+impl Ranked for SchemaError {
     ghost rank = { rank };
 
     fn rank(&self) -> u8 {

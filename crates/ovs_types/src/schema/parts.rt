@@ -7,7 +7,7 @@ use ovs_json::NoMemory;
 use std::alloc::Global;
 
 /// A column or a table of a schema, under its name.
-pub(crate) trait Part: Drop {
+pub(crate) trait SchemaPart: Drop {
     /// Whether the two are the same.
     fn same(&self, other: &Self) -> bool
         ensures same { IsTrue result ↔ (self.now ≡ other.now) };
@@ -18,7 +18,7 @@ pub(crate) trait Part: Drop {
 }
 
 /// Whether two lists have the same parts, in the same order.
-fn same_parts<P: Part>(left: &[P], right: &[P]) -> bool
+fn same_parts<P: SchemaPart>(left: &[P], right: &[P]) -> bool
     ensures same { IsTrue result ↔ (left.now ≡ right.now) }
 {
     let mut left = left;
@@ -37,7 +37,7 @@ fn same_parts<P: Part>(left: &[P], right: &[P]) -> bool
 }
 
 /// Equal parts, in the same order.
-fn copies<P: Part>(alloc: Global, parts: &[P]) -> Result<Vec<P>, NoMemory>
+fn copies<P: SchemaPart>(alloc: Global, parts: &[P]) -> Result<Vec<P>, NoMemory>
     ensures equal { IfOk result (λ copies. copies.items ≡ parts.now) }
 {
     let mut copies = Vec::with_capacity(alloc, parts.len())?;
@@ -47,7 +47,7 @@ fn copies<P: Part>(alloc: Global, parts: &[P]) -> Result<Vec<P>, NoMemory>
     Ok(copies)
 }
 
-impl Part for NamedColumn {
+impl SchemaPart for NamedColumn {
     fn same(&self, other: &NamedColumn) -> bool {
         self.name == other.name && self.column == other.column
     }
@@ -76,7 +76,7 @@ impl NamedColumns {
     }
 }
 
-impl Part for Table {
+impl SchemaPart for Table {
     fn same(&self, other: &Table) -> bool {
         self.name == other.name && self.columns.same(&other.columns)
     }

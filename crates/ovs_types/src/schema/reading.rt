@@ -37,7 +37,7 @@ fn checked_name(name: &str) -> Result<(), SchemaError>
 }
 
 // What stands under a name in an object: a column or a table.
-trait Member: Drop {
+trait SchemaMember: Drop {
     // What a member is read as.
     ghost read: { List ℕ → Data → Read Self };
 
@@ -46,7 +46,7 @@ trait Member: Drop {
 }
 
 // All members of an object, whose names ascend.
-fn read_members<M: Member>(
+fn read_members<M: SchemaMember>(
     alloc: Global,
     members: &Map<String, Value>,
 ) -> Result<Result<Vec<M>, SchemaError>, NoMemory>
@@ -60,7 +60,7 @@ fn read_members<M: Member>(
     Ok(so_far)
 }
 
-impl Member for NamedColumn {
+impl SchemaMember for NamedColumn {
     ghost read = { read_named_column };
 
     fn read(
@@ -99,7 +99,7 @@ fn columns_in(alloc: Global, value: &Value) -> Result<Result<NamedColumns, Schem
     }
 }
 
-impl Member for Table {
+impl SchemaMember for Table {
     ghost read = { read_table };
 
     fn read(

@@ -1,11 +1,13 @@
 //! The framer: pieces of a stream in, whole messages out.
 ghost use Rattle.std.specs.Prelude.{◌≡◌, ◌≤◌, ◌<◌, ◌-◌, ◌++◌, if◌then◌else◌, false, length, take, drop, OnOk, OnErr};
+ghost use Rattle.ovs_wire.specs.Limits.{most_bytes};
 ghost use Rattle.ovs_wire.specs.Frames.{Fault};
 ghost use Rattle.ovs_wire.specs.Framing.{IsNew, Feeds, Answers};
 
 use crate::error::FrameError;
-use crate::framing::place::Place;
+use crate::framing::limits::MAX_MESSAGE_BYTES;
 use crate::framing::scan::{Span, Tail, scan};
+use crate::framing::scan_position::ScanPosition;
 use ovs_json::NoMemory;
 use std::alloc::Global;
 use std::collections::VecDeque;
@@ -61,8 +63,8 @@ fn drop_taken(buffer: &mut Vec<u8>, taken: usize) -> bool
 /// Splits a stream of bytes into JSON objects with white space between them, as they come over a connection
 /// (RFC 7047 section 4).
 ///
-/// The stream comes in pieces, cut anywhere. A contract sees the messages that are whole and wait, and then the
-/// rest, of which more bytes may make a message, or the stream's first fault.
+/// The stream comes in pieces, cut anywhere. A contract sees how many bytes a message may have, the messages that are
+/// whole and wait, and then the rest, of which more bytes may make a message, or the stream's first fault.
 ///
 /// Each byte is looked at once. One buffer holds the messages and the rest, and a message that is taken is lent from it.
 /// What is left is moved to its front once at least half of the buffer was taken, by a feed, or by a `next` where no
@@ -70,6 +72,7 @@ fn drop_taken(buffer: &mut Vec<u8>, taken: usize) -> bool
 /// those that it holds, at most; and the queue for about four times the messages that waited after the last piece.
 #[derive(Debug, Drop)]
 pub struct Framer {
+    limit: usize,
     buffer: Vec<u8>,
     // how many bytes at its front were taken
     taken: usize,
@@ -86,10 +89,10 @@ impl Model for Framer {
 
     ghost Value = { Framing };
 
-    ghost view = { λ f. framing (messages f.waiting.items (drop f.taken f.buffer.items))
+    ghost view = { λ f. framing f.limit (messages f.waiting.items (drop f.taken f.buffer.items))
         (ending_of f.fault (drop f.tail.start f.buffer.items)) };
 
-    ghost invariant = { λ f. IsTail f.buffer.items f.tail × (f.tail.end ≡ f.taken + spanned f.waiting.items) };
+    ghost invariant = { λ f. IsTail f.limit f.buffer.items f.tail × (f.tail.end ≡ f.taken + spanned f.waiting.items) };
 }
 
 impl Framer {
@@ -99,22 +102,37 @@ impl Framer {
     ghost use Rattle.ovs_wire.specs.Framing.{Takes, without_first};
     ghost use Rattle.ovs_wire.specs.contracts.framing.framer.Framer.{the_row};
 
-    /// The framer of a stream of which nothing has come yet.
+    /// The framer of a stream of which nothing has come yet. A message may have `MAX_MESSAGE_BYTES`.
     pub fn new(alloc: Global) -> Framer
-        ensures is_new { IsNew result }
+        ensures is_new { IsNew most_bytes result }
+    {
+        Framer::with_limit(alloc, MAX_MESSAGE_BYTES)
+    }
+
+    /// The framer of a stream of which nothing has come yet. A message may have `limit` bytes.
+    pub fn with_limit(alloc: Global, limit: usize) -> Framer
+        ensures is_new { IsNew limit result }
     {
         let tail = Tail {
             end: 0,
             start: 0,
-            place: Place::start(),
+            place: ScanPosition::start(),
         };
         Framer {
+            limit,
             buffer: Vec::new(alloc),
             taken: 0,
             waiting: VecDeque::new(alloc),
             tail,
             fault: None,
         }
+    }
+
+    /// How many bytes a message may have.
+    pub fn limit(&self) -> usize
+        ensures value { result ≡ self.now.limit }
+    {
+        self.limit
     }
 
     // Where no message waits, white space before the rest counts as taken.
@@ -157,7 +175,7 @@ impl Framer {
         let alloc = *self.buffer.allocator();
         let held = self.buffer.len();
         self.buffer.extend_from_slice(piece)?;
-        let scanned = match scan(alloc, &self.buffer, held, self.tail) {
+        let scanned = match scan(alloc, &self.buffer, held, self.tail, self.limit) {
             Ok(scanned) => scanned,
             Err(error) => {
                 cut_back(&mut self.buffer, held);

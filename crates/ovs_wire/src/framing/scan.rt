@@ -1,14 +1,14 @@
 //! The messages in the bytes that came.
 ghost use Rattle.std.specs.Prelude.{◌≡◌, ◌+◌, ◌≤◌, ◌<◌, ◌↔◌, ◌++◌, ◌∷◌, [], ℕ, List, length, take, drop, IsTrue, IfOk, IfErr, OnOk};
-ghost use Rattle.ovs_wire.specs.Limits.{most_nesting, most_bytes};
-ghost use Rattle.ovs_wire.specs.Place.{place_after};
+ghost use Rattle.ovs_wire.specs.Limits.{most_nesting};
+ghost use Rattle.ovs_wire.specs.ScanPosition.{place_after};
 ghost use Rattle.ovs_wire.specs.Frames.{AreFrames, Breaks, IsSpace, IsUnfinished};
 ghost use Rattle.ovs_wire.specs.Framing.{ending_of};
 ghost use Rattle.ovs_wire.specs.Spans.{IsTail, messages, spanned};
 
 use crate::error::FrameError;
-use crate::framing::limits::{MAX_MESSAGE_BYTES, MAX_NESTING};
-use crate::framing::place::Place;
+use crate::framing::limits::MAX_NESTING;
+use crate::framing::scan_position::ScanPosition;
 use ovs_json::NoMemory;
 use std::alloc::Global;
 use std::collections::VecDeque;
@@ -26,7 +26,7 @@ pub(crate) struct Span {
 pub(crate) struct Tail {
     pub end: usize,
     pub start: usize,
-    pub place: Place,
+    pub place: ScanPosition,
 }
 
 /// What a scan found: whole messages, what stands behind them, and the first fault.
@@ -44,17 +44,18 @@ fn is_space(byte: u8) -> bool
     matches!(byte, b' ' | b'\t' | b'\r' | b'\n')
 }
 
-// The place after one more byte of a message that has `len` bytes up to `place`, or the fault that this byte is.
-fn go_on(place: Place, len: usize, byte: u8) -> Result<Place, FrameError>
+// The place after one more byte of a message that has `len` bytes up to `place` and may have `most`, or the fault that this
+// byte is.
+fn go_on(place: ScanPosition, len: usize, byte: u8, most: usize) -> Result<ScanPosition, FrameError>
     requires nests { place.depth ≤ most_nesting }
     requires no_space { len ≡ 0 → IsSpace byte → ⊥ }
     ensures place { IfOk result (λ next. (before : List ℕ) → place ≡ place_after before
         → next ≡ place_after (before ++ byte ∷ [])) }
     ensures nests { IfOk result (λ next. next.depth ≤ most_nesting) }
     ensures opens { OnOk result (len ≡ 0 → byte ≡ 123) }
-    ensures fits { OnOk result (len < most_bytes) }
-    ensures fault { IfErr result (λ fault. (before : List ℕ) → IsUnfinished before
-        → length before ≡ len → place ≡ place_after before → Breaks before byte fault) }
+    ensures fits { OnOk result (len < most) }
+    ensures fault { IfErr result (λ fault. (before : List ℕ) → IsUnfinished most before
+        → length before ≡ len → place ≡ place_after before → Breaks most before byte fault) }
 {
     if len == 0 && byte != b'{' {
         return Err(FrameError::NotObject);
@@ -63,25 +64,26 @@ fn go_on(place: Place, len: usize, byte: u8) -> Result<Place, FrameError>
     if next.depth > MAX_NESTING {
         return Err(FrameError::TooDeep);
     }
-    if len >= MAX_MESSAGE_BYTES {
+    if len >= most {
         return Err(FrameError::TooLong);
     }
     Ok(next)
 }
 
-/// Scans on from the first `held` bytes, of which `tail` is behind the last whole message.
+/// Scans on from the first `held` bytes, of which `tail` is behind the last whole message. A message may have `most` bytes.
 pub(crate) fn scan(
     alloc: Global,
     bytes: &[u8],
     held: usize,
     tail: Tail,
+    most: usize,
 ) -> Result<Scanned, NoMemory>
     requires held { held ≤ length bytes.now }
-    requires tail { IsTail (take held bytes.now) tail }
-    ensures frames { IfOk result (λ s. AreFrames (drop tail.start bytes.now)
+    requires tail { IsTail most (take held bytes.now) tail }
+    ensures frames { IfOk result (λ s. AreFrames most (drop tail.start bytes.now)
         (messages s.found.items (drop tail.end bytes.now)) (ending_of s.fault (drop s.tail.start bytes.now))) }
     ensures end { IfOk result (λ s. s.tail.end ≡ tail.end + spanned s.found.items) }
-    ensures tail { IfOk result (λ s. IsTail bytes.now s.tail) }
+    ensures tail { IfOk result (λ s. IsTail most bytes.now s.tail) }
 {
     let mut found = VecDeque::new(alloc);
     let mut end = tail.end;
@@ -93,14 +95,14 @@ pub(crate) fn scan(
             start = i + 1;
             continue;
         }
-        match go_on(place, len, byte) {
+        match go_on(place, len, byte, most) {
             Ok(next) => place = next,
             Err(fault) => return Ok(Scanned {
                 found,
                 tail: Tail {
                     end,
                     start: bytes.len(),
-                    place: Place::start(),
+                    place: ScanPosition::start(),
                 },
                 fault: Some(fault),
             }),
@@ -113,7 +115,7 @@ pub(crate) fn scan(
             found.push_back(span)?;
             end = i + 1;
             start = i + 1;
-            place = Place::start();
+            place = ScanPosition::start();
         }
     }
     Ok(Scanned {

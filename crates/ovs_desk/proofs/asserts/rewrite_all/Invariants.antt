@@ -6,4 +6,4 @@ use Rattle.ovs_desk.proofs.asserts.rewrite_all.Given as goal
 abbrev pub invariant-loop-operation : goal.invariant-loop-operation
 invariant-loop-operation l =
     map view l.operations
-    ≡ map (rewritten l.locks.locks l.who) (take l.operation-index (map view l.fn.operations)) ++ drop l.operation-index (map view l.fn.operations)
+    ≡ map (rewritten l.locks.locks l.session) (take l.operation-index (map view l.fn.operations)) ++ drop l.operation-index (map view l.fn.operations)

@@ -7,8 +7,8 @@ use Rattle.ovs_desk.specs.ByAsker.{first_number, InOrder, place}
 use Rattle.ovs_desk.proofs.ByAskers.{first_at, own_number, least}
 use Rattle.ovs_desk.proofs.by_asker.first_number.Goals as goal
 
-at_place : (who : ℕ) (l : List ByAsker) (n : ℕ) → InOrder l → n ≡ place (least who) l → first_number who l ≡ own_number who (slice_get l n)
-at_place who l n o at = first_at who l o ∙ ap (λ (k : ℕ). own_number who (slice_get l k)) (sym at)
+at_place : (session : ℕ) (l : List ByAsker) (n : ℕ) → InOrder l → n ≡ place (least session) l → first_number session l ≡ own_number session (slice_get l n)
+at_place session l n o at = first_at session l o ∙ ap (λ (k : ℕ). own_number session (slice_get l k)) (sym at)
 
 pub returns-in_err-one : goal.returns-in_err-one
 returns-in_err-one c =

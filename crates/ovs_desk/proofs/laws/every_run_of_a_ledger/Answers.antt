@@ -10,5 +10,5 @@ returns c = record {
   up = λ list end runs. in_order no_request list end runs;
   once = λ list end runs. once no_request list end (omega arith) runs;
   own = λ list end runs. own [] no_request list end tt runs;
-  ended = λ who before after end runs away. ended who no_request before after end runs away;
+  ended = λ session before after end runs away. ended session no_request before after end runs away;
 }

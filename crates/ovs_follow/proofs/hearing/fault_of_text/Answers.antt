@@ -1,5 +1,5 @@
 use Rattle.std.proofs.Common.{◌≡◌, Err, ap}
-use Rattle.ovs_session.specs.declared.ended.Refusal.TheVariants.{BadInput}
+use Rattle.ovs_session.specs.declared.ended.ServiceError.TheVariants.{BadInput}
 use Rattle.ovs_follow.proofs.hearing.fault_of_text.Goals as goal
 
 pub returns-in-Ok : goal.returns-in-Ok

@@ -2,4 +2,4 @@ use Rattle.ovs_follow.proofs.Derived.{links_exist, links_once}
 use Rattle.ovs_follow.proofs.laws.derived_laws.Goals as goal
 
 pub returns : goal.returns
-returns c = record { exist = links_exist; once = links_once }
+returns c = record { exist = links_exist; once = λ most. links_once }

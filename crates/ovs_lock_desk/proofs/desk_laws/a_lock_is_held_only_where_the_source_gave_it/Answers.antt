@@ -4,5 +4,5 @@ use Rattle.ovs_lock_desk.proofs.desk_laws.a_lock_is_held_only_where_the_source_g
 pub returns : goal.returns
 returns c = record {
   events = λ event l held. held_only event l held;
-  asking = λ has_source who verb id l free. not_by_asking has_source who verb id l free;
+  asking = λ has_source session verb id l free. not_by_asking has_source session verb id l free;
 }

@@ -9,11 +9,11 @@ pub returns : goal.returns
 returns g c = record {
   kept =
       ∥∥₁_elim c.requires.told ∥∥₁_prop (λ all. all_kept _ _ (λ s ends. ∥∥₁_map s.slot.lawful (λ m.
-      let who = m.begun.0 in
+      let session_id = m.begun.0 in
       let last = m.begun.1 in (
-        who,
+        session_id,
         last,
-        kept_by g.K.NodeName.schema g.D.Desk.replies g.D.Desk.owes _ who last _ _ _ _ _ _ s.ended m.moved (ap fresh m.begun.2)
+        kept_by g.K.NodeName.schema g.D.ServiceAuthority.replies g.D.ServiceAuthority.owes _ session_id last _ _ _ _ _ _ s.ended m.moved (ap fresh m.begun.2)
             (λ e. let closed = m.end.closed (ends_closed s.ended s.slot.session.ended ends e) in (closed.0, closed.1.0))
             (λ e. (m.end.bad (ends_bad s.ended s.slot.session.ended ends e)).0),
       ))) c.args.served.now all);

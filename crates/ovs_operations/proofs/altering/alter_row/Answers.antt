@@ -1,7 +1,7 @@
 use Rattle.std.proofs.Common.{◌≡◌, sym, subst, ap, ◌∙◌}
 use Rattle.std.specs.FinMap.{get}
 use Rattle.std.specs.Option.{option_copied}
-use Rattle.ovs_rows.specs.declared.place.Place.{Place}
+use Rattle.ovs_rows.specs.declared.row_key.RowKey.{RowKey}
 use Rattle.ovs_rows.specs.Row.{AreDataOf, IsRowAt, columns_at}
 use Rattle.ovs_rows.specs.Draft.{DraftValue}
 use Rattle.ovs_rows.specs.Database.{DatabaseValue}
@@ -15,7 +15,7 @@ use Rattle.ovs_operations.proofs.altering.alter_row.Goals as goal
 
 pub altered-requires-clause-row : goal.altered-requires-clause-row
 altered-requires-clause-row c =
-    let p : Place = record { table = c.args.table; id = c.args.id } in
+    let p : RowKey = record { table = c.args.table; id = c.args.id } in
     let columns : c.columns_at-columns.result.now ≡ columns_at c.args.work.now.before.schema.description.tables c.args.table
     = c.columns_at-columns.ensures.value ∙ ap (λ (ts : List Table). columns_at ts c.args.table) (c.tables.ensures.all ∙ ap (λ (s : SchemaValue). s.description.tables) c.schema-schema.ensures.value) in
     let stands = c.schema-schema.ensures.rows p c.in-Some.row.now (sym c.in-Some.ensures.value) in
@@ -23,7 +23,7 @@ altered-requires-clause-row c =
 
 pub set_row-requires : goal.set_row-requires
 set_row-requires c =
-    let p : Place = record { table = c.args.table; id = c.args.id } in
+    let p : RowKey = record { table = c.args.table; id = c.args.id } in
     let tables = c.args.work.now.before.schema.description.tables in
     let columns : c.columns_at-columns.result.now ≡ columns_at tables c.args.table
     = c.columns_at-columns.ensures.value ∙ ap (λ (ts : List Table). columns_at ts c.args.table) (c.tables.ensures.all ∙ ap (λ (s : SchemaValue). s.description.tables) c.schema-schema.ensures.value) in
@@ -32,7 +32,7 @@ set_row-requires c =
 
 pub returns-in_ok-set_row-in-Ok-clause-commit : goal.returns-in_ok-set_row-in-Ok-clause-commit
 returns-in_ok-set_row-in-Ok-clause-commit c = λ k.
-    let p : Place = record { table = c.args.table; id = c.args.id } in
+    let p : RowKey = record { table = c.args.table; id = c.args.id } in
     let tables = c.args.work.now.before.schema.description.tables in
     let columns : c.columns_at-columns.result.now ≡ columns_at tables c.args.table
     = c.columns_at-columns.ensures.value ∙ ap (λ (ts : List Table). columns_at ts c.args.table) (c.tables.ensures.all ∙ ap (λ (s : SchemaValue). s.description.tables) c.schema-schema.ensures.value) in

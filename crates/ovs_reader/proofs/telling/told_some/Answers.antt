@@ -3,8 +3,9 @@ use Rattle.std.specs.List.{AllByRecursion}
 use Rattle.std.proofs.lemmas.List.{drop_more}
 use Rattle.ovs_query.specs.Updates.{AreTouchedOf}
 use Rattle.ovs_wire.specs.declared.message.Message.{Message}
-use Rattle.ovs_reader.specs.Telling.{told, notices, AreToldReadably}
+use Rattle.ovs_reader.specs.Telling.{AllTold, told, notices, AreToldReadably}
 use Rattle.ovs_reader.proofs.Fitting.{all_drop}
+use Rattle.ovs_reader.proofs.Memory.{on_err}
 use Rattle.ovs_reader.proofs.Parts.{told_more, none_before, unread_before, read_more, below_more, reached_is}
 use Rattle.ovs_reader.proofs.telling.told_some.Goals as goal
 
@@ -74,3 +75,8 @@ pub returns-clause-readable : goal.returns-clause-readable
 returns-clause-readable c =
     let end : c.loop-number.number ≡ length c.args.steps.now = omega (arith, c.loop-number-test.false, c.loop-number.auto.number-end c.told_to_all-number.ensures.within) in
     subst (λ k. AreToldReadably c.args.monitors.now (take k c.args.steps.now)) (end ∙ returns-clause-reached c) c.loop-number.invariant.readable
+
+pub returns-in_err-tell-clause-memory : goal.returns-in_err-tell-clause-memory
+returns-in_err-tell-clause-memory c =
+    on_err (¬ (AllTold (length c.args.steps.now) c.args.monitors.now)) c.from_residual.result
+    (λ all. omega (arith, c.told_to_all-number.ensures.all all, c.loop-number.auto.number, c.loop-number-test.true))

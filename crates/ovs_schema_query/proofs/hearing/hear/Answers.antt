@@ -1,5 +1,5 @@
 use Rattle.std.proofs.Common.{◌≡◌, Err, ap}
-use Rattle.ovs_session.specs.declared.ended.Refusal.TheVariants.{BadInput}
+use Rattle.ovs_session.specs.declared.ended.ServiceError.TheVariants.{BadInput}
 use Rattle.ovs_schema_query.proofs.hearing.hear.Goals as goal
 
 pub returns-in-Err-clause-none : goal.returns-in-Err-clause-none

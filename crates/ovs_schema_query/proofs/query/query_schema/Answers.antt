@@ -11,7 +11,7 @@ returns g c = record {
     now = c.serve-ended.new.session;
     moved = subst (λ (s : SessionValue SchemaQuery). Moved Hears Asks c.args.limits.most_unsent (g.R.Read.remaining c.args.reader.now.device)
         (g.R.Read.remaining c.serve-ended.new.reader.device) (g.W.Write.contents c.args.writer.now.device) (g.W.Write.contents c.serve-ended.new.writer.device) s
-        c.serve-ended.new.session) c.new-session.ensures.fresh c.serve-ended.ensures.moved;
-    replied = ap (λ (q : SchemaQuery). q.reply) c.into_core-reply.ensures.value;
+        c.serve-ended.new.session) c.with_limit-session.ensures.fresh c.serve-ended.ensures.moved;
+    replied = ap (λ (q : SchemaQuery). q.reply) c.into_state-reply.ensures.value;
   };
 }

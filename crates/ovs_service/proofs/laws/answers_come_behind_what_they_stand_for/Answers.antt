@@ -3,6 +3,6 @@ use Rattle.ovs_service.proofs.laws.answers_come_behind_what_they_stand_for.Goals
 
 pub returns : goal.returns
 returns g c = record {
-  behind = λ who before after held taken start now todo gives.
-      behind g.K.NodeName.schema (λ held. g.D.Desk.owes held who) before after held taken start now todo gives;
+  behind = λ session_id before after held taken start now todo gives.
+      behind g.K.NodeName.schema (λ held. g.D.ServiceAuthority.owes held session_id) before after held taken start now todo gives;
 }

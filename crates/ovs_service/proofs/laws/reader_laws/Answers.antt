@@ -6,6 +6,6 @@ use Rattle.ovs_service.proofs.laws.reader_laws.Goals as goal
 
 pub returns : goal.returns
 returns g c = record {
-  kept = λ limit who last i j o p now ended moved closed bad.
-      kept_by g.K.NodeName.schema g.D.Desk.replies g.D.Desk.owes limit who last i j o p (fresh (new_client who last)) now ended moved refl closed bad;
+  kept = λ limit session_id last i j o p now ended moved closed bad.
+      kept_by g.K.NodeName.schema g.D.ServiceAuthority.replies g.D.ServiceAuthority.owes limit session_id last i j o p (fresh (new_client session_id last)) now ended moved refl closed bad;
 }

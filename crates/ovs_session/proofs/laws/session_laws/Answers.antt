@@ -5,6 +5,6 @@ use Rattle.ovs_session.proofs.laws.session_laws.Goals as goal
 pub returns : goal.returns
 returns g c = record {
   turns = moved_more g.S.Service.answers g.S.Service.tells;
-  stream = answers_from_new g.S.Service.answers g.S.Service.tells;
-  all = answers_all g.S.Service.answers g.S.Service.tells;
+  stream = λ most. answers_from_new g.S.Service.answers g.S.Service.tells;
+  all = λ most. answers_all g.S.Service.answers g.S.Service.tells;
 }

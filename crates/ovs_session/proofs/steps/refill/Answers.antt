@@ -2,8 +2,8 @@ use Rattle.ovs_session.proofs.Moved.{moved_read, moved_end, moved_fed, moved_mor
 use Rattle.ovs_session.proofs.Served.{worked_still}
 use Rattle.ovs_session.proofs.steps.refill.Goals as goal
 
-pub returns-in_err-came-clause-moved : goal.returns-in_err-came-clause-moved
-returns-in_err-came-clause-moved g c limit output was =
+pub returns-in_err-outcome-clause-moved : goal.returns-in_err-outcome-clause-moved
+returns-in_err-outcome-clause-moved g c limit output was =
     moved_read g.S.Service.answers g.S.Service.tells limit _ _ output _ _ was c.read_once.ensures.counted c.read_once.ensures.read
 
 pub returns-in_err-feed-clause-moved : goal.returns-in_err-feed-clause-moved
@@ -11,7 +11,7 @@ returns-in_err-feed-clause-moved g c limit output was =
     let aa = g.S.Service.answers in
     let ts = g.S.Service.tells in
     let read = moved_read aa ts limit _ _ output _ _ was c.read_once.ensures.counted c.read_once.ensures.read in
-    let noted = moved_end aa ts limit _ output _ _ _ c.in_ok-came.ensures.end c.note_read.ensures.value in
+    let noted = moved_end aa ts limit _ output _ _ _ c.in_ok-outcome.ensures.end c.note_read.ensures.value in
     moved_more aa ts limit _ _ _ _ _ _ _ _ _ (moved_more aa ts limit _ _ _ _ _ _ _ _ _ read noted)
     (moved_worked aa ts limit _ output _ _ (worked_still aa ts limit _ _ c.in_err-feed.ensures.unchanged))
 
@@ -20,7 +20,7 @@ returns-then-eq-clause-moved g c limit output was =
     let aa = g.S.Service.answers in
     let ts = g.S.Service.tells in
     let read = moved_read aa ts limit _ _ output _ _ was c.read_once.ensures.counted c.read_once.ensures.read in
-    let noted = moved_end aa ts limit _ output _ _ _ c.in_ok-came.ensures.end c.note_read.ensures.value in
+    let noted = moved_end aa ts limit _ output _ _ _ c.in_ok-outcome.ensures.end c.note_read.ensures.value in
     moved_more aa ts limit _ _ _ _ _ _ _ _ _ read noted
 
 pub returns-clause-moved : goal.returns-clause-moved
@@ -28,6 +28,6 @@ returns-clause-moved g c limit output was =
     let aa = g.S.Service.answers in
     let ts = g.S.Service.tells in
     let read = moved_read aa ts limit _ _ output _ _ was c.read_once.ensures.counted c.read_once.ensures.read in
-    let noted = moved_end aa ts limit _ output _ _ _ c.in_ok-came.ensures.end c.note_read.ensures.value in
+    let noted = moved_end aa ts limit _ output _ _ _ c.in_ok-outcome.ensures.end c.note_read.ensures.value in
     moved_more aa ts limit _ _ _ _ _ _ _ _ _ (moved_more aa ts limit _ _ _ _ _ _ _ _ _ read noted)
     (moved_fed aa ts limit _ output _ _ c.in_ok-feed.ensures.fed)

@@ -6,4 +6,4 @@ use Rattle.ovs_source_node.proofs.sending.send_all.Given as goal
 abbrev pub invariant-loop : goal.invariant-loop
 invariant-loop g l =
     HasSent (g.S.LinkSink.sent l.fn.sink) (g.S.LinkSink.sent l.sink) l.fn.counts.messages l.counts.messages
-    × (g.S.LinkSink.sent l.sink ≡ g.L.OriginDesk.links l.taken) × g.L.OriginDesk.gives (g.L.OriginDesk.links l.taken)
+    × (g.S.LinkSink.sent l.sink ≡ g.L.SharedSource.links l.taken) × g.L.SharedSource.gives (g.L.SharedSource.links l.taken)

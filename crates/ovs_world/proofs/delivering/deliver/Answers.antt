@@ -4,7 +4,7 @@ use Rattle.ovs_world.specs.Carrying.{IsWhole}
 use Rattle.ovs_world.specs.Deliveries.{scene, Leads, BreaksOff}
 use Rattle.ovs_world.specs.Leading.{IsLed}
 use Rattle.ovs_world.specs.Nodes.{no_counts}
-use Rattle.ovs_world.specs.declared.holding.Counts.{Counts}
+use Rattle.ovs_world.specs.declared.holding.Taken.{Taken}
 use Rattle.ovs_world.proofs.Delivered.{pumped_framing, quiet_framing, after_pumping, did_pump, told_out, after_feeding, did_feed}
 use Rattle.ovs_world.proofs.Broken.{err_by, breaks_hearing, feed_leads, breaks_feeding}
 use Rattle.ovs_world.proofs.Led.{led_over}
@@ -23,7 +23,7 @@ turns-init c =
       leads = (
         0,
         omega arith,
-        subst (λ (k : Counts). Leads source 0 begun (scene c.args.relays.now c.args.session.now k)) (sym c.none-counts.ensures.value) (leads_none source begun),
+        subst (λ (k : Taken). Leads source 0 begun (scene c.args.relays.now c.args.session.now k)) (sym c.none-counts.ensures.value) (leads_none source begun),
       );
     }
 

@@ -1,10 +1,10 @@
 use Rattle.std.proofs.Common.{◌≡◌, ◌-◌, true, false, Option, Some, None, IfSome, slice_set, refl, sym, ◌∙◌, ap, subst, arith}
 use Rattle.ovs_world.specs.Worlds.{GoesOn, IsOpen}
-use Rattle.ovs_world.specs.declared.session.Session.{Session}
+use Rattle.ovs_world.specs.declared.sim_session.SimSession.{SimSession}
 use Rattle.ovs_world.proofs.Opened.{any_slot, goes_here, none_is, open_is, open_item}
 use Rattle.ovs_world.proofs.world.take_session.Goals as goal
 
-some_by : (r : Option Session) (P : Session → Type 0) → ((s : Session) → r ≡ Some s → P s) → IfSome r P
+some_by : (r : Option SimSession) (P : SimSession → Type 0) → ((s : SimSession) → r ≡ Some s → P s) → IfSome r P
 some_by (Some s) P all = all s (λ i. Some s)
 some_by None P all = tt
 

@@ -1,7 +1,7 @@
 use Rattle.std.proofs.Common.{◌<◌, ◌≢◌, ◌^◌, ℕ, Some, None, ◌≡◌, ◌∙◌, ◌*◌, ◌+◌, ◌++◌, ◌∷◌, [], List, length, refl, sym, ap, subst, arith, rules}
 use Rattle.std.proofs.Common.{length-append}
-use Rattle.ovs_desk.specs.declared.pending.Pending.{Pending}
-use Rattle.ovs_desk.specs.declared.pending.State.TheVariants.{Waiting}
+use Rattle.ovs_desk.specs.declared.forwarded.Forwarded.{Forwarded}
+use Rattle.ovs_desk.specs.declared.forwarded.ForwardedState.TheVariants.{Waiting}
 use Rattle.std.specs.List.{AllByRecursion}
 use Rattle.ovs_desk.specs.declared.by_asker.ByAsker.{ByAsker}
 use Rattle.ovs_desk.specs.Book.{IsBook, IsIndex}
@@ -18,7 +18,7 @@ use Rattle.ovs_desk.proofs.forwards.Forwards.send.Goals as goal
 pub invariant_of-self : goal.invariant_of-self
 invariant_of-self c =
     let f = c.self.inside in
-    subst (λ (l : List Pending). IsBook f.sent l c.make_room.new.places × IsIndex f.sent l f.waits_from f.by_asker.items f.due.items (vec_capacity f.due)) (sym c.make_room.ensures.pending) (
+    subst (λ (l : List Forwarded). IsBook f.sent l c.make_room.new.places × IsIndex f.sent l f.waits_from f.by_asker.items f.due.items (vec_capacity f.due)) (sym c.make_room.ensures.pending) (
       book_room f.sent f.pending.items f.places c.make_room.new.places c.make_room.ensures.places c.make_room.ensures.len c.self.invariant.0,
       c.self.invariant.1,
     )
@@ -28,7 +28,7 @@ invariant_of-self-then-is_err-2 c =
     let f = c.self.inside in
     let lists = c.make_list_room in
     let index = index_room c.self.invariant.1 (vec_capacity lists.new.due) lists.ensures.capacity in
-    subst (λ (l : List Pending). IsBook f.sent l c.make_room.new.places × IsIndex f.sent l f.waits_from lists.new.all.items lists.new.due.items (vec_capacity lists.new.due))
+    subst (λ (l : List Forwarded). IsBook f.sent l c.make_room.new.places × IsIndex f.sent l f.waits_from lists.new.all.items lists.new.due.items (vec_capacity lists.new.due))
     (sym c.make_room.ensures.pending) (
       book_room f.sent f.pending.items f.places c.make_room.new.places c.make_room.ensures.places c.make_room.ensures.len c.self.invariant.0,
       subst (λ (l : List ByAsker). IsIndex f.sent f.pending.items f.waits_from l lists.new.due.items (vec_capacity lists.new.due)) (sym lists.ensures.all)
@@ -44,8 +44,8 @@ invariant_of-self-2 c =
     let place = c.vacant_key-place.result in
     let s : Slab ⊤ = c.make_room.new.places in
     let t : Slab ⊤ = c.insert_reserved.new.self in
-    let e : Pending = record { asker = c.args.asker; id = c.args.id; number = 4096 * f.sent + place; state = Waiting c.args.request } in
-    let items = c.push_reserved.ensures.items ∙ ap (λ (l : List Pending). l ++ e ∷ []) c.make_room.ensures.pending in
+    let e : Forwarded = record { asker = c.args.asker; id = c.args.id; number = 4096 * f.sent + place; state = Waiting c.args.request } in
+    let items = c.push_reserved.ensures.items ∙ ap (λ (l : List Forwarded). l ++ e ∷ []) c.make_room.ensures.pending in
     let same : c.insert_reserved.result ≡ place = c.insert_reserved.ensures.key ∙ sym c.vacant_key-place.ensures.value in
     let u : Updates s t place (Some tt) = subst (λ (k : ℕ). Updates s t k (Some tt)) same c.insert_reserved.ensures.updates in
     let none : get s place ≡ None = c.vacant_key-place.ensures.vacant in
@@ -78,14 +78,14 @@ invariant_of-self-2 c =
           (place_of_next f.sent place offered);
       counted = omega (arith, longer, counted, room, more);
     } in
-    subst (λ (l : List Pending). IsBook (f.sent + 1) l t × IsIndex (f.sent + 1) l f.waits_from c.put.new.list.items lists.new.due.items (vec_capacity lists.new.due)) (sym items) (book, index_as)
+    subst (λ (l : List Forwarded). IsBook (f.sent + 1) l t × IsIndex (f.sent + 1) l f.waits_from c.put.new.list.items lists.new.due.items (vec_capacity lists.new.due)) (sym items) (book, index_as)
 
 pub returns-clause-value : goal.returns-clause-value
 returns-clause-value c =
     let f = c.self.inside in
     let place = c.vacant_key-place.result in
-    let e : Pending = record { asker = c.args.asker; id = c.args.id; number = 4096 * f.sent + place; state = Waiting c.args.request } in
-    let items = c.push_reserved.ensures.items ∙ ap (λ (l : List Pending). l ++ e ∷ []) c.make_room.ensures.pending in
+    let e : Forwarded = record { asker = c.args.asker; id = c.args.id; number = 4096 * f.sent + place; state = Waiting c.args.request } in
+    let items = c.push_reserved.ensures.items ∙ ap (λ (l : List Forwarded). l ++ e ∷ []) c.make_room.ensures.pending in
     let is : place ≡ f.places.vacant_key = c.vacant_key-place.ensures.value ∙ c.make_room.ensures.vacant in
     let none : refusal c.args.self.now ≡ None = sym c.in_default.ensures.value in
     let vacant : get f.places place ≡ None = sym (c.make_room.ensures.places place) ∙ c.vacant_key-place.ensures.vacant in
@@ -99,8 +99,8 @@ returns-clause-value c =
           f.places.vacant_key,
           subst (λ (v : Forwarding). v.offered < 4096) (sym c.self.view_is) below,
           number,
-          subst (λ (k : ℕ). AllByRecursion (λ (e : Pending). place_of e.number ≢ k) f.pending.items) is (vacant_apart f.places place f.pending.items c.self.invariant.0.placed vacant),
+          subst (λ (k : ℕ). AllByRecursion (λ (e : Forwarded). place_of e.number ≢ k) f.pending.items) is (vacant_apart f.places place f.pending.items c.self.invariant.0.placed vacant),
         ),
-        ap (λ (l : List Pending). record { sent = f.sent + 1; pending = l }) items,
+        ap (λ (l : List Forwarded). record { sent = f.sent + 1; pending = l }) items,
       ),
     )

@@ -19,5 +19,5 @@ loop-member-preserved c =
     let so_far : c.loop-member.members ≡ map f (take i xs) ++ drop i xs = c.loop-member.invariant in
     rw add-one (
     ap (set c.loop-member.members i) c.marked.ensures.value
-    ∙ ap (λ ys. set ys i (f (get_or ys i (record { who = 0; owed = false })))) so_far
-    ∙ step f xs i (record { who = 0; owed = false }) (omega arith))
+    ∙ ap (λ ys. set ys i (f (get_or ys i (record { session = 0; owed = false })))) so_far
+    ∙ step f xs i (record { session = 0; owed = false }) (omega arith))

@@ -1,7 +1,7 @@
 use Rattle.std.proofs.Common.{sym, subst}
 use Rattle.ovs_lock_desk.specs.LockDesk.{NoneIdle}
 use Rattle.ovs_locks.proofs.ByName.{none_idle_put}
-use Rattle.ovs_lock_desk.specs.DeskLock.{is_desk_idle}
+use Rattle.ovs_lock_desk.specs.RelayLock.{is_desk_idle}
 use Rattle.ovs_lock_desk.proofs.desk_table.DeskTable.add.Goals as goal
 
 pub invariant_of-self-2 : goal.invariant_of-self-2

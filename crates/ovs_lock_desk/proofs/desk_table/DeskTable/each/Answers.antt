@@ -1,6 +1,6 @@
 use Rattle.std.proofs.Common.{sym, subst, rules}
 use Rattle.ovs_locks.proofs.ByName.{changed_pairs, changed_none_idle}
-use Rattle.ovs_lock_desk.specs.DeskLock.{is_desk_idle, step}
+use Rattle.ovs_lock_desk.specs.RelayLock.{is_desk_idle, step}
 use Rattle.ovs_lock_desk.specs.LockDesk.{NoneIdle}
 use Rattle.ovs_lock_desk.proofs.desk_table.DeskTable.each.Goals as goal
 

@@ -1,6 +1,6 @@
 use Rattle.std.proofs.Common.{◌≡◌, ◌∷◌, true, false, sym, subst, rules}
 use Rattle.ovs_locks.specs.ByName.{Ascends}
-use Rattle.ovs_lock_desk.specs.DeskLock.{is_due_up}
+use Rattle.ovs_lock_desk.specs.RelayLock.{is_due_up}
 use Rattle.ovs_lock_desk.proofs.DueUp.{ListsBefore, listed_none, listed_still, listed_more, listed_all}
 use Rattle.ovs_lock_desk.proofs.desk_table.DeskTable.list_due.Goals as goal
 

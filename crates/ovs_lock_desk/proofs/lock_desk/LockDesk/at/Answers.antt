@@ -1,5 +1,5 @@
 use Rattle.std.proofs.Common.{◌≡◌, ◌∙◌, ap, subst, sym}
-use Rattle.ovs_lock_desk.specs.LockDesk.{AreNamed, AreMarked, desk_lock_at}
+use Rattle.ovs_lock_desk.specs.LockDesk.{AreNamed, AreMarked, relay_lock_at}
 use Rattle.ovs_lock_desk.specs.OwedMarks.{near_of, AreOthersMarked}
 use Rattle.ovs_lock_desk.proofs.Names.{named_at}
 use Rattle.ovs_lock_desk.proofs.OwedMarks.{others_marked}
@@ -11,7 +11,7 @@ mark_near-requires c =
     let old = c.self.inside.table in
     let new = c.at.new.self in
     let sessions = c.self.inside.sessions in
-    let near : c.of-near.result ≡ near_of (desk_lock_at name old) = c.of-near.ensures.value ∙ ap (λ locks. near_of (desk_lock_at name locks)) c.locks.ensures.value in
+    let near : c.of-near.result ≡ near_of (relay_lock_at name old) = c.of-near.ensures.value ∙ ap (λ locks. near_of (relay_lock_at name locks)) c.locks.ensures.value in
     record {
       named = subst (λ locks. AreNamed locks sessions) (sym c.locks-2.ensures.value) (named_at name c.args.event old new sessions c.self.invariant.0.ascend c.self.invariant.1 c.at.ensures.after);
       marked =

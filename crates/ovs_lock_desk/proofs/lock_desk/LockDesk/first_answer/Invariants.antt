@@ -5,4 +5,4 @@ use Rattle.ovs_lock_desk.proofs.Telling.{marked}
 use Rattle.ovs_lock_desk.proofs.lock_desk.LockDesk.first_answer.Given as goal
 
 abbrev pub invariant-loop-name : goal.invariant-loop-name
-invariant-loop-name l = gathered (marked (answers_here l.who) l.self.locks) l.name-iterator ≡ answers_to l.who l.self.locks
+invariant-loop-name l = gathered (marked (answers_here l.session) l.self.locks) l.name-iterator ≡ answers_to l.session l.self.locks

@@ -1,4 +1,4 @@
-use Rattle.ovs_lock_desk.specs.declared.course.Event.TheVariants as events
+use Rattle.ovs_lock_desk.specs.declared.lock_state.LockEvent.TheVariants as events
 use Rattle.ovs_lock_desk.proofs.Names.{named_each}
 use Rattle.ovs_lock_desk.proofs.OwedMarks.{marked_found}
 use Rattle.ovs_lock_desk.proofs.lock_desk.LockDesk.found_source.Goals as goal

@@ -7,4 +7,4 @@ use Rattle.ovs_lock_desk.proofs.Telling.{marked}
 use Rattle.ovs_lock_desk.proofs.lock_desk.LockDesk.owes.Given as goal
 
 abbrev pub invariant-loop-name : goal.invariant-loop-name
-invariant-loop-name l = is_some (slice_get (gathered (marked (owing l.who) l.self.locks) l.name-iterator) 0) ≡ owes_at l.who l.self.locks
+invariant-loop-name l = is_some (slice_get (gathered (marked (owing l.session) l.self.locks) l.name-iterator) 0) ≡ owes_at l.session l.self.locks

@@ -2,12 +2,12 @@ use Rattle.std.proofs.Common.{◌≡◌, ℕ, Result, Ok, Err, subst, sym}
 use Rattle.std.specs.Prelude.{OnOk, OnErr}
 use Rattle.ovs_locks.specs.ByName.{Ascends}
 use Rattle.ovs_locks.specs.BySession.{Sessions}
-use Rattle.ovs_lock_desk.specs.LockDesk.{DeskLocks, AreNamed, AreMarked, SendsFirst}
+use Rattle.ovs_lock_desk.specs.LockDesk.{RelayLocks, AreNamed, AreMarked, SendsFirst}
 use Rattle.ovs_lock_desk.proofs.Names.{named_sent}
 use Rattle.ovs_lock_desk.proofs.OwedMarks.{marked_sent}
 use Rattle.ovs_lock_desk.proofs.lock_desk.LockDesk.sent.Goals as goal
 
-module _ {T E : Type 0} (number : ℕ) (old new : DeskLocks) (s : Sessions) (ascend : Ascends old) where
+module _ {T E : Type 0} (number : ℕ) (old new : RelayLocks) (s : Sessions) (ascend : Ascends old) where
   named_either : (r : Result T E) → AreNamed old s → OnOk r (SendsFirst number old new) → OnErr r (new ≡ old) → AreNamed new s
   named_either (Ok x) named sends unchanged = named_sent number old new s ascend named sends
   named_either (Err e) named sends unchanged = subst (λ locks. AreNamed locks s) (sym unchanged) named

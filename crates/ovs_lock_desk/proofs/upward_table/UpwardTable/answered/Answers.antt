@@ -1,8 +1,8 @@
 use Rattle.std.proofs.Common.{[], ap, sym, refl}
 use Rattle.ovs_locks.specs.BySession.{mark_in}
 use Rattle.ovs_locks.proofs.Notes.{none_ascend}
-use Rattle.ovs_lock_desk.specs.LockDesk.{desk_lock_at}
-use Rattle.ovs_lock_desk.specs.declared.course.Event.TheVariants as events
+use Rattle.ovs_lock_desk.specs.LockDesk.{relay_lock_at}
+use Rattle.ovs_lock_desk.specs.declared.lock_state.LockEvent.TheVariants as events
 use Rattle.ovs_lock_desk.proofs.DueUp.{due_each, due_answered, due_unanswered}
 use Rattle.ovs_lock_desk.proofs.OwedMarks.{one_each}
 use Rattle.ovs_lock_desk.proofs.Requests.{requested_answered, open_answered, unanswered}
@@ -17,7 +17,7 @@ returns-in_default-clause-after c =
     rw (← c.self.view_is)
     (has_stepped event locks locks c.self.invariant.table
     (stepping_first event locks [] (none_ascend c.args.number [] refl) c.self.invariant.table
-    (λ name none. unanswered c.args.number c.args.reply (desk_lock_at name locks) (c.self.invariant.requested c.args.number name (ap (mark_in name) (sym c.in_default.ensures.names))))))
+    (λ name none. unanswered c.args.number c.args.reply (relay_lock_at name locks) (c.self.invariant.requested c.args.number name (ap (mark_in name) (sym c.in_default.ensures.names))))))
 
 pub invariant_of-self-2 : goal.invariant_of-self-2
 invariant_of-self-2 c =

@@ -1,6 +1,6 @@
 use Rattle.std.proofs.Common.{subst, sym}
-use Rattle.ovs_lock_desk.specs.DeskLock.{step, MayHappen}
-use Rattle.ovs_lock_desk.specs.LockDesk.{desk_lock_at}
+use Rattle.ovs_lock_desk.specs.RelayLock.{step, MayHappen}
+use Rattle.ovs_lock_desk.specs.LockDesk.{relay_lock_at}
 use Rattle.ovs_lock_desk.specs.UpwardTable.{OthersOpen}
 use Rattle.ovs_lock_desk.proofs.DueUp.{others_due}
 use Rattle.ovs_lock_desk.proofs.OwedMarks.{one_at}
@@ -13,7 +13,7 @@ note_open-requires c =
     let name = c.args.name.now in
     let old = c.self.inside.table in
     let new = c.at.new.self in
-    let may = subst (λ locks. MayHappen c.args.event (desk_lock_at name locks)) (sym c.self.view_is) c.requires.may in
+    let may = subst (λ locks. MayHappen c.args.event (relay_lock_at name locks)) (sym c.self.view_is) c.requires.may in
     record {
       requested = requested_at name c.args.event old new c.self.inside.requests c.self.invariant.table.ascend c.self.invariant.requested may c.at.ensures.after;
       others =
@@ -26,12 +26,12 @@ note_due-requires c = record { others = others_due c.args.name.now (step c.args.
 
 pub invariant_of-self : goal.invariant_of-self
 invariant_of-self c =
-    let may = subst (λ locks. MayHappen c.args.event (desk_lock_at c.args.name.now locks)) (sym c.self.view_is) c.requires.may in
+    let may = subst (λ locks. MayHappen c.args.event (relay_lock_at c.args.name.now locks)) (sym c.self.view_is) c.requires.may in
     record {
       table = c.at.ensures.table;
       settled =
           settled_at c.args.name.now (step c.args.event) c.self.inside.table c.at.new.self c.self.invariant.table.ascend c.self.invariant.settled c.at.ensures.after
-          (λ was. settled_stepped c.args.event (desk_lock_at c.args.name.now c.self.inside.table) may was);
+          (λ was. settled_stepped c.args.event (relay_lock_at c.args.name.now c.self.inside.table) may was);
       by_one = one_at c.args.name.now c.args.event c.self.inside.table c.at.new.self c.self.invariant.table.ascend c.self.invariant.by_one c.at.ensures.after;
       requested = c.note_open.ensures.requested;
       only_open = c.note_open.ensures.only_open;

@@ -1,6 +1,6 @@
 use Rattle.std.proofs.Common.{subst, sym}
 use Rattle.ovs_lock_desk.specs.UpwardTable.{AreOpen}
-use Rattle.ovs_lock_desk.specs.declared.course.Event.TheVariants as events
+use Rattle.ovs_lock_desk.specs.declared.lock_state.LockEvent.TheVariants as events
 use Rattle.ovs_lock_desk.proofs.OwedMarks.{one_each}
 use Rattle.ovs_lock_desk.proofs.Requests.{requested_found, open_nothing}
 use Rattle.ovs_lock_desk.proofs.Settled.{settled_each}

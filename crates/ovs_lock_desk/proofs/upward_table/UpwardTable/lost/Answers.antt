@@ -1,6 +1,6 @@
 use Rattle.std.proofs.Common.{subst, sym}
 use Rattle.ovs_lock_desk.specs.UpwardTable.{AreOpen, ListsDue}
-use Rattle.ovs_lock_desk.specs.declared.course.Event.TheVariants as events
+use Rattle.ovs_lock_desk.specs.declared.lock_state.LockEvent.TheVariants as events
 use Rattle.ovs_lock_desk.proofs.DueUp.{due_lost}
 use Rattle.ovs_lock_desk.proofs.OwedMarks.{one_each}
 use Rattle.ovs_lock_desk.proofs.Requests.{requested_lost, open_nothing}

@@ -1,8 +1,8 @@
 use Rattle.std.proofs.Common.{◌≡◌, Some, subst, sym}
-use Rattle.ovs_lock_desk.specs.Course.{verb_due}
-use Rattle.ovs_lock_desk.specs.DeskLock.{step}
-use Rattle.ovs_lock_desk.specs.LockDesk.{desk_lock_at}
-use Rattle.ovs_lock_desk.specs.declared.course.Event.TheVariants as events
+use Rattle.ovs_lock_desk.specs.LockState.{verb_due}
+use Rattle.ovs_lock_desk.specs.RelayLock.{step}
+use Rattle.ovs_lock_desk.specs.LockDesk.{relay_lock_at}
+use Rattle.ovs_lock_desk.specs.declared.lock_state.LockEvent.TheVariants as events
 use Rattle.ovs_lock_desk.proofs.DueUp.{others_due}
 use Rattle.ovs_lock_desk.proofs.OwedMarks.{one_at}
 use Rattle.ovs_lock_desk.proofs.Requests.{requested_opened, open_sent}
@@ -14,12 +14,12 @@ note_due-requires c = record { others = others_due c.args.name.now (step (events
 
 pub invariant_of-self-2 : goal.invariant_of-self-2
 invariant_of-self-2 c =
-    let due = subst (λ locks. verb_due (desk_lock_at c.args.name.now locks).course ≡ Some c.args.verb) (sym c.self.view_is) c.requires.due in
+    let due = subst (λ locks. verb_due (relay_lock_at c.args.name.now locks).state ≡ Some c.args.verb) (sym c.self.view_is) c.requires.due in
     record {
       table = c.at.ensures.table;
       settled =
           settled_at c.args.name.now (step (events.Sent c.args.number)) c.self.inside.table c.at.new.self c.self.invariant.table.ascend c.self.invariant.settled c.at.ensures.after
-          (λ was. settled_sent c.args.number (desk_lock_at c.args.name.now c.self.inside.table) was);
+          (λ was. settled_sent c.args.number (relay_lock_at c.args.name.now c.self.inside.table) was);
       by_one = one_at c.args.name.now (events.Sent c.args.number) c.self.inside.table c.at.new.self c.self.invariant.table.ascend c.self.invariant.by_one c.at.ensures.after;
       requested =
           requested_opened c.args.verb c.args.number c.args.name.now c.self.inside.table c.at.new.self c.self.inside.requests c.note_sent.new.self c.self.invariant.table.ascend c.self.invariant.requested due

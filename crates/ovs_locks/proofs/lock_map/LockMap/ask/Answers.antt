@@ -27,7 +27,7 @@ invariant_of-self c = (
 )
 
 pub returns-in-Some-clause-after : goal.returns-in-Some-clause-after
-returns-in-Some-clause-after c = rw (← c.self.view_is) (on_ok_weaker c.ask.result (λ e. written c.args.name.now c.in-Some.lock.now c.ask.new.self (asked c.args.how c.args.who) c.self.inside.locks (c.get_mut.follows.lender c.ask.new.self) c.in-Some.ensures.value (c.get_mut.follows.holds c.ask.new.self) e) c.ask.ensures.after)
+returns-in-Some-clause-after c = rw (← c.self.view_is) (on_ok_weaker c.ask.result (λ e. written c.args.name.now c.in-Some.lock.now c.ask.new.self (asked c.args.how c.args.session) c.self.inside.locks (c.get_mut.follows.lender c.ask.new.self) c.in-Some.ensures.value (c.get_mut.follows.holds c.ask.new.self) e) c.ask.ensures.after)
 
 pub returns-in-Some-clause-unchanged : goal.returns-in-Some-clause-unchanged
 returns-in-Some-clause-unchanged c = rw (← c.self.view_is) (on_err_weaker c.ask.result (λ e. unwritten c.args.name.now c.in-Some.lock.now c.ask.new.self c.self.inside.locks (c.get_mut.follows.lender c.ask.new.self) c.in-Some.ensures.value (c.get_mut.follows.holds c.ask.new.self) e) c.ask.ensures.unchanged)

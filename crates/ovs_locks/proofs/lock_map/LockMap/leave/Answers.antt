@@ -23,9 +23,9 @@ invariant_of-self c =
     let name = c.args.name.now in
     let es = c.self.inside.locks.entries in
     let tree = c.get_mut.follows.lender c.leave.new.self in
-    let idle : is_idle (without c.args.who c.in-Some.lock.now) ≡ true = ap is_idle (sym c.leave.ensures.value) ∙ sym c.if-is_idle.ensures.value in (
+    let idle : is_idle (without c.args.session c.in-Some.lock.now) ≡ true = ap is_idle (sym c.leave.ensures.value) ∙ sym c.if-is_idle.ensures.value in (
       c.take_out.ensures.ordered,
-      gone name (without c.args.who) es tree.entries c.take_out.new.locks.entries c.in-Some.lock.now c.leave.new.self c.self.invariant.1 (sym c.in-Some.ensures.value) c.leave.ensures.value idle
+      gone name (without c.args.session) es tree.entries c.take_out.new.locks.entries c.in-Some.lock.now c.leave.new.self c.self.invariant.1 (sym c.in-Some.ensures.value) c.leave.ensures.value idle
           (c.get_mut.follows.holds c.leave.new.self).0 c.take_out.ensures.entries,
     )
 
@@ -41,20 +41,20 @@ invariant_of-self-else-is_idle c =
 pub returns-then-is_idle-clause-after : goal.returns-then-is_idle-clause-after
 returns-then-is_idle-clause-after c =
     rw (← c.self.view_is) (
-    let at = written c.args.name.now c.in-Some.lock.now c.leave.new.self (without c.args.who) c.self.inside.locks (c.get_mut.follows.lender c.leave.new.self) c.in-Some.ensures.value (c.get_mut.follows.holds c.leave.new.self) c.leave.ensures.value in
-    then_gone c.args.name.now (without c.args.who (lock_at c.args.name.now c.self.inside.locks.entries)) c.self.inside.locks.entries (c.get_mut.follows.lender c.leave.new.self).entries c.take_out.new.locks.entries at (ap (λ l. is_idle (without c.args.who l)) (lent_is c.args.name.now c.in-Some.lock.now c.self.inside.locks c.in-Some.ensures.value) ∙ ap is_idle (sym c.leave.ensures.value) ∙ sym c.if-is_idle.ensures.value)
+    let at = written c.args.name.now c.in-Some.lock.now c.leave.new.self (without c.args.session) c.self.inside.locks (c.get_mut.follows.lender c.leave.new.self) c.in-Some.ensures.value (c.get_mut.follows.holds c.leave.new.self) c.leave.ensures.value in
+    then_gone c.args.name.now (without c.args.session (lock_at c.args.name.now c.self.inside.locks.entries)) c.self.inside.locks.entries (c.get_mut.follows.lender c.leave.new.self).entries c.take_out.new.locks.entries at (ap (λ l. is_idle (without c.args.session l)) (lent_is c.args.name.now c.in-Some.lock.now c.self.inside.locks c.in-Some.ensures.value) ∙ ap is_idle (sym c.leave.ensures.value) ∙ sym c.if-is_idle.ensures.value)
     (becomes_none c.args.name.now (c.get_mut.follows.lender c.leave.new.self) c.take_out.new.locks c.take_out.ensures.updates))
 
 pub returns-else-is_idle-clause-after : goal.returns-else-is_idle-clause-after
-returns-else-is_idle-clause-after c = rw (← c.self.view_is) (written c.args.name.now c.in-Some.lock.now c.leave.new.self (without c.args.who) c.self.inside.locks (c.get_mut.follows.lender c.leave.new.self) c.in-Some.ensures.value (c.get_mut.follows.holds c.leave.new.self) c.leave.ensures.value)
+returns-else-is_idle-clause-after c = rw (← c.self.view_is) (written c.args.name.now c.in-Some.lock.now c.leave.new.self (without c.args.session) c.self.inside.locks (c.get_mut.follows.lender c.leave.new.self) c.in-Some.ensures.value (c.get_mut.follows.holds c.leave.new.self) c.leave.ensures.value)
 
 pub returns-then-is_idle-clause-none_idle : goal.returns-then-is_idle-clause-none_idle
 returns-then-is_idle-clause-none_idle c =
     let name = c.args.name.now in
     let es = c.self.inside.locks.entries in
     let tree = c.get_mut.follows.lender c.leave.new.self in
-    let idle : is_idle (without c.args.who c.in-Some.lock.now) ≡ true = ap is_idle (sym c.leave.ensures.value) ∙ sym c.if-is_idle.ensures.value in
-    gone name (without c.args.who) es tree.entries c.take_out.new.locks.entries c.in-Some.lock.now c.leave.new.self c.self.invariant.1 (sym c.in-Some.ensures.value) c.leave.ensures.value idle
+    let idle : is_idle (without c.args.session c.in-Some.lock.now) ≡ true = ap is_idle (sym c.leave.ensures.value) ∙ sym c.if-is_idle.ensures.value in
+    gone name (without c.args.session) es tree.entries c.take_out.new.locks.entries c.in-Some.lock.now c.leave.new.self c.self.invariant.1 (sym c.in-Some.ensures.value) c.leave.ensures.value idle
     (c.get_mut.follows.holds c.leave.new.self).0 c.take_out.ensures.entries
 
 pub returns-else-is_idle-clause-none_idle : goal.returns-else-is_idle-clause-none_idle

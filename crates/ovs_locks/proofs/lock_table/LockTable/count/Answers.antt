@@ -6,7 +6,7 @@ use Rattle.ovs_locks.proofs.lock_table.LockTable.count.Goals as goal
 
 pub returns : goal.returns
 returns c =
-    let who = c.args.who in
+    let session = c.args.session in
     rw (← c.self.view_is) (record {
-      value = c.count.ensures.value ∙ counted (mark who) no_lock refl (stands who) (marked_stands who) c.self.inside.locks _ c.self.invariant.0 c.count.ensures.ascend (c.self.invariant.2 who);
+      value = c.count.ensures.value ∙ counted (mark session) no_lock refl (stands session) (marked_stands session) c.self.inside.locks _ c.self.invariant.0 c.count.ensures.ascend (c.self.invariant.2 session);
     })

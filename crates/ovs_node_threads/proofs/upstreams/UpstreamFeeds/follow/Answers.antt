@@ -16,7 +16,7 @@ again-requires g c =
     let lawful = subst (λ (r : _). AdmitsBytes admits c.args.asked (g.C.In.Read.remaining r)) (sym c.new-reader.ensures.device) c.requires.lawful in
     let was = ∥∥₁_map c.into_end.ensures.admitted (λ a.
     subst (λ (e : _). AllOf (admits c.args.self.now.schema.now) e.1) (sym c.new-sink.ensures.end) (subst (λ (s : SchemaValue). AllOf (admits s) c.into_end.result.1) (sym c.args.self.now.schema_is) a)) in
-    let now = ∥∥₁_map was (λ a. admitted_more admits c.args.self.now.schema.now c.args.asked _ _ _ lawful c.follow_upstream-followed.ensures.sent a) in
+    let now = ∥∥₁_map was (λ a. admitted_more c.args.most_bytes admits c.args.self.now.schema.now c.args.asked _ _ _ lawful c.follow_upstream-followed.ensures.sent a) in
     record {
       admitted = ∥∥₁_map now (λ a.
           subst (λ (s : SchemaValue). AllOf (admits s) c.into_end-2.result.1) c.args.self.now.schema_is

@@ -6,7 +6,7 @@ use Rattle.serde_json.specs.View.{members_view}
 use Rattle.ovs_rows.specs.ChangeWriting.{cell_members, as_edited}
 use Rattle.ovs_rows.specs.Writing.{with_member}
 use Rattle.ovs_query.specs.RowUpdates.{previous}
-use Rattle.ovs_query.specs.Shown.{shown_data, shown_columns}
+use Rattle.ovs_query.specs.Projected.{shown_data, shown_columns}
 use Rattle.ovs_query.proofs.monitor.row_update1.previous_json.Given as goal
 
 -- whether columns so far changed or any that are left did; and the columns that are left, put to the members now

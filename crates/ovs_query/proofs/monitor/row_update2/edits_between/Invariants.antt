@@ -1,7 +1,7 @@
 use Rattle.std.proofs.Common.{◌≡◌, ◌++◌, drop}
 use Rattle.ovs_rows.specs.DatabaseDifference.{edits_between}
 use Rattle.ovs_rows.specs.Row.{AreDataOf}
-use Rattle.ovs_query.specs.Shown.{shown_data, shown_columns}
+use Rattle.ovs_query.specs.Projected.{shown_data, shown_columns}
 use Rattle.ovs_query.proofs.monitor.row_update2.edits_between.Given as goal
 
 -- what is left, of which the same is known, and the edits so far

@@ -4,7 +4,7 @@ use Rattle.serde_json.specs.Data.{no_members}
 use Rattle.serde_json.specs.View.{members_view}
 use Rattle.ovs_rows.specs.ChangeWriting.{cell_members, beside_default, AreSpelled}
 use Rattle.ovs_rows.specs.Writing.{with_member}
-use Rattle.ovs_query.specs.Shown.{shown_data, shown_columns}
+use Rattle.ovs_query.specs.Projected.{shown_data, shown_columns}
 use Rattle.ovs_query.proofs.monitor.row_update2.insert_json.Given as goal
 
 -- the columns that are left, put to the members now; if they stand for what was written of them, all do

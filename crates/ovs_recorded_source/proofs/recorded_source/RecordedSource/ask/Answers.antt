@@ -8,6 +8,6 @@ pub returns-clause-asked : goal.returns-clause-asked
 returns-clause-asked g c =
     let at : SourceState → RecordedValue = λ s. record { steps = c.self.inside.front; state = s } in
     let after : RecordedValue = record { steps = c.record_step.new.front; state = c.ask.new.self } in
-    let link : Option Link = link_behind c.of-before.result.value.desk.made c.of.result.value.desk.made in
-    asked_step g.N.SourceName.start c.args.who c.args.ask c.of-asked.result.value c.in_ok-at_once.field-0.answer.value link c.in_ok-at_once.field-0.at_once c.args.self.now (at c.of-before.result.value) after
-    c.of-asked.ensures (ap at c.of-before.ensures ∙ c.self.view_is) c.in_ok-at_once.ensures.at_once c.record_step.ensures.step
+    let link : Option Link = link_behind c.of-before.result.value.desk.unpublished c.of.result.value.desk.unpublished in
+    asked_step g.N.SourceName.start c.args.session c.args.ask c.of-asked.result.value c.in_ok-immediate_reply.field-0.answer.value link c.in_ok-immediate_reply.field-0.immediate_reply c.args.self.now (at c.of-before.result.value) after
+    c.of-asked.ensures (ap at c.of-before.ensures ∙ c.self.view_is) c.in_ok-immediate_reply.ensures.immediate_reply c.record_step.ensures.step

@@ -7,5 +7,5 @@ use Rattle.ovs_recorded_source.proofs.waiting.WaitingReplies.forget_room.Goals a
 
 pub returns-in-Some : goal.returns-in-Some
 returns-in-Some c = record {
-  same = ap listed c.remove-none.ensures.entries ∙ listed_without_room (is_at (nat_cmp c.args.who)) c.in-Some.replies.now (c.is_none_left.ensures.none c.if-is_none_left.true) c.args.self.now.by_session.entries (sym c.in-Some.ensures.value);
+  same = ap listed c.remove-none.ensures.entries ∙ listed_without_room (is_at (nat_cmp c.args.session)) c.in-Some.replies.now (c.is_none_left.ensures.none c.if-is_none_left.true) c.args.self.now.by_session.entries (sym c.in-Some.ensures.value);
 }

@@ -1,5 +1,5 @@
 use Rattle.std.proofs.Common.{sym}
-use Rattle.ovs_rows.specs.Place.{place_total, place_exact}
+use Rattle.ovs_rows.specs.RowKey.{place_total, place_exact}
 use Rattle.ovs_data.proofs.Maps.{entries-from_ordered}
 use Rattle.ovs_rows.proofs.change.Actions.into_map.Goals as goal
 

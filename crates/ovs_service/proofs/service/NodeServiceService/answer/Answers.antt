@@ -9,13 +9,13 @@ returns-in_err-message-clause-bad g c = λ e.
 
 pub returns-clause-shown : goal.returns-clause-shown
 returns-clause-shown g c =
-    heard_then g.K.NodeName.schema g.D.Desk.replies g.D.Desk.owes c.args.client.now c.hear.new.client c.settle.new.self
-    c.args.out.now c.settle.new.out c.args.text.now c.in_ok-message.message c.hear.new.self.view c.in_ok-message.ensures.says c.in_ok-hear.ensures.heard
-    c.settle.ensures.settled c.settle.ensures.same
+    heard_then g.K.NodeName.schema g.D.ServiceAuthority.replies g.D.ServiceAuthority.owes c.args.client.now c.hear.new.client c.flush.new.self
+    c.args.out.now c.flush.new.out c.args.text.now c.in_ok-message.message c.hear.new.self.view c.in_ok-message.ensures.says c.in_ok-hear.ensures.heard
+    c.flush.ensures.settled c.flush.ensures.same
 
 pub returns-clause-ok : goal.returns-clause-ok
 returns-clause-ok g c =
-    from_some g.K.NodeName.schema g.D.Desk.replies g.D.Desk.owes c.hear.new.self.view c.args.client.now c.settle.new.self c.args.out.now c.settle.new.out
-    c.args.text.now (heard_then g.K.NodeName.schema g.D.Desk.replies g.D.Desk.owes c.args.client.now c.hear.new.client c.settle.new.self
-    c.args.out.now c.settle.new.out c.args.text.now c.in_ok-message.message c.hear.new.self.view c.in_ok-message.ensures.says c.in_ok-hear.ensures.heard
-    c.settle.ensures.settled c.settle.ensures.same)
+    from_some g.K.NodeName.schema g.D.ServiceAuthority.replies g.D.ServiceAuthority.owes c.hear.new.self.view c.args.client.now c.flush.new.self c.args.out.now c.flush.new.out
+    c.args.text.now (heard_then g.K.NodeName.schema g.D.ServiceAuthority.replies g.D.ServiceAuthority.owes c.args.client.now c.hear.new.client c.flush.new.self
+    c.args.out.now c.flush.new.out c.args.text.now c.in_ok-message.message c.hear.new.self.view c.in_ok-message.ensures.says c.in_ok-hear.ensures.heard
+    c.flush.ensures.settled c.flush.ensures.same)

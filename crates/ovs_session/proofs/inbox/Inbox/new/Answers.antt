@@ -6,5 +6,5 @@ use Rattle.ovs_session.proofs.inbox.Inbox.new.Goals as goal
 
 pub invariant_of-result : goal.invariant_of-result
 invariant_of-result c =
-    let is_new = c.new.ensures.is_new in
+    let is_new = c.with_limit.ensures.is_new in
     (sym (ap fault_in is_new.1), new_room _ is_new.0 is_new.1 nothing)

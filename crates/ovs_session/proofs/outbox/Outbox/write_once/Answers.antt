@@ -13,9 +13,9 @@ returns-in-Ok-clause-written g c =
     let within : s ≤ length out = omega arith in
     let whole = slice_end s out within in
     let some : n ≤ length (drop s out) = search rules in
-    let went : Appends (contents c.args.writer.now.device) (contents c.write.new.self.device) (take n (drop s out)) = search rules in (
+    let bytes_written : Appends (contents c.args.writer.now.device) (contents c.write.new.self.device) (take n (drop s out)) = search rules in (
       take n (drop s out),
-      went,
+      bytes_written,
       sym c.self.view_is ∙ goes s n out within some ∙ ap (λ (l : List ℕ). take n (drop s out) ++ l) (sym c.compact-self-inside.ensures.value),
       went_length n (drop s out) some,
       tt,

@@ -14,7 +14,7 @@ returns-in-Ok-clause-worked g c limit below =
     let t = said.0 in
     let m = c.in-Some.message in
     let held : c.session.inside.held ≡ Some m = search rules in
-    let answered = subst (λ (x : List ℕ). g.S.Service.answers c.session.inside.core x t c.answer.new.session) c.as_slice.ensures.value said.1 in
+    let answered = subst (λ (x : List ℕ). g.S.Service.answers c.session.inside.state x t c.answer.new.session) c.as_slice.ensures.value said.1 in
     answered_at g.S.Service.answers g.S.Service.tells limit _ _ _ m t c.answer.new.session c.session.view_is held answered
     (changed _ _ _ _ _ _ _ _ _ _ _ c.take.ensures.after refl said.2) below
 

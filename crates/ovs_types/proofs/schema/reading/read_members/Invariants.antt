@@ -7,4 +7,4 @@ use Rattle.ovs_types.proofs.schema.reading.read_members.Given as goal
 
 abbrev pub invariant-loop-name : goal.invariant-loop-name
 invariant-loop-name g l =
-    with_rest rank (items_of l.so_far) (read_all rank g.M.Member.read (members_view l.name-iterator)) ≡ read_all rank g.M.Member.read (members_view l.members.entries)
+    with_rest rank (items_of l.so_far) (read_all rank g.M.SchemaMember.read (members_view l.name-iterator)) ≡ read_all rank g.M.SchemaMember.read (members_view l.members.entries)

@@ -8,7 +8,7 @@ pub returns : goal.returns
 returns c = record {
   depth = balanced_counted;
   begun_depth = begun_counted;
-  frames = only_objects;
-  sizes = object_or_large;
-  cut = cut_anywhere;
+  frames = λ most. only_objects;
+  sizes = λ most. object_or_large;
+  cut = λ most. cut_anywhere;
 }

@@ -4,10 +4,10 @@ use Rattle.ovs_wire.proofs.framing.laws.framer_laws.Goals as goal
 
 pub returns : goal.returns
 returns c = record {
-  new = follows_none;
-  feeds = follows;
-  takes = follows_taken;
-  calls = calls_from_new;
-  pieces = λ texts calls later new now are is leads whole.
+  new = λ most. follows_none;
+  feeds = λ most. follows;
+  takes = λ most. follows_taken;
+  calls = λ most. calls_from_new;
+  pieces = λ most texts calls later new now are is leads whole.
       let r = objects_come_first texts calls later new now are is leads whole in (r.others, r.whole, r.all);
 }

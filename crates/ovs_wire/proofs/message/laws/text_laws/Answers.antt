@@ -13,9 +13,9 @@ returns c = record {
   bare = λ bytes ms text bare.
       let s = read_as_object bytes ms text.1 in
       subst IsBalanced (sym (bare_is bytes (123 ∷ s.body) s.padded bare)) s.balanced;
-  frame = λ bytes ms text limits.
+  frame = λ most bytes ms text limits.
       let s = read_as_object bytes ms text.1 in
       let o = 123 ∷ s.body in
-      let whole : IsObject o = record { balanced = s.balanced; limits = limits_in bytes o s.padded limits } in
+      let whole : IsObject most o = record { balanced = s.balanced; limits = limits_in bytes o s.padded limits } in
       (o, s.padded, whole, padded_frames bytes o s.padded whole);
 }

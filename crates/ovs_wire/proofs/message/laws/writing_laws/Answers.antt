@@ -4,9 +4,9 @@ use Rattle.ovs_wire.proofs.message.laws.writing_laws.Goals as goal
 
 pub returns : goal.returns
 returns c = record {
-  frame = sent_frame;
-  too_deep = written_deep;
-  too_long = written_long;
-  either = λ m bytes is deep long. either bytes is.balanced long;
-  through = come_through;
+  frame = λ most. sent_frame;
+  too_deep = λ most. written_deep;
+  too_long = λ most. written_long;
+  either = λ most m bytes is deep long. either bytes is.balanced long;
+  through = λ most. come_through;
 }

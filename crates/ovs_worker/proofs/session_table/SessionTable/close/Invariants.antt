@@ -6,4 +6,4 @@ use Rattle.ovs_worker.proofs.session_table.SessionTable.close.Given as goal
 -- of the sessions that were ended nothing is kept
 abbrev pub invariant-loop-slot : goal.invariant-loop-slot
 invariant-loop-slot g l =
-    (l.yielded ++ l.slot-iterator ≡ entries l.fn.self.slots) × All (λ e. g.V.SessionHost.is_silent l.host e.1.session.core) l.yielded
+    (l.yielded ++ l.slot-iterator ≡ entries l.fn.self.slots) × All (λ e. g.V.SessionHost.is_silent l.host e.1.session.state) l.yielded

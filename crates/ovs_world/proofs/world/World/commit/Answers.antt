@@ -28,7 +28,7 @@ returns-clause-commits c =
     rw (← c.self.view_is) (
       c.in_ok-outcome.outcome.link,
       record {
-        transacts = subst (λ (locks : Locks). TransactsTo w.source w.fresh (record { who = 0; operations = operations; id = c.args.id; locks = locks }) (Ok c.in_ok-outcome.outcome) c.transact.new.self c.transact.new.fresh) c.new-locks.ensures.value c.in_ok-outcome.ensures.outcome;
+        transacts = subst (λ (locks : Locks). TransactsTo w.source w.fresh (record { session = 0; operations = operations; id = c.args.id; locks = locks }) (Ok c.in_ok-outcome.outcome) c.transact.new.self c.transact.new.fresh) c.new-locks.ensures.value c.in_ok-outcome.ensures.outcome;
         relays = refl;
         sessions = refl;
       },

@@ -1,7 +1,7 @@
 use Rattle.std.proofs.Common.{◌≡◌, ◌-◌, ◌++◌, List, Option, None, length, take, drop, slice_set, refl, ◌∙◌, ap}
 use Rattle.std.proofs.lemmas.List.{length-set}
 use Rattle.ovs_world.specs.Worlds.{WorldValue, with_sessions}
-use Rattle.ovs_world.specs.declared.session.Session.{Session}
+use Rattle.ovs_world.specs.declared.sim_session.SimSession.{SimSession}
 use Rattle.ovs_world.proofs.Opened.{lent, lent_open, none_back, open_back}
 use Rattle.ovs_world.proofs.world.World.cut.Goals as goal
 
@@ -24,7 +24,7 @@ returns-clause-cuts c =
     let old : WorldValue = record { source = w.source; fresh = w.fresh; relays = w.relays.items; sessions = w.sessions.items } in
     let is_open = open_back w.source c.store.result.now w.relays.items c.deref.result.now w.sessions.items c.deref_mut.result.now n s c.store.ensures.value c.deref.ensures.value c.deref_mut.ensures.value c.in-Some.ensures.taken.0 in
     let os = c.take_session.new.sessions in
-    let cut : os ≡ slice_set w.sessions.items (n - 1) None = c.in-Some.ensures.taken.1 ∙ ap (λ (x : List (Option Session)). slice_set x (n - 1) None) c.deref_mut.ensures.value in
+    let cut : os ≡ slice_set w.sessions.items (n - 1) None = c.in-Some.ensures.taken.1 ∙ ap (λ (x : List (Option SimSession)). slice_set x (n - 1) None) c.deref_mut.ensures.value in
     let long : length os ≡ length w.sessions.items = ap length cut ∙ length-set w.sessions.items (n - 1) None in
     let ps = take w.sessions.len (os ++ drop (length os) w.sessions.items) in
     let left : ps ≡ slice_set w.sessions.items (n - 1) None = lent os w.sessions.items w.sessions.len (drop (length os) w.sessions.items) w.sessions.ok.0 long ∙ cut in

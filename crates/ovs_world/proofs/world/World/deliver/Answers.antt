@@ -5,7 +5,7 @@ use Rattle.ovs_world.specs.Deliveries.{scene, Delivers, BreaksOff, IsScene}
 use Rattle.ovs_world.specs.Nodes.{IsTier, Grow, no_counts}
 use Rattle.ovs_world.specs.Steps.{RefusesDelivery}
 use Rattle.ovs_world.specs.Worlds.{WorldValue, with_relays}
-use Rattle.ovs_world.specs.declared.session.Session.{Session}
+use Rattle.ovs_world.specs.declared.sim_session.SimSession.{SimSession}
 use Rattle.ovs_world.proofs.Opened.{lent, lent_open, open_back, between_in, open_first, open_within, world_stopped, world_brought}
 use Rattle.ovs_world.proofs.Broken.{err_by}
 use Rattle.ovs_world.proofs.Refused.{stopped}
@@ -55,7 +55,7 @@ invariant_of-self-in_err-counts c =
     let us = take w.relays.len (ts ++ drop (length ts) w.relays.items) in
     let back : us ≡ ts = lent ts w.relays.items w.relays.len (drop (length ts) w.relays.items) w.relays.ok.0 (sym (length_grow w.relays.items ts grow)) in
     let os = c.take_session.new.sessions in
-    let cut : os ≡ slice_set w.sessions.items (n - 1) None = c.in-Some.ensures.taken.1 ∙ ap (λ (x : List (Option Session)). slice_set x (n - 1) None) c.deref_mut.ensures.value in
+    let cut : os ≡ slice_set w.sessions.items (n - 1) None = c.in-Some.ensures.taken.1 ∙ ap (λ (x : List (Option SimSession)). slice_set x (n - 1) None) c.deref_mut.ensures.value in
     let long : length os ≡ length w.sessions.items = ap length cut ∙ length-set w.sessions.items (n - 1) None in
     let ps = take w.sessions.len (os ++ drop (length os) w.sessions.items) in
     let left : ps ≡ slice_set w.sessions.items (n - 1) None = lent os w.sessions.items w.sessions.len (drop (length os) w.sessions.items) w.sessions.ok.0 long ∙ cut in
@@ -74,7 +74,7 @@ returns-in_err-counts-clause-refused c =
     let us = take w.relays.len (ts ++ drop (length ts) w.relays.items) in
     let back : us ≡ ts = lent ts w.relays.items w.relays.len (drop (length ts) w.relays.items) w.relays.ok.0 (sym (length_grow w.relays.items ts grow)) in
     let os = c.take_session.new.sessions in
-    let cut : os ≡ slice_set w.sessions.items (n - 1) None = c.in-Some.ensures.taken.1 ∙ ap (λ (x : List (Option Session)). slice_set x (n - 1) None) c.deref_mut.ensures.value in
+    let cut : os ≡ slice_set w.sessions.items (n - 1) None = c.in-Some.ensures.taken.1 ∙ ap (λ (x : List (Option SimSession)). slice_set x (n - 1) None) c.deref_mut.ensures.value in
     let long : length os ≡ length w.sessions.items = ap length cut ∙ length-set w.sessions.items (n - 1) None in
     let ps = take w.sessions.len (os ++ drop (length os) w.sessions.items) in
     let left : ps ≡ slice_set w.sessions.items (n - 1) None = lent os w.sessions.items w.sessions.len (drop (length os) w.sessions.items) w.sessions.ok.0 long ∙ cut in
@@ -87,7 +87,7 @@ returns-in_err-counts-clause-refused c =
       is_open = is_open;
       grow = subst (λ (x : List Stored). Grow w.relays.items x) (sym back) grow;
       breaks = subst (λ (x : List Stored). BreaksOff w.source c.args.bytes (scene w.relays.items s no_counts) e x) (sym back) second;
-      world = ap (λ (x : List (Option Session)). with_relays old us x) left;
+      world = ap (λ (x : List (Option SimSession)). with_relays old us x) left;
     })))
 
 pub overflow_sub-session : goal.overflow_sub-session
@@ -125,7 +125,7 @@ invariant_of-self-2 c =
     let us = take w.relays.len (ts ++ drop (length ts) w.relays.items) in
     let back : us ≡ ts = lent ts w.relays.items w.relays.len (drop (length ts) w.relays.items) w.relays.ok.0 (sym (length_grow w.relays.items ts grow)) in
     let os = c.take_session.new.sessions in
-    let cut : os ≡ slice_set w.sessions.items (n - 1) None = c.in-Some.ensures.taken.1 ∙ ap (λ (x : List (Option Session)). slice_set x (n - 1) None) c.deref_mut.ensures.value in
+    let cut : os ≡ slice_set w.sessions.items (n - 1) None = c.in-Some.ensures.taken.1 ∙ ap (λ (x : List (Option SimSession)). slice_set x (n - 1) None) c.deref_mut.ensures.value in
     let long : length os ≡ length w.sessions.items = ap length cut ∙ length-set w.sessions.items (n - 1) None in
     let ps = take w.sessions.len (os ++ drop (length os) w.sessions.items) in
     let left : ps ≡ slice_set w.sessions.items (n - 1) None = lent os w.sessions.items w.sessions.len (drop (length os) w.sessions.items) w.sessions.ok.0 long ∙ cut in
@@ -147,7 +147,7 @@ returns-clause-brings c =
     let us = take w.relays.len (ts ++ drop (length ts) w.relays.items) in
     let back : us ≡ ts = lent ts w.relays.items w.relays.len (drop (length ts) w.relays.items) w.relays.ok.0 (sym (length_grow w.relays.items ts grow)) in
     let os = c.take_session.new.sessions in
-    let cut : os ≡ slice_set w.sessions.items (n - 1) None = c.in-Some.ensures.taken.1 ∙ ap (λ (x : List (Option Session)). slice_set x (n - 1) None) c.deref_mut.ensures.value in
+    let cut : os ≡ slice_set w.sessions.items (n - 1) None = c.in-Some.ensures.taken.1 ∙ ap (λ (x : List (Option SimSession)). slice_set x (n - 1) None) c.deref_mut.ensures.value in
     let long : length os ≡ length w.sessions.items = ap length cut ∙ length-set w.sessions.items (n - 1) None in
     let ps = take w.sessions.len (os ++ drop (length os) w.sessions.items) in
     let left : ps ≡ slice_set w.sessions.items (n - 1) None = lent os w.sessions.items w.sessions.len (drop (length os) w.sessions.items) w.sessions.ok.0 long ∙ cut in
@@ -162,8 +162,8 @@ returns-clause-brings c =
       relays = us;
       after = t;
       delivers = subst (λ (x : List Stored). Delivers w.source c.args.bytes (scene w.relays.items s no_counts) (scene x t counts)) (sym back) second;
-      world = ap (λ (x : List (Option Session)). with_relays (record { source = w.source; fresh = w.fresh; relays = w.relays.items; sessions = w.sessions.items }) us x)
-          (ap (λ (x : List (Option Session)). slice_set x (n - 1) (Some t)) left ∙ set-set w.sessions.items (n - 1) None (Some t));
+      world = ap (λ (x : List (Option SimSession)). with_relays (record { source = w.source; fresh = w.fresh; relays = w.relays.items; sessions = w.sessions.items }) us x)
+          (ap (λ (x : List (Option SimSession)). slice_set x (n - 1) (Some t)) left ∙ set-set w.sessions.items (n - 1) None (Some t));
     })
 
 pub returns-clause-settled : goal.returns-clause-settled

@@ -3,7 +3,7 @@ use Rattle.std.specs.List.{AllByRecursion}
 use Rattle.ovs_links.specs.Store.{Stored}
 use Rattle.ovs_world.specs.Nodes.{IsTier}
 use Rattle.ovs_world.specs.Worlds.{IsOpen, empty_store}
-use Rattle.ovs_world.specs.declared.session.Session.{Session}
+use Rattle.ovs_world.specs.declared.sim_session.SimSession.{SimSession}
 use Rattle.ovs_world.proofs.Faithful.{empty_tier}
 use Rattle.ovs_world.proofs.world.World.new.Goals as goal
 
@@ -14,7 +14,7 @@ invariant_of-result c =
     record {
       tier = subst (λ (s : Stored). IsTier s relays) (sym c.in_ok-new.ensures.value)
           (subst (IsTier (empty_store c.args.schema.now)) (sym c.in_ok-empty_stores.ensures.value) (empty_tier c.args.schema.now c.args.relays));
-      sessions = subst (λ (os : List (Option Session)). AllByRecursion (IsOpen source relays) os) (sym c.new-3.ensures.items) tt;
+      sessions = subst (λ (os : List (Option SimSession)). AllByRecursion (IsOpen source relays) os) (sym c.new-3.ensures.items) tt;
     }
 
 pub returns-clause-value : goal.returns-clause-value

@@ -3,7 +3,7 @@ use Rattle.std.proofs.lemmas.List.{length-map}
 use Rattle.ovs_links.specs.Store.{Stored}
 use Rattle.ovs_world.specs.Nodes.{IsTier, IsSettled}
 use Rattle.ovs_world.specs.Worlds.{IsWorld, cut_of, empty_store}
-use Rattle.ovs_world.specs.declared.session.Session.{Session}
+use Rattle.ovs_world.specs.declared.sim_session.SimSession.{SimSession}
 use Rattle.ovs_world.proofs.Opened.{lent}
 use Rattle.ovs_world.proofs.Restarted.{world_restarted}
 use Rattle.ovs_world.proofs.Settled.{none_settled, settle_set, all_settled}
@@ -24,7 +24,7 @@ invariant_of-self c =
     let left : ps ≡ map (cut_of r) w.sessions.items = lent os w.sessions.items w.sessions.len (drop (length os) w.sessions.items) w.sessions.ok.0 same ∙ cut in
     let is = world_restarted w.source w.relays.items r (omega (arith, c.if-relay-eq0.false), omega (arith, c.if-relay-len.false, long, ok)) w.fresh w.sessions.items c.self.invariant in
     subst (λ (x : Stored). IsWorld (record { source = w.source; fresh = w.fresh; relays = slice_set w.relays.items (r - 1) x; sessions = ps })) (sym empty)
-    (subst (λ (x : List (Option Session)). IsWorld (record { source = w.source; fresh = w.fresh; relays = slice_set w.relays.items (r - 1) (empty_store w.source.schema); sessions = x })) (sym left) is)
+    (subst (λ (x : List (Option SimSession)). IsWorld (record { source = w.source; fresh = w.fresh; relays = slice_set w.relays.items (r - 1) (empty_store w.source.schema); sessions = x })) (sym left) is)
 
 pub returns-clause-settled : goal.returns-clause-settled
 returns-clause-settled c =

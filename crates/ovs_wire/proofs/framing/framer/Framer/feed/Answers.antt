@@ -16,7 +16,7 @@ returns-clause-fed c = λ _.
     let f = c.self.inside in
     let s = c.in-Ok.scanned in
     let was = sym c.make_room.ensures.value ∙ sym c.self.view_is
-    ∙ ap (λ fault. framing (messages f.waiting.items (drop f.taken f.buffer.items))
+    ∙ ap (λ fault. framing f.limit (messages f.waiting.items (drop f.taken f.buffer.items))
     (ending_of fault (drop f.tail.start f.buffer.items))) c.in_default.is in
     feeds_on c.args.self.now f.buffer.items c.args.piece.now c.deref.result.now _ f.taken f.waiting.items _ s.found.items
     f.tail s.tail s.fault c.self.invariant.0 c.self.invariant.1 was c.in_ok-extend_from_slice.ensures.items c.deref.ensures.value
