@@ -1,6 +1,6 @@
 //! What stands between an upstream that is the source and the sessions that ask it.
 
-ghost use Rattle.std.specs.Prelude.{◌≡◌, ◌++◌, ◌∷◌, [], ℕ, None, Ok, IfOk, OnOk, OnErr};
+ghost use Rattle.std.specs.Prelude.{◌≡◌, ◌++◌, ◌∷◌, [], ℕ, Option, None, Ok, IfOk, OnOk, OnErr};
 ghost use Rattle.ovs_desk.specs.declared.source_message.SourceMessage.{SourceMessage};
 ghost use Rattle.ovs_follow.specs.declared.handler_call.HandlerCall.TheVariants as calls;
 
@@ -15,6 +15,9 @@ use std::snapshot::Snapshot;
 /// What is passed on to the source, and what it says back. A session lends each call the list of those that it made, which only proofs
 /// see, and the call puts itself behind them.
 pub trait UpstreamHandler {
+    // The next request was taken, where there was one.
+    ghost takes: { Self → Option Message → Self → Type 0 };
+
     // The source said this.
     ghost hears: { Self → SourceMessage → Self → Type 0 };
 
@@ -32,7 +35,8 @@ pub trait UpstreamHandler {
         &mut self,
         made: &mut GhostList<HandlerCall>,
     ) -> Result<Option<Message>, NoMemory>
-        ensures taken { IfOk result (λ m. made.new ≡ made.old ++ calls.TookUp m ∷ []) }
+        ensures taken { IfOk result (λ m. takes self.old m self.new) }
+        ensures noted { IfOk result (λ m. made.new ≡ made.old ++ calls.TookUp m ∷ []) }
         ensures none { OnErr result (made.new ≡ made.old) };
 
     /// Hears what the source says. `BadReply`: it is what it may not say, and nothing has changed.
@@ -60,6 +64,8 @@ pub trait UpstreamHandler {
 pub struct NoSource;
 
 impl UpstreamHandler for NoSource {
+    ghost takes = { λ _ m _. m ≡ None };
+
     ghost hears = { λ _ _ _. Unit {0} };
 
     ghost refuses = { λ _. ⊥ };
@@ -73,7 +79,7 @@ impl UpstreamHandler for NoSource {
         made: &mut GhostList<HandlerCall>,
     ) -> Result<Option<Message>, NoMemory>
         ensures none { result ≡ Ok None }
-        ensures taken { IfOk result (λ m. made.new ≡ made.old ++ calls.TookUp m ∷ []) }
+        ensures noted { IfOk result (λ m. made.new ≡ made.old ++ calls.TookUp m ∷ []) }
     {
         Ok(note_taken(None, made))
     }

@@ -126,6 +126,7 @@ impl<S: LinkSink> UpstreamState<S> {
     ) -> Result<(), NoMemory>
         requires none { self.old.waiting ≡ None }
         ensures taken { OnOk result (self.new ≡ record self.old { waiting = self.new.waiting; made = self.old.made ++ calls.TookUp self.new.waiting ∷ [] }) }
+        ensures source { OnOk result (D.takes source.old self.new.waiting source.new) }
         ensures unchanged { OnErr result (self.new ≡ self.old) }
     {
         self.waiting = source.next_request(&mut self.made)?;
@@ -160,6 +161,7 @@ impl<S: LinkSink> UpstreamState<S> {
         message: SourceMessage,
     ) -> Result<(), BadReply>
         ensures told { OnOk result (self.new ≡ record self.old { made = self.old.made ++ calls.Heard message ∷ [] }) }
+        ensures source { OnOk result (D.hears source.old message source.new) }
         ensures refused { OnErr result (D.refuses message × (self.new ≡ self.old)) }
     {
         source.on_message(message, &mut self.made)

@@ -1,5 +1,6 @@
 pub mod Collecting
 pub mod Epochs
+pub mod Handing
 pub mod Lines
 pub mod Refusing
 pub mod Reporting

@@ -1,8 +1,9 @@
 //! What the threads of a node call its desk by.
 
-ghost use Rattle.std.specs.Prelude.{◌≡◌, [], Some, None, IfSome, option_map};
+ghost use Rattle.std.specs.Prelude.{◌≡◌, [], Some, None, IfSome, option_map, ⊤};
 ghost use Rattle.ovs_authority.specs.declared.ask.Ask.{Ask};
 ghost use Rattle.ovs_service.specs.Replies.{seen_ask};
+ghost use Rattle.ovs_node_threads.specs.Handing.{IsCalled};
 
 use crate::folding::wake_all;
 use crate::progress::Progress;
@@ -218,13 +219,15 @@ impl<'a, L: SharedForwarder, B: Wake> SharedUpstreamHandler<'a, L, B> {
 }
 
 impl<'a, L: SharedForwarder, B: Wake> UpstreamHandler for SharedUpstreamHandler<'a, L, B> {
-    ghost hears = { λ _ _ _. Unit {0} };
+    ghost takes = { λ old m new. IsCalled L.Known (m ≡ None) (λ before after. L.takes before m after) (option_map (λ (up : _). up.known) old.uplink) (option_map (λ (up : _). up.known) new.uplink) };
+
+    ghost hears = { λ old message new. IsCalled L.Known ⊤ (λ before after. L.hears before message after) (option_map (λ (up : _). up.known) old.uplink) (option_map (λ (up : _). up.known) new.uplink) };
 
     ghost refuses = { λ message. L.refuses message };
 
-    ghost finds = { λ _ _ _. Unit {0} };
+    ghost finds = { λ old _ new. IsCalled L.Known ⊤ L.finds (option_map (λ (up : _). up.known) old.uplink) (option_map (λ (up : _). up.known) new.uplink) };
 
-    ghost loses = { λ _ _. Unit {0} };
+    ghost loses = { λ old new. IsCalled L.Known ⊤ L.loses (option_map (λ (up : _). up.known) old.uplink) (option_map (λ (up : _). up.known) new.uplink) };
 
     fn next_request(
         &mut self,

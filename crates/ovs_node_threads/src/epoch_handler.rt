@@ -71,6 +71,8 @@ impl<'v, K: NodeName, D: UpstreamHandler + Drop> EpochHandler<'v, K, D> {
 }
 
 impl<'v, K: NodeName, D: UpstreamHandler + Drop> UpstreamHandler for EpochHandler<'v, K, D> {
+    ghost takes = { λ old m new. D.takes old.side m new.side };
+
     ghost hears = { λ old message new. (begins : ℕ) × IsBeginning K.schema new.view.now begins × D.hears old.side (restood old.start begins message) new.side };
 
     ghost finds = { λ old from new. D.finds old.side from new.side × (new.start ≡ begun_from old.start from) };

@@ -1,6 +1,6 @@
 //! A node's desk, which its threads share.
 
-ghost use Rattle.std.specs.Prelude.{◌≡◌, ℕ, Bool, true, false, List, Option, Some, None, Ok, IfOk, IfSome, OnOk, OnErr};
+ghost use Rattle.std.specs.Prelude.{◌≡◌, ℕ, Bool, true, false, List, Option, Some, None, Ok, Err, IfOk, IfSome, OnOk, OnErr};
 ghost use Rattle.ovs_authority.specs.declared.ask.Ask.{Ask};
 ghost use mathlib.Core.List.{IsPrefix};
 ghost use Rattle.ovs_desk.specs.Ledger.{next_standing};
@@ -60,7 +60,8 @@ pub trait SharedAuthority<K: NodeName>: KnownDesk {
     /// where the session wasn't shown the chain yet.
     ///
     /// # Errors
-    /// `Gone` where the view is gone that knows what the session was shown, or `NoMemory`; then nothing was given.
+    /// `Gone` where the view is gone that knows what the session was shown, which matters where answers are held back alone, or
+    /// `NoMemory`; then nothing was given.
     fn collect(
         &self,
         alloc: Global,
@@ -71,6 +72,8 @@ pub trait SharedAuthority<K: NodeName>: KnownDesk {
         known: &mut Self::Known,
     ) -> Result<Option<Message>, ViewError>
         ensures given { IfOk result (λ r. IfSome r (λ m. owes is_held_back session_id session.now.last m × IsAnswer m)) }
+        ensures gone { result ≡ Err ViewError.Gone → is_held_back ≡ true }
+        ensures never_epoch { result ≡ Err ViewError.Epoch → ⊥ }
         ensures view { view.new ≡ view.old };
 
     /// Ends a session.
@@ -79,14 +82,27 @@ pub trait SharedAuthority<K: NodeName>: KnownDesk {
 
 /// A relay's desk, as the thread of the upstream shares it that is the source.
 pub trait SharedForwarder: KnownDesk {
+    // The next request went up, where there was one: of the calls on the desk these were known before, and these now.
+    ghost takes: { Self.Known → Option Message → Self.Known → Type 0 };
+
+    // The source said this.
+    ghost hears: { Self.Known → SourceMessage → Self.Known → Type 0 };
+
     // The source may not say this.
     ghost refuses: { SourceMessage → Type 0 };
+
+    // There is a source.
+    ghost finds: { Self.Known → Self.Known → Type 0 };
+
+    // The source is lost.
+    ghost loses: { Self.Known → Self.Known → Type 0 };
 
     /// The next request to go up.
     ///
     /// # Errors
     /// `NoMemory` alone; then nothing went up.
-    fn take_up(&self, alloc: Global, known: &mut Self::Known) -> Result<Option<Message>, NoMemory>;
+    fn take_up(&self, alloc: Global, known: &mut Self::Known) -> Result<Option<Message>, NoMemory>
+        ensures taken { IfOk result (λ m. takes known.old m known.new) };
 
     /// What the source says, and whom it is for: the session whose transaction it answers, `None` where it is of locks, or for
     /// nobody.
@@ -98,13 +114,16 @@ pub trait SharedForwarder: KnownDesk {
         message: SourceMessage,
         known: &mut Self::Known,
     ) -> Result<Option<SessionId>, BadReply>
+        ensures heard { OnOk result (hears known.old message known.new) }
         ensures refused { OnErr result (refuses message) };
 
     /// There is a source.
-    fn found_source(&self, known: &mut Self::Known);
+    fn found_source(&self, known: &mut Self::Known)
+        ensures found { finds known.old known.new };
 
     /// The source is lost.
-    fn lost_source(&self, known: &mut Self::Known);
+    fn lost_source(&self, known: &mut Self::Known)
+        ensures lost { loses known.old known.new };
 }
 
 // Whether a session may be given what it is given next: where answers are held back, the answer that is due to it first only once it
@@ -121,6 +140,7 @@ fn may_be_given<K: NodeName, N: DeskName, R: Wait>(
     ensures shown { result ≡ Ok true → is_held_back ≡ true
         → ForSome (next_standing session_id desk.now.desk.forwards.ledger) (λ id. is_shown session.now.last id ≡ true) }
     ensures unshown { result ≡ Ok false → (is_held_back ≡ true) × IsHeldBack N.database session_id session.now.last known.old known.new }
+    ensures gone { OnErr result (is_held_back ≡ true) }
     ensures learnt { IsPrefix known.old known.new }
     ensures view { view.new ≡ view.old }
 {
@@ -147,6 +167,8 @@ fn collect_shown<K: NodeName, N: DeskName, R: Wait>(
     ensures given { IfOk result (λ r. IfSome r (λ m. IsCollected N.database is_held_back session_id session.now.last m × IsAnswer m)) }
     ensures ends { IfOk result (λ r. IfSome r (λ m. EndsWith (steps.Collected session_id (Some m)) known.old known.new)) }
     ensures none { result ≡ Ok None → HasNone N.database is_held_back session_id session.now.last known.old known.new }
+    ensures gone { result ≡ Err ViewError.Gone → is_held_back ≡ true }
+    ensures never_epoch { result ≡ Err ViewError.Epoch → ⊥ }
     ensures view { view.new ≡ view.old }
 {
     if !may_be_given(rt, &*desk, session_id, is_held_back, view, session, known)? {
@@ -219,6 +241,8 @@ impl<'a, K: NodeName, N: DeskName, R: Wait> SharedAuthority<K> for LockedForward
         known: &mut DeskFront<N>,
     ) -> Result<Option<Message>, ViewError>
         ensures given { IfOk result (λ r. IfSome r (λ m. IsCollected N.database is_held_back session_id session.now.last m × IsAnswer m)) }
+        ensures gone { result ≡ Err ViewError.Gone → is_held_back ≡ true }
+        ensures never_epoch { result ≡ Err ViewError.Epoch → ⊥ }
         ensures view { view.new ≡ view.old }
         ensures ends { IfOk result (λ r. IfSome r (λ m. EndsWith (steps.Collected session_id (Some m)) known.old known.new)) }
         ensures none { result ≡ Ok None → HasNone N.database is_held_back session_id session.now.last known.old known.new }
@@ -246,11 +270,21 @@ impl<'a, K: NodeName, N: DeskName, R: Wait> SharedAuthority<K> for LockedForward
 }
 
 impl<'a, N: DeskName, R: Wait> SharedForwarder for LockedForwarder<'a, N, R> {
+    ghost takes = { λ before m after. EndsWith (steps.WentUp m) before after };
+
+    ghost hears = { λ before message after. EndsWith (steps.Heard message (Ok tt)) before after };
+
     ghost refuses = { λ message. IsBadReply message };
 
-    fn take_up(&self, alloc: Global, known: &mut DeskFront<N>) -> Result<Option<Message>, NoMemory>
-        ensures ends { IfOk result (λ m. EndsWith (steps.WentUp m) known.old known.new) }
-    {
+    ghost finds = { λ before after. EndsWith steps.FoundSource before after };
+
+    ghost loses = { λ before after. EndsWith steps.LostSource before after };
+
+    fn take_up(
+        &self,
+        alloc: Global,
+        known: &mut DeskFront<N>,
+    ) -> Result<Option<Message>, NoMemory> {
         self.desk.lock(self.rt).take_up(self.rt, alloc, known)
     }
 
@@ -258,25 +292,18 @@ impl<'a, N: DeskName, R: Wait> SharedForwarder for LockedForwarder<'a, N, R> {
         &self,
         message: SourceMessage,
         known: &mut DeskFront<N>,
-    ) -> Result<Option<SessionId>, BadReply>
-        ensures refused { OnErr result (IsBadReply message) }
-        ensures ends { OnOk result (EndsWith (steps.Heard message (Ok tt)) known.old known.new) }
-    {
+    ) -> Result<Option<SessionId>, BadReply> {
         let mut desk = self.desk.lock(self.rt);
         let asker = asker_of(&*desk, &message);
         desk.heard(self.rt, message, known)?;
         Ok(asker)
     }
 
-    fn found_source(&self, known: &mut DeskFront<N>)
-        ensures ends { EndsWith steps.FoundSource known.old known.new }
-    {
+    fn found_source(&self, known: &mut DeskFront<N>) {
         self.desk.lock(self.rt).found_source(self.rt, known);
     }
 
-    fn lost_source(&self, known: &mut DeskFront<N>)
-        ensures ends { EndsWith steps.LostSource known.old known.new }
-    {
+    fn lost_source(&self, known: &mut DeskFront<N>) {
         self.desk.lock(self.rt).lost_source(self.rt, known);
     }
 }

@@ -1,5 +1,5 @@
 //! The authority as a service reaches it.
-ghost use Rattle.std.specs.Prelude.{◌≡◌, ◌<◌, ◌++◌, ◌∷◌, [], ℕ, Bool, List, Option, IfOk, IfSome, OnErr};
+ghost use Rattle.std.specs.Prelude.{◌≡◌, ◌<◌, ◌++◌, ◌∷◌, [], ℕ, Bool, true, List, Option, Err, IfOk, IfSome, OnErr};
 ghost use Rattle.ovs_authority.specs.declared.ask.Ask.{Ask};
 ghost use Rattle.ovs_links.specs.declared.step.Step.{Step};
 ghost use Rattle.ovs_wire.specs.declared.message.Message.{Message};
@@ -54,7 +54,8 @@ pub trait ServiceAuthority<K: NodeName> {
     /// (`SessionToken::note_collected`).
     ///
     /// # Errors
-    /// `Gone` where the view is gone that knows what the session was shown, or `NoMemory`; then nothing was given, and nothing is noted.
+    /// `Gone` where the view is gone that knows what the session was shown, which matters where answers are held back alone, or
+    /// `NoMemory`; then nothing was given, and nothing is noted.
     fn collect(
         &mut self,
         alloc: Global,
@@ -66,6 +67,8 @@ pub trait ServiceAuthority<K: NodeName> {
         ensures given { IfOk result (λ r. IfSome r (λ m. owes is_held_back token.old.session_id session.now.last m × IsAnswer m)) }
         ensures collected { IfOk result (λ r. token.new ≡ with_calls token.old (calls.Collected is_held_back r ∷ [])) }
         ensures unchanged { OnErr result (token.new ≡ token.old) }
+        ensures gone { result ≡ Err ViewError.Gone → is_held_back ≡ true }
+        ensures never_epoch { result ≡ Err ViewError.Epoch → ⊥ }
         ensures view { view.new ≡ view.old }
         ensures none_ended { ended self.new ≡ ended self.old };
 

@@ -1,5 +1,5 @@
 //! An authority that is reached without a lock.
-ghost use Rattle.std.specs.Prelude.{◌≡◌, ◌<◌, ◌++◌, ◌∷◌, [], IfOk, IfSome, OnErr};
+ghost use Rattle.std.specs.Prelude.{◌≡◌, ◌<◌, ◌++◌, ◌∷◌, [], Err, IfOk, IfSome, OnErr};
 ghost use Rattle.ovs_authority.specs.Owing.{AsksTo, CollectsTo, IsSame, silent};
 ghost use Rattle.ovs_reader.specs.Answers.{seen_verb};
 ghost use Rattle.ovs_service.specs.declared.session_token.AuthorityCall.TheVariants as calls;
@@ -114,6 +114,8 @@ impl<K: NodeName, A: Authority> ServiceAuthority<K> for Unshared<A> {
         ensures given { IfOk result (λ r. IfSome r (λ m. IsAnswer m × IsAnswer m)) }
         ensures collected { IfOk result (λ r. token.new ≡ with_calls token.old (calls.Collected is_held_back r ∷ [])) }
         ensures unchanged { OnErr result (token.new ≡ token.old) }
+        ensures never_gone { result ≡ Err ViewError.Gone → ⊥ }
+        ensures never_epoch { result ≡ Err ViewError.Epoch → ⊥ }
         ensures view { _view.new ≡ _view.old }
         ensures none_ended { self.new.ended ≡ self.old.ended }
         ensures once { IfOk result (λ r. CollectsTo (A.owing self.old.authority token.old.session_id) r (A.owing self.new.authority token.old.session_id)) }

@@ -77,6 +77,8 @@ struct DeskSide {
 }
 
 impl UpstreamHandler for DeskSide {
+    ghost takes = { λ _ _ _. Unit {0} };
+
     ghost hears = { λ _ _ _. Unit {0} };
 
     ghost refuses = { λ _. Unit {0} };

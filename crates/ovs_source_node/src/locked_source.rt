@@ -1,6 +1,6 @@
 //! A source's desk behind a lock.
 
-ghost use Rattle.std.specs.Prelude.{◌≡◌, ◌++◌, ◌∷◌, [], Some, None, Ok, true, false, IfOk, IfSome, MatchOption};
+ghost use Rattle.std.specs.Prelude.{◌≡◌, ◌++◌, ◌∷◌, [], Some, None, Ok, Err, true, false, IfOk, IfSome, OnErr, MatchOption};
 ghost use mathlib.Core.List.{IsPrefix};
 ghost use Rattle.std.specs.Coded.{Coded-set};
 ghost use Rattle.std.specs.Option.{ForSome};
@@ -43,6 +43,7 @@ fn may_be_given<K: NodeName, N: SourceName, R: Wait>(
     ensures shown { result ≡ Ok true → is_held_back ≡ true
         → ForSome (next_standing session_id desk.now.state.waiting) (λ id. is_shown session.now.last id ≡ true) }
     ensures unshown { result ≡ Ok false → (is_held_back ≡ true) × IsHeldBack N.start session_id session.now.last known.old known.new }
+    ensures gone { OnErr result (is_held_back ≡ true) }
     ensures learnt { IsPrefix known.old known.new }
     ensures view { view.new ≡ view.old }
 {
@@ -69,6 +70,8 @@ fn collect_shown<K: NodeName, N: SourceName, R: Wait>(
     ensures given { IfOk result (λ r. IfSome r (λ m. IsCollected N.start is_held_back session_id session.now.last m × IsAnswer m)) }
     ensures ends { IfOk result (λ r. IfSome r (λ m. IsGiven (λ s. EndsWith s known.old known.new) session_id (Some m))) }
     ensures none { result ≡ Ok None → HasNone N.start is_held_back session_id session.now.last known.old known.new }
+    ensures gone { result ≡ Err ViewError.Gone → is_held_back ≡ true }
+    ensures never_epoch { result ≡ Err ViewError.Epoch → ⊥ }
     ensures view { view.new ≡ view.old }
 {
     if !may_be_given(rt, &*desk, session_id, is_held_back, view, session, known)? {
@@ -181,6 +184,8 @@ impl<'a, K: NodeName, N: SourceName, R: Wait> SharedAuthority<K> for LockedSourc
         known: &mut SourceFront<N>,
     ) -> Result<Option<Message>, ViewError>
         ensures given { IfOk result (λ r. IfSome r (λ m. IsCollected N.start is_held_back session_id session.now.last m × IsAnswer m)) }
+        ensures gone { result ≡ Err ViewError.Gone → is_held_back ≡ true }
+        ensures never_epoch { result ≡ Err ViewError.Epoch → ⊥ }
         ensures view { view.new ≡ view.old }
         ensures learnt { IfOk result (λ r. IfSome r (λ m. IsGiven (λ s. Learns s known.old known.new) session_id (Some m))) }
         ensures none { result ≡ Ok None → HadNone N.start is_held_back session_id session.now.last known.old known.new }
