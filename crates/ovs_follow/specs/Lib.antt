@@ -3,3 +3,4 @@ pub mod Deriving
 pub mod Telling
 pub mod Faults
 pub mod UpstreamEnd
+pub mod SchemaQuery

@@ -4,7 +4,7 @@ ghost use Rattle.std.specs.Prelude.{◌≡◌, ◌++◌, ◌∷◌, []};
 ghost use Rattle.ovs_follow.specs.declared.handler_call.HandlerCall.TheVariants as calls;
 
 use ovs_desk::SourceMessage;
-use ovs_history::{EntryFrom, GhostList};
+use ovs_sync::history::{EntryFrom, GhostList};
 use ovs_types::TxnId;
 use ovs_wire::Message;
 use std::snapshot::Snapshot;

@@ -14,8 +14,11 @@ use ovs_upstream::{Heard, UpError, UpSession};
 use ovs_wire::{Message, MessageError};
 use std::alloc::Global;
 
-// The message that a text says.
-fn read(alloc: Global, text: &[u8]) -> Result<Message, ServiceError>
+/// The message that a text says.
+///
+/// - `BadInput`: it says none.
+/// - `NoMemory`.
+pub(crate) fn read(alloc: Global, text: &[u8]) -> Result<Message, ServiceError>
     ensures says { IfOk result (λ m. Says text.now m) }
     ensures none { result ≡ Err ServiceError.BadInput → SaysNone text.now }
     ensures never_gone { result ≡ Err ServiceError.Gone → ⊥ }

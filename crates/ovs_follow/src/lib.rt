@@ -9,6 +9,7 @@ mod input_fault;
 mod laws;
 mod link_sink;
 mod saying;
+pub mod schema_query;
 mod upstream_handler;
 mod upstream_service;
 mod upstream_state;

@@ -6,8 +6,8 @@ ghost use Rattle.ovs_follow.specs.declared.handler_call.HandlerCall.TheVariants 
 
 use crate::handler_call::{HandlerCall, note_found, note_heard, note_taken};
 use ovs_desk::{BadReply, SourceMessage};
-use ovs_history::GhostList;
 use ovs_json::NoMemory;
+use ovs_sync::history::GhostList;
 use ovs_types::TxnId;
 use ovs_wire::Message;
 use std::snapshot::Snapshot;

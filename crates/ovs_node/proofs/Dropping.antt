@@ -3,7 +3,7 @@ use Rattle.std.proofs.Common.{◌≡◌, ◌≢◌, ◌⊎◌, inl, inr, ⊎_eli
 use Rattle.std.proofs.lemmas.Bool.{cases_eq}
 use Rattle.std.specs.Ordering.{nat_cmp}
 use Rattle.std.specs.FinMap.{FinMap, get, len, remove}
-use Rattle.ovs_feed.specs.declared.item.Item.{Item}
+use Rattle.ovs_sync.specs.declared.feed.item.Item.{Item}
 use Rattle.ovs_rows.specs.Row.{no_rows}
 use Rattle.ovs_links.specs.Chains.{head_after}
 use Rattle.ovs_links.specs.Outcomes.{with_links}

@@ -3,9 +3,9 @@ use Rattle.std.proofs.Common.{◌≡◌, ◌≢◌, ◌≤◌, ◌<◌, ◌==◌
 use Rattle.std.proofs.lemmas.List.{append-nil}
 use Rattle.std.proofs.lemmas.Bool.{cases_lt}
 use Rattle.std.proofs.lemmas.Bool.Decides.{eqb_tells}
-use Rattle.ovs_feed.specs.declared.item.Item.{Item}
-use Rattle.ovs_feed.specs.Rule.{values_of}
-use Rattle.ovs_feed.specs.Feed.{FeedValue, IsDrained}
+use Rattle.ovs_sync.specs.declared.feed.item.Item.{Item}
+use Rattle.ovs_sync.specs.FeedRule.{values_of}
+use Rattle.ovs_sync.specs.Feed.{FeedValue, IsDrained}
 use Rattle.ovs_links.specs.Pruning.{IsOld}
 use Rattle.ovs_links.specs.Sets.{Among, Contradict, Holds}
 use Rattle.ovs_links.specs.Store.{start_in}

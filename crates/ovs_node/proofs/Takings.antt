@@ -3,7 +3,7 @@ use Rattle.std.proofs.Common.{◌≡◌, ◌≢◌, ◌⊎◌, inl, inr, ⊎_eli
 use Rattle.std.proofs.lemmas.List.{append-nil, map-append}
 use Rattle.std.specs.Ordering.{nat_cmp}
 use Rattle.std.specs.FinMap.{FinMap, get, insert, len}
-use Rattle.ovs_feed.specs.declared.item.Item.{Item}
+use Rattle.ovs_sync.specs.declared.feed.item.Item.{Item}
 use Rattle.ovs_links.specs.Chains.{GrowsInto, IsPrefixOf, start_of}
 use Rattle.ovs_links.specs.Pruning.{LeadsBack, IsOld}
 use Rattle.ovs_links.specs.Sets.{Among, Holds, Contradict}

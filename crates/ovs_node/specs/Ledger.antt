@@ -4,8 +4,8 @@ use Rattle.std.specs.Ordering.{nat_cmp}
 use Rattle.std.specs.FinMap.{FinMap, empty, len}
 use Rattle.std.specs.Coded.{Coded, code_by, coded×, coded_bool, coded_ℕ, coded_list, coded_option}
 use Rattle.ovs_types.specs.Schema.{SchemaValue}
-use Rattle.ovs_feed.specs.declared.item.Item.{Item}
-use Rattle.ovs_feed.specs.Feed.{FeedValue, feed_code}
+use Rattle.ovs_sync.specs.declared.feed.item.Item.{Item}
+use Rattle.ovs_sync.specs.Feed.{FeedValue, feed_code}
 use Rattle.ovs_links.specs.Pruning.{IsOld}
 use Rattle.ovs_links.specs.Sets.{Among, Holds, Contradict}
 use Rattle.ovs_links.specs.Store.{Stored, max_links, start_in}

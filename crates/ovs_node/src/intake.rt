@@ -1,7 +1,7 @@
 //! How links come in.
 
 ghost use Rattle.std.specs.Prelude.{◌≡◌, ◌≢◌, ◌++◌, ◌∷◌, ◌↔◌, [], None, true, false, OnOk, OnErr, IfOk, IfErr, IsTrue, length};
-ghost use Rattle.ovs_feed.specs.Feed.{IsDrained};
+ghost use Rattle.ovs_sync.specs.Feed.{IsDrained};
 ghost use Rattle.ovs_links.specs.Pruning.{IsOld};
 ghost use Rattle.ovs_links.specs.Sets.{Holds, Contradict};
 ghost use Rattle.ovs_links.specs.Settling.{after_settle, chain_of, settled_of};
@@ -14,8 +14,8 @@ ghost use Rattle.ovs_node.specs.Ledger.{IsAccountOf, IsFresh, NoneOld, TakesOne,
 
 use crate::node_link::NodeLink;
 use crate::refused::{RefusedBecause, RefusedLink};
-use ovs_feed::{Feed, FeedEnd, FeedName, FeedQueue};
 use ovs_links::{Folded, Link, LinkStore, Settled, TakeError};
+use ovs_sync::feed::{Feed, FeedEnd, FeedName, FeedQueue};
 use ovs_types::{NoMemory, TxnId};
 use ovs_views::NodeName;
 use std::alloc::Global;

@@ -12,8 +12,8 @@ pub use intake::{ClosedIntake, Intake};
 pub use node::Node;
 pub use node_link::NodeLink;
 pub use open_node::{MAX_UPSTREAMS, MAX_VIEWS, NodeError, OpenNode, Parts};
-pub use ovs_feed::{FeedEnd, FeedName, FeedQueue};
-pub use ovs_history::Opened;
+pub use ovs_sync::feed::{FeedEnd, FeedName, FeedQueue};
+pub use ovs_sync::history::Opened;
 pub use ovs_views::{
     Board, Gone, Handle, NodeName, Publisher, StepPrefix, Told, View, ViewError, ViewSession, teach,
 };

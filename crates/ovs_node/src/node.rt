@@ -2,7 +2,7 @@
 
 ghost use Rattle.std.specs.Prelude.{◌≡◌, ◌≢◌, ◌⊎◌, ◌++◌, ◌∷◌, ◌↔◌, [], Ok, true, false, OnOk, IfErr, IsTrue, length};
 ghost use Rattle.left_right.specs.Handles.{published, pending};
-ghost use Rattle.ovs_feed.specs.Feed.{IsDrained};
+ghost use Rattle.ovs_sync.specs.Feed.{IsDrained};
 ghost use Rattle.ovs_links.specs.Pruning.{IsOld};
 ghost use Rattle.ovs_links.specs.Sets.{Contradict, Holds};
 ghost use Rattle.ovs_links.specs.Settling.{chain_of, settled_of};
@@ -19,8 +19,8 @@ use crate::intake::{ClosedIntake, Intake};
 use crate::node_link::NodeLink;
 use crate::refused::RefusedLink;
 use crate::report::Report;
-use ovs_feed::{FeedEnd, FeedName, FeedQueue};
 use ovs_links::{Settled, Step};
+use ovs_sync::feed::{FeedEnd, FeedName, FeedQueue};
 use ovs_types::{NoMemory, TxnId};
 use ovs_views::{Board, Handle, NodeName, Publisher};
 use std::alloc::Global;

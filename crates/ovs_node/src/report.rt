@@ -2,8 +2,8 @@
 
 use crate::node_link::NodeLink;
 use crate::refused::RefusedLink;
-use ovs_feed::{Feed, FeedName};
 use ovs_links::{LinkStore, Settled};
+use ovs_sync::feed::{Feed, FeedName};
 use ovs_views::{NodeName, Publisher, Told};
 
 /// What became of all that the ends of a node sent.

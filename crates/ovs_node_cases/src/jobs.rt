@@ -3,7 +3,7 @@
 use crate::sendings::LinkSending;
 use left_right::ReadHandle;
 use ovs_node::{Board, FeedEnd, FeedName, FeedQueue, NodeLink, NodeName, StepPrefix, View, teach};
-use ovs_threads::Work;
+use ovs_sync::threads::Work;
 use ovs_types::TxnId;
 use ovs_views::PublishedCopy;
 use std::sync::atomic::{AtomicU64, Ordering};

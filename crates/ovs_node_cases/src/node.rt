@@ -15,7 +15,7 @@ use ovs_node::{
     Board, FeedEnd, FeedName, FeedQueue, Handle, Node, NodeLink, NodeName, OpenNode, Opened, Parts,
     StepPrefix, View,
 };
-use ovs_threads::{SpawnError, Work, run_scoped};
+use ovs_sync::threads::{SpawnError, Work, run_scoped};
 use ovs_types::{NoMemory, Schema};
 use ovs_views::PublishedCopy;
 use std::alloc::Global;

@@ -4,7 +4,7 @@ use Rattle.std.proofs.Common.{◌≡◌, ◌⊎◌, ⊎_elim, ◌++◌, ℕ, zer
 use Rattle.std.specs.Prelude.{IfOk}
 use Rattle.ovs_types.specs.Schema.{SchemaValue}
 use Rattle.ovs_types.specs.declared.schema.Table.{Table}
-use Rattle.ovs_feed.specs.Feed.{FeedValue}
+use Rattle.ovs_sync.specs.Feed.{FeedValue}
 use Rattle.ovs_node.specs.Ledger.{IntakeValue, IsAccountOf, TakesOne, WasSent}
 use Rattle.ovs_node.specs.declared.refused.RefusedLink.{RefusedLink}
 use Rattle.ovs_links.specs.Answers.{IsSourceChain}

@@ -1,7 +1,7 @@
 -- What comes of a node that has run.
 use Rattle.std.specs.Prelude.{◌≡◌, ◌≢◌, ℕ, Bool, List, None, length}
 use Rattle.std.specs.List.{AllByRecursion}
-use Rattle.ovs_feed.specs.Feed.{FeedValue, IsDrained}
+use Rattle.ovs_sync.specs.Feed.{FeedValue, IsDrained}
 use Rattle.ovs_node.specs.Ledger.{IsAccountOf, WasSent}
 use Rattle.ovs_node.specs.declared.refused.RefusedLink.{RefusedLink}
 use Rattle.ovs_links.specs.Epochs.{EpochHistory, IsEpochChain, IsEpochHistory, epochs_of, links_in}

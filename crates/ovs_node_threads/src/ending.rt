@@ -2,7 +2,7 @@
 
 ghost use Rattle.std.specs.Prelude.{◌≡◌, [], OnOk, IfOk};
 ghost use Rattle.left_right.specs.Handles.{published};
-ghost use Rattle.ovs_feed.specs.Feed.{IsDrained};
+ghost use Rattle.ovs_sync.specs.Feed.{IsDrained};
 ghost use Rattle.ovs_node.specs.Nodes.{NodeAtRest, NodeInStep};
 ghost use Rattle.ovs_node.specs.Ledger.{steps_in};
 ghost use Rattle.ovs_links.specs.Absorbing.{last_chain};
@@ -12,8 +12,8 @@ use crate::role::ThreadRole;
 use crate::run_error::RunError;
 use crate::sender::Sender;
 use crate::serving::ThreadResult;
-use ovs_feed::{FeedName, FeedQueue};
 use ovs_node::{Node, NodeLink, Report};
+use ovs_sync::feed::{FeedName, FeedQueue};
 use ovs_views::{Board, Handle, NodeName};
 use ovs_worker::Poller;
 use std::sync::{Mutex, Wait};

@@ -5,8 +5,8 @@ ghost use Rattle.ovs_node_threads.specs.Epochs.{IsBeginning, begun_from, restood
 
 use ovs_desk::{BadReply, SourceMessage, StandingAnswer};
 use ovs_follow::{HandlerCall, UpstreamHandler, note_heard};
-use ovs_history::GhostList;
 use ovs_json::NoMemory;
+use ovs_sync::history::GhostList;
 use ovs_types::TxnId;
 use ovs_views::{NodeName, View};
 use ovs_wire::Message;

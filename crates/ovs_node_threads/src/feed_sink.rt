@@ -4,10 +4,10 @@ ghost use Rattle.std.specs.Prelude.{◌≡◌};
 ghost use Rattle.ovs_links.specs.Sets.{IsOfTables};
 
 use crate::folded_count::FoldedCount;
-use ovs_feed::{FeedEnd, FeedName, FeedQueue};
 use ovs_follow::LinkSink;
 use ovs_links::Link;
 use ovs_node::NodeLink;
+use ovs_sync::feed::{FeedEnd, FeedName, FeedQueue};
 use ovs_views::NodeName;
 use std::sync::Wait;
 

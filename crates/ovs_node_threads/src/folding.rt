@@ -1,7 +1,7 @@
 //! What the folder's thread does, beside all others.
 
 ghost use Rattle.std.specs.Prelude.{◌≡◌, Ok, false, IfOk, OnOk, vec_len};
-ghost use Rattle.ovs_feed.specs.Feed.{IsDrained};
+ghost use Rattle.ovs_sync.specs.Feed.{IsDrained};
 ghost use Rattle.ovs_node.specs.Nodes.{NodeAtRest, NodeInStep};
 ghost use Rattle.ovs_node_threads.specs.Reporting.{KeepsEnds};
 
@@ -9,10 +9,10 @@ use crate::counters::Counters;
 use crate::observer::FoldObserver;
 use crate::role::run_scoped_with_views;
 use left_right::ReadHandle;
-use ovs_feed::{FeedName, FeedQueue};
 use ovs_json::NoMemory;
 use ovs_node::{Node, NodeLink, RefusedLink};
-use ovs_threads::Work;
+use ovs_sync::feed::{FeedName, FeedQueue};
+use ovs_sync::threads::Work;
 use ovs_views::{Board, Handle, NodeName, PublishedCopy, StepPrefix};
 use ovs_worker::Wake;
 use std::alloc::Global;

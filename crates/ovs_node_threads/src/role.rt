@@ -3,7 +3,7 @@
 ghost use Rattle.std.specs.Prelude.{◌≡◌, IfOk, IfErr, vec_len};
 
 use left_right::ReadHandle;
-use ovs_threads::{SpawnError, Work, run_scoped};
+use ovs_sync::threads::{SpawnError, Work, run_scoped};
 use ovs_views::{NodeName, PublishedCopy, StepPrefix};
 use std::alloc::Global;
 use std::sync::Wait;

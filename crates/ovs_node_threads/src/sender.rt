@@ -4,8 +4,8 @@ ghost use Rattle.std.specs.Prelude.{List, IfOk};
 ghost use Rattle.ovs_links.specs.declared.link.Link.{Link};
 
 use crate::run_error::RunError;
-use ovs_feed::{FeedEnd, FeedName};
 use ovs_node::NodeLink;
+use ovs_sync::feed::{FeedEnd, FeedName};
 use ovs_views::NodeName;
 
 /// What is left of a thread that sent links to the folder.

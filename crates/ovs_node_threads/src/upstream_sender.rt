@@ -6,8 +6,8 @@ ghost use Rattle.ovs_links.specs.Sets.{AllOf};
 use crate::connector::Connector;
 use crate::run_error::RunError;
 use crate::sender::Sender;
-use ovs_feed::{FeedEnd, FeedName};
 use ovs_node::NodeLink;
+use ovs_sync::feed::{FeedEnd, FeedName};
 use ovs_views::NodeName;
 use std::marker::PhantomData;
 

@@ -8,10 +8,10 @@ ghost use Rattle.ovs_worker.specs.Slots.{EndsSo};
 ghost use Rattle.ovs_service.specs.Kept.{Kept};
 
 use crate::worker_poller::{IdlePoller, UnusedPoller};
-use ovs_history::GhostList;
 use ovs_json::SessionId;
 use ovs_service::{Client, NodeService, ServiceAuthority};
 use ovs_session::{Limits, Outbox, Service, ServiceError, TurnProgress};
+use ovs_sync::history::GhostList;
 use ovs_views::{NodeName, View};
 use ovs_worker::{AcceptingHost, Poller, SessionHost, SessionResult, serve_many};
 use std::alloc::Global;

@@ -4,8 +4,8 @@ use denote.Param.Send.{IsSend, sendable, view_send}
 use denote.Param.SendFields.{as_row_send, declared_send}
 use Rattle.std.proofs.Crossing as heap
 use Rattle.ovs_desk.specs.contracts.relay_desk.RelayDesk as relay_desk
-use Rattle.ovs_history.proofs.book.Book.TheSendSync as book
-use Rattle.ovs_history.proofs.prefix.Prefix.TheSendSync as front
+use Rattle.ovs_sync.proofs.history.book.Book.TheSendSync as book
+use Rattle.ovs_sync.proofs.history.prefix.Prefix.TheSendSync as front
 use Rattle.ovs_recorded_desk.specs.contracts.recorded_desk.RecordedDesk as recorded_desk
 use Rattle.ovs_recorded_desk.specs.contracts.recorded_desk.RecordedDesk.TheInside as inside
 use Rattle.ovs_recorded_desk.specs.declared.name.DeskName.{Ghosts}

@@ -3,8 +3,8 @@
 use crate::step::DeskStep;
 use ovs_authority::Ask;
 use ovs_desk::{BadReply, SourceMessage};
-use ovs_history::EntryFrom;
 use ovs_json::SessionId;
+use ovs_sync::history::EntryFrom;
 use ovs_wire::Message;
 use std::snapshot::Snapshot;
 

@@ -1,7 +1,7 @@
 //! Which desk it is.
 
 use crate::step::DeskStep;
-use ovs_history::{HistoryName, Prefix};
+use ovs_sync::history::{HistoryName, Prefix};
 use std::marker::{Brand, PhantomData};
 
 /// Which relay's desk it is: the history of its steps, and the name of its database. A call of a function that is generic in the

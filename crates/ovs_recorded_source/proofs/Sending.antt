@@ -3,8 +3,8 @@ use denote.RattleType.{RattleType}
 use denote.Param.Send.{IsSend, sendable, view_send}
 use denote.Param.SendFields.{as_row_send, declared_send, variants_send}
 use Rattle.std.proofs.Crossing as heap
-use Rattle.ovs_history.proofs.book.Book.TheSendSync as book
-use Rattle.ovs_history.proofs.prefix.Prefix.TheSendSync as front
+use Rattle.ovs_sync.proofs.history.book.Book.TheSendSync as book
+use Rattle.ovs_sync.proofs.history.prefix.Prefix.TheSendSync as front
 use Rattle.ovs_links.specs.contracts.link.Link as link
 use Rattle.ovs_locks.specs.contracts.lock_table.LockTable as lock_table
 use Rattle.ovs_source.specs.contracts.fresh_rows.FreshRows as fresh_rows

@@ -3,9 +3,9 @@
 use crate::holding_desk::HoldingDesk;
 use crate::step::SourceStep;
 use ovs_authority::{Ask, Response};
-use ovs_history::EntryFrom;
 use ovs_json::SessionId;
 use ovs_links::Link;
+use ovs_sync::history::EntryFrom;
 use ovs_wire::Message;
 use std::snapshot::Snapshot;
 

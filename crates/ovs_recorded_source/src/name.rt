@@ -1,7 +1,7 @@
 //! Which desk it is.
 
 use crate::step::SourceStep;
-use ovs_history::{HistoryName, Prefix};
+use ovs_sync::history::{HistoryName, Prefix};
 use std::marker::{Brand, PhantomData};
 
 /// Which source's desk it is: the history of its steps, and the desk with which it begins. A call of a function that is generic in

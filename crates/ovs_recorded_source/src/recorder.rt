@@ -9,7 +9,7 @@ ghost use Rattle.ovs_recorded_source.specs.Taking.{IsRecord, LeavesInOrder, link
 use crate::holding_desk::HoldingDesk;
 use crate::name::{SourceFront, SourceHistory, SourceName};
 use crate::step::SourceStep;
-use ovs_history::{Book, EntryFrom};
+use ovs_sync::history::{Book, EntryFrom};
 use std::snapshot::Snapshot;
 use std::sync::Wait;
 

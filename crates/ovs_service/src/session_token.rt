@@ -5,8 +5,8 @@ ghost use Rattle.ovs_service.specs.declared.session_token.AuthorityCall.TheVaria
 ghost use Rattle.ovs_service.specs.Asking.{with_calls, most_unanswered, without_reply, asks_for_a_lock};
 
 use ovs_authority::{Ask, Verb};
-use ovs_history::{EntryFrom, GhostList};
 use ovs_json::SessionId;
+use ovs_sync::history::{EntryFrom, GhostList};
 use ovs_wire::Message;
 use std::marker::Model;
 use std::snapshot::Snapshot;

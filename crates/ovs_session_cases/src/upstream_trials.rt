@@ -14,10 +14,10 @@ use ovs_follow::{
     HandlerCall, LinkSink, UpstreamEnd, UpstreamHandler, follow_upstream, note_found, note_heard,
     note_taken,
 };
-use ovs_history::GhostList;
 use ovs_json::{NoMemory, Text};
 use ovs_links::Link;
 use ovs_session::Limits;
+use ovs_sync::history::GhostList;
 use ovs_types::{Schema, TxnId};
 use ovs_wire::{Counted, Id, MAX_MESSAGE_BYTES, Message};
 use serde_json::Value;

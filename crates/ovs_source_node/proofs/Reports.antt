@@ -3,7 +3,7 @@ use Rattle.std.proofs.Common.{◌≡◌, ℕ, zero, suc, List, [], ◌∷◌, le
 use Rattle.std.proofs.Math.Logic.{∥∥₁_map}
 use Rattle.ovs_types.specs.declared.schema.Table.{Table}
 use Rattle.ovs_node_threads.specs.Reporting.{AreSent, IsReport, IsReportOf}
-use Rattle.ovs_feed.specs.Feed.{FeedValue, IsDrained}
+use Rattle.ovs_sync.specs.Feed.{FeedValue, IsDrained}
 use Rattle.ovs_node.specs.Ledger.{WasSent}
 use Rattle.ovs_links.specs.Epochs.{epochs_of, links_in}
 use Rattle.ovs_links.specs.Sets.{Among}

@@ -1,7 +1,7 @@
 -- What comes of a source that has run.
 use Rattle.std.specs.Prelude.{◌≡◌, ℕ, List, [], ◌∷◌}
 use Rattle.ovs_node_threads.specs.Reporting.{IsReportOf}
-use Rattle.ovs_feed.specs.Feed.{FeedValue, IsDrained}
+use Rattle.ovs_sync.specs.Feed.{FeedValue, IsDrained}
 use Rattle.ovs_links.specs.Epochs.{IsEpochChain, epochs_of}
 use Rattle.ovs_links.specs.Sets.{Holds}
 use Rattle.ovs_links.specs.Store.{Stored, tables_of}

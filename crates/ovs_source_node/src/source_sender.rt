@@ -6,10 +6,10 @@ ghost use Rattle.ovs_links.specs.contracts.link.Link as link;
 ghost use Rattle.ovs_session.specs.declared.ended.Ended.{Ended};
 
 use crate::shared_source::SharedSource;
-use ovs_feed::{FeedEnd, FeedName};
 use ovs_node::NodeLink;
 use ovs_node_threads::{RunError, Sender};
 use ovs_session::Ended;
+use ovs_sync::feed::{FeedEnd, FeedName};
 use ovs_views::NodeName;
 use std::marker::PhantomData;
 

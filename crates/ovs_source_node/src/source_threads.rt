@@ -11,11 +11,11 @@ ghost use Rattle.ovs_source_node.specs.Reporting.{IsOwnReport};
 use crate::sending::{SourceEnd, follow_source};
 use crate::shared_source::SharedSource;
 use crate::source_sender::{SourceSender, SourceSent};
-use ovs_feed::{FeedName, FeedQueue};
 use ovs_node::{Node, NodeLink, Report};
 use ovs_node_threads::{
     Counters, FeedSink, Feeds, FoldObserver, KnownDesk, NodeThreads, RunError, Shared, run_node,
 };
+use ovs_sync::feed::{FeedName, FeedQueue};
 use ovs_views::{Handle, NodeName, View};
 use ovs_worker::{Poller, Wake};
 use std::alloc::Global;

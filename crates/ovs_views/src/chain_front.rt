@@ -6,8 +6,8 @@ ghost use Rattle.ovs_links.specs.StepChains.{start_of_steps};
 ghost use Rattle.ovs_views.specs.Published.{IsNodeChain};
 
 use crate::name::{NodeName, StepHistory, StepPrefix};
-use ovs_history::{Behind, Book};
 use ovs_links::Step;
+use ovs_sync::history::{Behind, Book};
 use ovs_types::TxnId;
 use std::marker::Model;
 

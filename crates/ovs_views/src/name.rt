@@ -26,7 +26,7 @@ pub struct StepHistory<K: NodeName> {
     of: PhantomData<K>,
 }
 
-impl<K: NodeName> ovs_history::HistoryName<Step> for StepHistory<K> {
+impl<K: NodeName> ovs_sync::history::HistoryName<Step> for StepHistory<K> {
     ghost use Rattle.ovs_views.specs.Published.{IsNodeChain};
 
     ghost book = { K.book };
@@ -35,7 +35,7 @@ impl<K: NodeName> ovs_history::HistoryName<Step> for StepHistory<K> {
 }
 
 /// A beginning of the chain of a node's steps.
-pub type StepPrefix<K> = ovs_history::Prefix<Step, StepHistory<K>>;
+pub type StepPrefix<K> = ovs_sync::history::Prefix<Step, StepHistory<K>>;
 
 /// All that was published when it was made.
 pub type Told<K> = StepPrefix<K>;

@@ -3,7 +3,7 @@
 ghost use Rattle.std.specs.Prelude.{◌≡◌, ◌≢◌, ◌++◌, [], ℕ, Some, None, option_to_list};
 ghost use Rattle.ovs_worker.specs.Connections.{out_of};
 
-use ovs_history::{EntryFrom, GhostList};
+use ovs_sync::history::{EntryFrom, GhostList};
 use std::collections::LinkedList;
 use std::marker::Model;
 use std::snapshot::Snapshot;

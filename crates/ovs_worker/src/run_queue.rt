@@ -4,7 +4,7 @@ ghost use Rattle.std.specs.Prelude.{◌≡◌, ◌≢◌, ◌++◌, [], ℕ, tru
 ghost use Rattle.ovs_worker.specs.Calling.{IsLater, IsWaiting, is_among, waits_of};
 
 use crate::poller::Timeout;
-use ovs_history::GhostList;
+use ovs_sync::history::GhostList;
 use std::alloc::{AllocError, Global};
 use std::collections::VecDeque;
 

@@ -2,8 +2,8 @@
 
 use crate::host::SessionHost;
 use crate::slot::Slot;
-use ovs_history::EntryFrom;
 use ovs_session::Ended;
+use ovs_sync::history::EntryFrom;
 use std::io::{Read, Write};
 use std::snapshot::Snapshot;
 

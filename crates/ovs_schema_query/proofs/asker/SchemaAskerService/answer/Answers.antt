@@ -1,6 +1,0 @@
-use Rattle.std.proofs.Common.{◌≡◌, Err, ap}
-use Rattle.ovs_session.specs.declared.ended.ServiceError.TheVariants.{BadInput}
-use Rattle.ovs_schema_query.proofs.asker.SchemaAskerService.answer.Goals as goal
-
-pub returns-in-Err-clause-bad : goal.returns-in-Err-clause-bad
-returns-in-Err-clause-bad c = λ bad. c.in-Err.ensures.none (let same : c.in-Err.refusal ≡ BadInput = cc in ap (λ r. Err r) same)

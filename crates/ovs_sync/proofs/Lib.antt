@@ -1,0 +1,5 @@
+pub mod Prefixes
+pub mod Adding
+pub mod Changed
+pub mod Values
+pub mod Moves

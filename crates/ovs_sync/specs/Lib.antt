@@ -1,0 +1,3 @@
+pub mod LengthRule
+pub mod FeedRule
+pub mod Feed
