@@ -147,8 +147,8 @@ impl<S: LinkSink, D: UpstreamHandler + Drop> UpstreamService<S, D> {
         Ok(TurnProgress::Busy)
     }
 
-    // Says what is to go up; idle only where that is all. `NoMemory` only where nothing was taken up or said: what is refused memory later
-    // waits for the next call.
+    // Says the requests that are to go up; idle only where no other is to. `NoMemory` only where no request was taken up or said: one that
+    // is refused memory later waits for the next call.
     fn pass_on(
         &mut self,
         session: &mut UpstreamState<S>,

@@ -77,7 +77,7 @@ fn first_to_show<K: NodeName, R: Wait + Drop>(
 }
 
 impl<K: NodeName, Q: FeedName, R: Wait + Drop> Node<K, Q, Handle<K, R>> {
-    /// What came in, and a publisher that has published nothing.
+    /// A node of links that came in, and of a publisher that has published nothing of them.
     pub fn new(
         alloc: Global,
         intake: Intake<K, Q>,
@@ -182,7 +182,7 @@ impl<K: NodeName, Q: FeedName, R: Wait + Drop> Node<K, Q, Handle<K, R>> {
         ensures store { (result.store ≡ self.intake.store) × (result.store.folded ≡ chain_of result.store) }
         ensures schema { result.store.schema ≡ K.schema }
         ensures settled { result.settled ≡ settled_of result.store }
-        // A view that learns what is told answers from all of the chain, and reads on while the publisher lives.
+        // A view that learns `told` answers from all of the chain, and reads on while the publisher lives.
         ensures told { (last_chain result.told ≡ steps_in result.store) × (result.told ≡ published result.publisher.handle) }
         ensures account { IsAccountOf self.intake }
         ensures counts { (result.forks ≡ self.intake.forks) × (result.short ≡ self.intake.short) × (result.dropped ≡ self.intake.dropped) × (result.refused.items ≡ self.intake.untold) }

@@ -123,7 +123,7 @@ impl<K: NodeName, R: Wait + Drop> OpenNode<K, Handle<K, R>> {
         OpenNode::made(alloc, rt, schema, opened, upstreams, views)
     }
 
-    // The same, where the counts are right.
+    // The node, once its counts of upstreams and views are found right.
     #[tactic(auto, using(crate::proofs::Begins::none_shown))]
     fn made(
         alloc: Global,

@@ -15,7 +15,7 @@ pub trait Connector {
     /// What a connection is read from.
     type In: Read + Drop;
 
-    /// What it is written to.
+    /// What a connection is written to.
     type Out: Write + Drop;
 
     // The links that may come of its connections, where these are read with a schema.

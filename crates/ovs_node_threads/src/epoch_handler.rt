@@ -40,7 +40,7 @@ impl<'v, K: NodeName, D: UpstreamHandler + Drop> EpochHandler<'v, K, D> {
         side
     }
 
-    // Where an answer stands that the session heard.
+    // The id at which an answer stands that the session heard.
     fn standing_in(&mut self, standing: TxnId) -> TxnId
         ensures value { (begins : ℕ) × IsBeginning K.schema self.new.view.now begins × (result ≡ standing_in self.old.start begins standing) }
         ensures side { self.new.side ≡ self.old.side }
@@ -52,7 +52,7 @@ impl<'v, K: NodeName, D: UpstreamHandler + Drop> EpochHandler<'v, K, D> {
         }
     }
 
-    // The same of what the session heard, where that is an answer.
+    // The message that the session heard, with the id at which it stands here where it is an answer.
     fn restood(&mut self, message: SourceMessage) -> SourceMessage
         ensures value { (begins : ℕ) × IsBeginning K.schema self.new.view.now begins × (result ≡ restood self.old.start begins message) }
         ensures side { self.new.side ≡ self.old.side }

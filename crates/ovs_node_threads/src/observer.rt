@@ -1,8 +1,8 @@
-//! What is told of a node while it runs.
+//! Who is told of refusals and of threads that end, while a node runs.
 
 use ovs_node::RefusedLink;
 
-/// Looks on while a node runs.
+/// Is told of what a node's folder meets while the node runs.
 pub trait FoldObserver {
     /// So many of its threads, one or more, couldn't be started.
     fn unstarted(&self, threads: u64);
@@ -10,7 +10,7 @@ pub trait FoldObserver {
     /// A link was refused: it contradicts a held one, or the store has no room for it.
     fn refused(&self, link: &RefusedLink);
 
-    /// There was no memory to fold or to publish what came, which is tried again.
+    /// There was no memory to fold or to publish links that came; both are tried again.
     fn put_off(&self);
 
     /// No thread sends links to the folder any more, though readers are served.

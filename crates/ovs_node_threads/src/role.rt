@@ -1,4 +1,5 @@
-//! The jobs of a node's threads. What crosses into a thread and back is told in tuples of what it is made of.
+//! The jobs of a node's threads. Values that cross into a thread and back are passed as tuples of their parts, for which the checker
+//! finds that they may.
 
 ghost use Rattle.std.specs.Prelude.{◌≡◌, IfOk, IfErr, vec_len};
 

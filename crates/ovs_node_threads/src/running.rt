@@ -91,7 +91,7 @@ pub fn run_node<
     ensures report { IfOk result (λ r. IsReport F.sends node.intake.feed.ends r.feed r.store r.settled r.forks r.short r.dropped) }
     ensures account { IfOk result (λ r. HasAccount r.feed r.store r.forks r.short r.dropped r.refused.items) }
     ensures schema { IfOk result (λ r. r.store.schema ≡ K.schema) }
-    // A view that learns what is told answers from all of the chain, and reads on while the publisher lives.
+    // A view that learns `told` answers from all of the chain, and reads on while the publisher lives.
     ensures told { IfOk result (λ r. (last_chain r.told ≡ steps_in r.store) × (r.told ≡ published r.publisher.handle)) }
 {
     let folding = Folding {

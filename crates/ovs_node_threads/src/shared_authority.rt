@@ -126,8 +126,8 @@ pub trait SharedForwarder: KnownDesk {
         ensures lost { loses known.old known.new };
 }
 
-// Whether a session may be given what it is given next: where answers are held back, the answer that is due to it first only once it
-// was shown where that stands. `Gone` where the view is gone that knows it.
+// Whether a session may be given its next message. Where answers are held back, its first answer is given only once the session was
+// shown the id at which the answer stands; `Gone` where the view is gone that knows whether it was.
 fn may_be_given<K: NodeName, N: DeskName, R: Wait>(
     rt: &R,
     desk: &RecordedDesk<N>,

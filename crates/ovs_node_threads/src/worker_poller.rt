@@ -39,7 +39,7 @@ impl<D: Poller> UnusedPoller<D> {
         poller
     }
 
-    /// The same, where nobody came.
+    /// An idle poller, since it accepted no connection.
     pub(crate) fn into_idle(self) -> IdlePoller<D>
         ensures poller { result.poller ≡ self.poller }
     {

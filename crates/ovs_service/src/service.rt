@@ -128,8 +128,8 @@ impl<K: NodeName, D: ServiceAuthority<K>> NodeService<K, D> {
         is_all_told
     }
 
-    // Tells what its monitors show, as much as one call tells, and where that is all what the authority owes it. It is idle only
-    // where nothing more is to be told now. After a refusal nothing has changed of the client.
+    // Tells the changes that the client's monitors show, as many as one call tells, and once these are all told, collects what the
+    // authority owes it. Idle only where nothing more is to be told now. After a refusal nothing has changed of the client.
     fn tell_new(
         &mut self,
         client: &mut Client<K>,
@@ -210,8 +210,8 @@ impl<K: NodeName, D: ServiceAuthority<K>> Service for NodeService<K, D> {
         Ok(())
     }
 
-    /// Says what is due, and then what the client's monitors tell of what the view shows, and what the authority owes it. It is busy
-    /// where that is cut short: by the bounds of a call, or since memory ran out after something was done.
+    /// Says the messages that are due, then the changes that the client's monitors see in the view, and then the messages that the
+    /// authority owes it. It is busy where that is cut short: by the bounds of a call, or since memory ran out after something was done.
     ///
     /// `NoMemory` where memory ran out before something was done; `Gone` and `Epoch` as `answer`.
     fn tell(

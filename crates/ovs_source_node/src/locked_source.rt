@@ -29,8 +29,8 @@ use std::marker::PhantomData;
 use std::sync::{Mutex, Wait};
 use std::thread::Parker;
 
-// Whether a session may be given what it is given next: where answers are held back, the reply that waits first for it only once it was
-// shown where that stands. `Gone` where the view is gone that knows it.
+// Whether a session may be given its next message. Where answers are held back, the first reply that waits for it is given only once the
+// session was shown the id at which the reply stands; `Gone` where the view is gone that knows whether it was.
 fn may_be_given<K: NodeName, N: SourceName, R: Wait>(
     rt: &R,
     desk: &RecordedSource<N>,

@@ -28,14 +28,14 @@ impl<K: NodeName> Model for Board<K> {
 }
 
 impl<K: NodeName> Board<K> {
-    /// With this on it.
+    /// A board with this prefix on it.
     pub fn new(told: Told<K>) -> Board<K>
         ensures value { result ≡ told }
     {
         Board { told }
     }
 
-    /// Puts up what was published; of this and what is there, the later stays.
+    /// Posts a prefix that was published. Of it and the one on the board the longer stays.
     pub fn post(&mut self, told: &Told<K>)
         ensures one { (self.new ≡ self.old) ⊎ (self.new ≡ told.now) }
         ensures kept { IsPrefix self.old self.new }

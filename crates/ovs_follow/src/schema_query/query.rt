@@ -11,7 +11,7 @@ use ovs_wire::Counted;
 use std::alloc::Global;
 use std::io::{Read, Write};
 
-/// What came of it.
+/// How the session that asks for a schema ended, and what it learned.
 #[derive(Drop)]
 pub struct Queried {
     /// What the peer replied, if it did.
@@ -22,7 +22,7 @@ pub struct Queried {
 
 /// Asks a peer once for the schema of the database of this name, and hears what it says until it has replied, by so many turns at most.
 ///
-/// What came is a stream of messages, each of `most_bytes` at most, of which the last that is the reply to the request is told.
+/// The peer's bytes are read as a stream of messages of `most_bytes` at most. Of those that are replies to the request the last one counts.
 pub fn query_schema<R: Read, W: Write>(
     alloc: Global,
     database: Text,
