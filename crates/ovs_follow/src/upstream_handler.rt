@@ -2,6 +2,7 @@
 
 ghost use Rattle.std.specs.Prelude.{◌≡◌, ◌++◌, ◌∷◌, [], ℕ, Option, None, Ok, IfOk, OnOk, OnErr};
 ghost use Rattle.ovs_desk.specs.declared.source_message.SourceMessage.{SourceMessage};
+ghost use Rattle.ovs_wire.specs.declared.message.Message.{Message};
 ghost use Rattle.ovs_follow.specs.declared.handler_call.HandlerCall.TheVariants as calls;
 
 use crate::handler_call::{HandlerCall, note_found, note_heard, note_taken};
