@@ -1,4 +1,4 @@
-"""A client of a node: JSON-RPC 1.0 over TCP, as RFC 7047 section 4 has it."""
+"""A client of a node: JSON-RPC 1.0 over TCP, as RFC 7047 section 4 has it, or over a Unix socket."""
 import json
 import re
 import selectors
@@ -59,15 +59,16 @@ class Framer:
 class Session:
     """One connection with a node. What comes while a reply is awaited is kept: `notices` has the notifications."""
 
-    def __init__(self, port, seconds=20.0, buffer=None, host="127.0.0.1"):
+    def __init__(self, port, seconds=20.0, buffer=None, host="127.0.0.1", path=None):
         self.seconds = seconds * PATIENCE
-        self.socket = socket.socket(socket.AF_INET6 if ":" in host else socket.AF_INET)
+        self.socket = socket.socket(socket.AF_UNIX if path else socket.AF_INET6 if ":" in host else socket.AF_INET)
         if buffer is not None:
             # How much the kernel keeps of what isn't read; it has to be said before the connection is made.
             self.socket.setsockopt(socket.SOL_SOCKET, socket.SO_RCVBUF, buffer)
         self.socket.settimeout(self.seconds)
-        self.socket.connect((host, port))
-        self.socket.setsockopt(socket.IPPROTO_TCP, socket.TCP_NODELAY, 1)
+        self.socket.connect(path or (host, port))
+        if not path:
+            self.socket.setsockopt(socket.IPPROTO_TCP, socket.TCP_NODELAY, 1)
         self.framer = Framer()
         self.inbox = []
         self.notices = []

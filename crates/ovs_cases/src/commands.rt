@@ -2,6 +2,7 @@
 
 use crate::case::{part, text, word};
 use crate::case_error::CaseError;
+use ovs_address::Address;
 use ovs_command_line::{
     Complaint, RelayOptions, SchemaOrigin, SourceOptions, Task, command, complaint_of,
 };
@@ -9,7 +10,6 @@ use ovs_script::RunEnd;
 use serde_json::Value;
 use std::alloc::Global;
 use std::io;
-use std::net::SocketAddr;
 
 // A word for a flag that is there.
 fn flag(is_there: bool, word: &'static str) -> &'static str {
@@ -28,7 +28,7 @@ fn count_told(alloc: Global, count: Option<u32>) -> Result<String, CaseError> {
 fn source_told(alloc: Global, given: &SourceOptions) -> Result<String, CaseError> {
     let first_id = given.first_id.to_text(alloc)?;
     let first_row = given.first_row.to_text(alloc)?;
-    let (schema, listen) = (&given.schema, given.listen);
+    let (schema, listen) = (&given.schema, &given.listen);
     let accepts = count_told(alloc, given.accepts)?;
     let trims = match given.trim_every {
         Some(every) => format!(in alloc; ", trims every {every}")?,
@@ -42,7 +42,7 @@ fn source_told(alloc: Global, given: &SourceOptions) -> Result<String, CaseError
 }
 
 // The addresses of an upstream.
-fn upstream_told(alloc: Global, addresses: &[SocketAddr]) -> Result<String, CaseError> {
+fn upstream_told(alloc: Global, addresses: &[Address]) -> Result<String, CaseError> {
     let mut told = String::new(alloc);
     for address in addresses {
         let before = if told.is_empty() { " " } else { " or " };
@@ -58,7 +58,7 @@ fn relay_told(alloc: Global, given: &RelayOptions) -> Result<String, CaseError> 
         SchemaOrigin::File(file) => format!(in alloc; "{file}")?,
         SchemaOrigin::FirstUpstream(database) => format!(in alloc; "of {database}")?,
     };
-    let listen = given.listen;
+    let listen = &given.listen;
     let mut told = format!(in alloc; "relay {schema} at {listen}, follows")?;
     for upstream in &given.upstreams {
         told.push_str(upstream_told(alloc, upstream.as_slice())?.as_str())?;
@@ -162,9 +162,7 @@ pub(crate) fn unopened_for(alloc: Global, parts: &[Value]) -> Result<String, Cas
 
 /// What is said of an address where nothing can be done for an error of this number.
 pub(crate) fn unreached(alloc: Global, parts: &[Value]) -> Result<String, CaseError> {
-    let address = text(parts, 1)?
-        .parse::<SocketAddr>()
-        .map_err(|_| CaseError::Malformed)?;
+    let address = &Address::read(text(parts, 1)?, true).ok_or(CaseError::Malformed)?;
     let cause = cause(parts)?;
     let complaint = match text(parts, 0)? {
         "unlistened" => Complaint::Unlistened { address, cause },

@@ -6,16 +6,12 @@ use Rattle.std.specs.Option.{unwrap_or}
 use Rattle.std.specs.List.{AllZip}
 use Rattle.std.proofs.Math.Seq.{take-suc}
 use Rattle.std.proofs.lemmas.List.{map-append}
-use Rattle.std.specs.Net.Addr.{MatchIp, IsLoopbackV4, IsLoopbackV6}
-use Rattle.std.specs.Net.Grammar.{IsSocketText}
-use Rattle.std.specs.Net.Socket.{socket_ip}
-use Rattle.std.specs.declared.net.socket_addr.SocketAddr.{SocketAddr}
 use Rattle.std.proofs.lemmas.Slice.Zip.{AllZip-long}
 use Rattle.clap.specs.Words.{Row, Text, all_of}
 use Rattle.ovs_command_line.specs.declared.command_option.CommandOption.TheVariants.{Upstream}
 use Rattle.ovs_command_line.specs.declared.command_fault.CommandFault.{CommandFault}
 use Rattle.ovs_command_line.specs.declared.command_fault.CommandFault.TheVariants.{Usage, Missing, TwoOrigins, BadValue, OneTooMany, OwnAddress, NoMemory}
-use Rattle.ovs_command_line.specs.Values.{SpellsAddress, parts_of}
+use Rattle.ovs_command_line.specs.Values.{parts_of}
 use Rattle.ovs_command_line.specs.Options.{Addresses, word_of, words_of, goes_beyond, SpellsUpstream, AreUpstreams}
 use Rattle.ovs_command_line.specs.Faults.{IsFaultOf, IsOneTooMany, IsFaultAmong, IsFaultInside}
 
@@ -39,17 +35,6 @@ one_more Spells words i d read after value within each more spells =
     let texts : texts_of (take (i + 1) words) ≡ texts_of (take i words) ++ w.now ∷ [] = ap texts_of taken ∙ map-append (λ (x : Bor Text). x.now) (take i words) (w ∷ []) in
     subst (λ ts. AllZip Spells ts after) (sym texts)
     (subst (AllZip Spells (texts_of (take i words) ++ w.now ∷ [])) (sym more) (zip_push Spells (texts_of (take i words)) read w.now value each spells))
-
--- whatever address is allowed, the word spells it with its port
-pub is_text : (beyond : Bool) (word : Text) (address : SocketAddr) → SpellsAddress beyond word address → IsSocketText word address
-is_text true word address spells = spells
-is_text false word address spells = spells.0
-
--- where only loopback is, it is one of these
-pub is_of_loopback : (beyond : Bool) (word : Text) (address : SocketAddr) → beyond ≡ false → SpellsAddress beyond word address
-    → MatchIp (socket_ip address) IsLoopbackV4 IsLoopbackV6
-is_of_loopback true word address is spells = absurd (true≢false is)
-is_of_loopback false word address is spells = spells.1
 
 -- ---- the words behind `--upstream`
 

@@ -6,14 +6,15 @@ use Rattle.std.proofs.lemmas.Option.{slice_get_within}
 use Rattle.std.specs.List.{AllZip}
 use Rattle.std.specs.Option.{unwrap_or}
 use Rattle.clap.specs.Words.{Row, Text, first_of}
-use Rattle.std.specs.declared.net.socket_addr.SocketAddr.{SocketAddr}
+use Rattle.ovs_address.specs.declared.address.Address.{Address}
+use Rattle.ovs_address.specs.Address.{SpellsNone}
 use Rattle.ovs_command_line.specs.declared.options.SchemaOrigin.{SchemaOrigin}
 use Rattle.ovs_command_line.specs.declared.options.SchemaOrigin.TheVariants as origins
 use Rattle.ovs_command_line.specs.declared.command_option.CommandOption.{CommandOption}
 use Rattle.ovs_command_line.specs.declared.command_option.CommandOption.TheVariants.{Schema, Database, Listen, Upstream, FirstId, FirstRow, TrimEvery, Accepts, Tries, MostBytes}
 use Rattle.ovs_command_line.specs.declared.command_fault.CommandFault.{CommandFault}
 use Rattle.ovs_command_line.specs.declared.command_fault.CommandFault.TheVariants.{Usage, Missing, TwoOrigins, BadValue, OneTooMany, OwnAddress, NoMemory}
-use Rattle.ovs_command_line.specs.Values.{SpellsCommit, SpellsRow, SpellsNone, parts_of}
+use Rattle.ovs_command_line.specs.Values.{SpellsCommit, SpellsRow, parts_of}
 use Rattle.ovs_command_line.specs.Options.{Addresses, is_count, word_of, words_of, Gives, SpellsCount, SpellsIfGiven, SpellsAllowed, SpellsUpstream, GivesOrigin}
 use Rattle.ovs_command_line.specs.declared.command_line.Task.{Task}
 use Rattle.ovs_command_line.specs.CommandLine.{Found, HasCommand}
@@ -139,7 +140,7 @@ no_fifth rows readable word fifth =
     absurd (omega arith)
 
 -- so nothing is off with it, where no upstream is the relay's own address
-pub no_fault : (option : CommandOption) (rows : List Row) (fault : CommandFault) → ((a : SocketAddr) → ¬ (IsFaultOf option rows (OwnAddress a)))
+pub no_fault : (option : CommandOption) (rows : List Row) (fault : CommandFault) → ((a : Address) → ¬ (IsFaultOf option rows (OwnAddress a)))
     → IsReadable option rows → IsFaultOf option rows fault → fault ≡ NoMemory
 no_fault option rows (Usage line) apart readable off = absurd off
 no_fault option rows TwoOrigins apart readable off = absurd off
@@ -165,7 +166,7 @@ origin_fault rows origin (OneTooMany word) gives off = off
 origin_fault rows origin (OwnAddress a) gives off = off
 origin_fault rows origin NoMemory gives off = refl
 
-of_relay : (rows : List Row) (fault : CommandFault) → ((a : SocketAddr) → ¬ (HasOwnAddress rows a))
+of_relay : (rows : List Row) (fault : CommandFault) → ((a : Address) → ¬ (HasOwnAddress rows a))
     → ((option : CommandOption) → IsTrue (is_of_relay option) → IsReadable option rows) → (origin : SchemaOrigin) → GivesOrigin rows origin
     → IsFaultOfRelay rows fault → fault ≡ NoMemory
 of_relay rows fault apart readable origin gives (inl off) = origin_fault rows origin fault gives off

@@ -1,6 +1,7 @@
 -- What is off in words that ask for nothing.
 use Rattle.std.specs.Prelude.{◌≡◌, ◌≢◌, ◌⊎◌, ℕ, List, [], Option, Some, None, Bool, true, false, Result, Ok, Err, codes, slice_get, Contains, IsTrue, string_bytes}
-use Rattle.std.specs.declared.net.socket_addr.SocketAddr.{SocketAddr}
+use Rattle.ovs_address.specs.declared.address.Address.{Address}
+use Rattle.ovs_address.specs.Address.{AreSame, SpellsAddress, SpellsNone}
 use Rattle.clap.specs.Words.{Row, Text, fault_of, subcommand_of}
 use Rattle.clap.specs.declared.error.kind.ErrorKind.{ErrorKind}
 use Rattle.clap.specs.declared.error.kind.ErrorKind.TheVariants.{DisplayHelp, DisplayVersion, OutOfMemory}
@@ -11,7 +12,7 @@ use Rattle.ovs_command_line.specs.declared.command_fault.CommandFault.TheVariant
 use Rattle.ovs_command_line.specs.declared.options.SchemaOrigin.{SchemaOrigin}
 use Rattle.ovs_command_line.specs.declared.command_line.Task.{Task}
 use Rattle.ovs_command_line.specs.declared.command_line.Task.TheVariants.{Help, Version}
-use Rattle.ovs_command_line.specs.Values.{SpellsAddress, SpellsCommit, SpellsRow, SpellsNone, parts_of}
+use Rattle.ovs_command_line.specs.Values.{SpellsCommit, SpellsRow, parts_of}
 use Rattle.ovs_command_line.specs.Options.{is_count, word_of, words_of, Gives, SpellsCount, CountsIfGiven, Addresses, SpellsAllowed, GivesOrigin, AreUpstreams}
 use Rattle.ovs_command_line.specs.CommandLine.{Found, HasCommand, AskForText, program}
 
@@ -48,7 +49,7 @@ IsPartOf words part = (word : Text) × Contains words word × Contains (parts_of
 abbrev pub IsReadable : CommandOption → List Row → Type 0
 IsReadable Schema rows = (word : Text) × (word_of Schema rows ≡ Some word)
 IsReadable Database rows = (word : Text) × (word_of Database rows ≡ Some word)
-IsReadable Listen rows = (address : SocketAddr) × Gives (SpellsAllowed rows) Listen rows address
+IsReadable Listen rows = (address : Address) × Gives (SpellsAllowed rows) Listen rows address
 IsReadable Upstream rows = (upstreams : List Addresses) × AreUpstreams rows upstreams
 IsReadable FirstId rows = (id : ℕ) × Gives SpellsCommit FirstId rows id
 IsReadable FirstRow rows = (id : ℕ) × Gives SpellsRow FirstRow rows id
@@ -58,15 +59,16 @@ IsReadable Tries rows = (n : Option ℕ) × CountsIfGiven Tries rows n
 IsReadable MostBytes rows = (n : Option ℕ) × CountsIfGiven MostBytes rows n
 
 -- an address of an upstream is the one at which the relay listens
-abbrev pub HasOwnAddress : List Row → SocketAddr → Type 0
-HasOwnAddress rows address = Gives (SpellsAllowed rows) Listen rows address × ((part : Text) × IsPartOf (words_of Upstream rows) part × SpellsAllowed rows part address)
+abbrev pub HasOwnAddress : List Row → Address → Type 0
+HasOwnAddress rows address = Gives (SpellsAllowed rows) Listen rows address
+    × ((part : Text) × (other : Address) × IsPartOf (words_of Upstream rows) part × SpellsAllowed rows part other × AreSame other address)
 
 -- the options of `source`, or of `relay`, give values, where that is the command, and of the latter no upstream is its own address, and it
 -- is said where its schema comes from; the other commands have words that give any
 abbrev pub IsFoundReadable : Found → Type 0
 IsFoundReadable found = ((rows : List Row) → found ≡ Some (codes "source", rows) → (option : CommandOption) → IsTrue (is_of_source option) → IsReadable option rows)
     × ((rows : List Row) → found ≡ Some (codes "relay", rows) → (option : CommandOption) → IsTrue (is_of_relay option) → IsReadable option rows)
-    × ((rows : List Row) → found ≡ Some (codes "relay", rows) → (address : SocketAddr) → ¬ (HasOwnAddress rows address))
+    × ((rows : List Row) → found ≡ Some (codes "relay", rows) → (address : Address) → ¬ (HasOwnAddress rows address))
     × ((rows : List Row) → found ≡ Some (codes "relay", rows) → (origin : SchemaOrigin) × GivesOrigin rows origin)
 
 -- the words behind the options can be read

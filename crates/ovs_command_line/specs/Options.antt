@@ -1,18 +1,19 @@
 -- The options of `source` and `relay`, and what the words behind them give.
-use Rattle.std.specs.Prelude.{◌≡◌, ◌≢◌, ℕ, ◌≤◌, List, All, [], length, Option, Some, None, Bool, true, false, codes, bytes_eq, string_bytes}
+use Rattle.std.specs.Prelude.{◌≡◌, ℕ, ◌≤◌, List, All, [], length, Option, Some, None, Bool, true, false, codes, bytes_eq, string_bytes}
 use Rattle.std.specs.List.{AllZip}
 use Rattle.std.specs.Option.{option_map_or, unwrap_or}
-use Rattle.std.specs.declared.net.socket_addr.SocketAddr.{SocketAddr}
 use Rattle.std.specs.declared.alloc.Global.{Global}
 use Rattle.std.specs.declared.vec.Vec.{Vec}
 use Rattle.clap.specs.Words.{Row, Text, first_of, all_of}
+use Rattle.ovs_address.specs.declared.address.Address.{Address}
+use Rattle.ovs_address.specs.Address.{AreSame, SpellsAddress}
 use Rattle.ovs_command_line.specs.declared.command_option.CommandOption.{CommandOption}
 use Rattle.ovs_command_line.specs.declared.command_option.CommandOption.TheVariants.{Schema, Database, Listen, Upstream, FirstId, FirstRow, TrimEvery, Accepts, Tries, MostBytes}
 use Rattle.ovs_command_line.specs.declared.options.SourceOptions.{SourceOptions}
 use Rattle.ovs_command_line.specs.declared.options.RelayOptions.{RelayOptions}
 use Rattle.ovs_command_line.specs.declared.options.SchemaOrigin.{SchemaOrigin}
 use Rattle.ovs_command_line.specs.declared.options.SchemaOrigin.TheVariants as origins
-use Rattle.ovs_command_line.specs.Values.{SpellsAddress, SpellsAddresses, SpellsCommit, SpellsRow, SpellsNumber}
+use Rattle.ovs_command_line.specs.Values.{SpellsAddresses, SpellsCommit, SpellsRow, SpellsNumber}
 
 abbrev pub option_name : CommandOption → Text
 option_name Schema = codes "schema"
@@ -66,13 +67,13 @@ has_flag flag rows = option_map_or (λ word. bytes_eq word (codes "true")) (firs
 abbrev pub goes_beyond : List Row → Bool
 goes_beyond rows = has_flag (codes "beyond-loopback") rows
 
--- an address as these options allow it, and a port
-abbrev pub SpellsAllowed : List Row → Text → SocketAddr → Type 0
+-- an address as these options allow it
+abbrev pub SpellsAllowed : List Row → Text → Address → Type 0
 SpellsAllowed rows = SpellsAddress (goes_beyond rows)
 
 -- the addresses of one upstream
 abbrev pub Addresses : Type 0
-Addresses = Vec SocketAddr Global
+Addresses = Vec Address Global
 
 -- such as these options allow
 abbrev pub SpellsUpstream : List Row → Text → Addresses → Type 0
@@ -116,7 +117,7 @@ pub record GiveRelay (rows : List Row) (o : RelayOptions) : Type 0 where
   pub schema : GivesOrigin rows o.schema
   pub listen : Gives (SpellsAllowed rows) Listen rows o.listen
   pub upstreams : AreUpstreams rows o.upstreams.items
-  pub others : All (λ upstream. All (λ address. address ≢ o.listen) upstream.items) o.upstreams.items
+  pub others : All (λ upstream. All (λ address. ¬ (AreSame address o.listen)) upstream.items) o.upstreams.items
   pub accepts : CountsIfGiven Accepts rows o.accepts
   pub tries : CountsIfGiven Tries rows o.tries
   pub most_bytes : CountsIfGiven MostBytes rows o.most_bytes

@@ -4,8 +4,8 @@ ghost use Rattle.std.specs.Prelude.{◌≡◌};
 ghost use Rattle.ovs_command_line.specs.Faults.{fault_status};
 
 use crate::command_option::CommandOption;
+use ovs_address::Address;
 use std::alloc::AllocError;
-use std::net::SocketAddr;
 use thiserror::Error;
 
 /// Why a command line asks for nothing. Each is shown as one line.
@@ -28,7 +28,7 @@ pub enum CommandFault {
     OneTooMany(String),
     /// An upstream of the relay is the address at which it listens.
     #[error("{0} is the relay's own address: wanted an upstream")]
-    OwnAddress(SocketAddr),
+    OwnAddress(Address),
     /// Memory ran out.
     #[error("out of memory")]
     NoMemory,

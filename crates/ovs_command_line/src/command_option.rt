@@ -70,7 +70,7 @@ impl CommandOption {
             CommandOption::Schema => "a file",
             CommandOption::Database => "the name of a database",
             CommandOption::Listen | CommandOption::Upstream => {
-                "a loopback address and a port, as 127.0.0.1:6640 or [::1]:6640, or any with --beyond-loopback"
+                "a loopback address and a port, as 127.0.0.1:6640 or [::1]:6640, or any with --beyond-loopback, or unix: and a path of 1 to 107 bytes"
             }
             CommandOption::FirstId => {
                 "a commit's id, 36 characters with 32 hexadecimal digits, of which the first 16 aren't all 0"

@@ -17,10 +17,11 @@ const SCHEMA_HELP: &str = "A file whose first line is the schema";
 const DATABASE_HELP: &str =
     "The database whose schema the first upstream is asked for, in the place of a file with it";
 
-const LISTEN_HELP: &str = "Where connections are taken, an address and a port";
+const LISTEN_HELP: &str =
+    "Where connections are taken, an IP address and a port, or unix: and the path of a Unix socket";
 
 const UPSTREAM_HELP: &str =
-    "A node to follow, at an address and a port, or at several with commas between them, which are tried in turn; four nodes at most, the first is the way to the source";
+    "A node to follow, at an address as that of --listen, or at several with commas between them, which are tried in turn; four nodes at most, the first is the way to the source";
 
 const FIRST_ID_HELP: &str =
     "The id of the first commit, from which those after it count on; no commit may have had any of them";
@@ -46,7 +47,7 @@ const END_ON_REFUSAL_HELP: &str = "Ends once something that an upstream sends is
 const PRUNE_HELP: &str = "Drops links of older epochs once a newer one is shown";
 
 const BEYOND_LOOPBACK_HELP: &str =
-    "Allows addresses beyond loopback; whoever reaches the program there may read and write, since it has no TLS";
+    "Allows IP addresses beyond loopback; whoever reaches the program there may read and write, since it has no TLS";
 
 // The command with one option more, which has a word behind it and stands once at most.
 fn with_word<'a>(

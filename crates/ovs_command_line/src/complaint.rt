@@ -4,9 +4,9 @@ ghost use Rattle.std.specs.Prelude.{◌≡◌, ◌↔◌, Some, IfSome, is_none}
 ghost use Rattle.ovs_script.specs.RunEnd.{is_whole, status_of};
 ghost use Rattle.ovs_command_line.specs.Complaint.{complaint_status, SaysWhy};
 
+use ovs_address::Address;
 use ovs_script::RunEnd;
 use std::io;
-use std::net::SocketAddr;
 use thiserror::Error;
 
 /// Why the program ends with status 2 or 3, other than by a fault that `command` tells. A path is shown in quotes and with
@@ -37,19 +37,19 @@ pub enum Complaint<'a> {
     /// No connections can be taken at this address.
     #[error("{address} can't be listened at: {cause}")]
     Unlistened {
-        address: SocketAddr,
+        address: &'a Address,
         cause: io::Error,
     },
     /// A connection that came in at this address can't be taken.
     #[error("a connection at {address} can't be taken: {cause}")]
     Untaken {
-        address: SocketAddr,
+        address: &'a Address,
         cause: io::Error,
     },
     /// The node at this address can't be reached.
     #[error("{address} can't be reached: {cause}")]
     Unreached {
-        address: SocketAddr,
+        address: &'a Address,
         cause: io::Error,
     },
     /// All read and write calls of the run are made.

@@ -10,19 +10,19 @@ ghost use Rattle.ovs_command_line.specs.Faults.{IsFaultOf, IsFaultOfOrigin, IsFa
 use crate::command_fault::CommandFault;
 use crate::command_option::CommandOption;
 use crate::upstreams::other_upstreams_of;
-use crate::values::{read_address, read_commit, read_number, read_row};
+use crate::values::{read_commit, read_number, read_row};
 use clap::ArgMatches;
+use ovs_address::Address;
 use ovs_data::{RowId, TxnId};
 use std::alloc::Global;
-use std::net::SocketAddr;
 
 /// What the command `source` is given.
 #[derive(Debug, Drop)]
 pub struct SourceOptions {
     /// The file whose first line is the schema.
     pub schema: String,
-    /// Where connections are taken, a loopback address unless others are allowed.
-    pub listen: SocketAddr,
+    /// Where connections are taken; no IP address beyond loopback unless such are allowed.
+    pub listen: Address,
     /// The id of the first commit, which is no start id.
     pub first_id: TxnId,
     /// The id of the first row that is inserted.
@@ -49,11 +49,11 @@ pub enum SchemaOrigin {
 pub struct RelayOptions {
     /// Where its schema comes from.
     pub schema: SchemaOrigin,
-    /// Where connections are taken, a loopback address unless others are allowed.
-    pub listen: SocketAddr,
+    /// Where connections are taken; no IP address beyond loopback unless such are allowed.
+    pub listen: Address,
     /// One to four upstreams, in the order in which they were given, each with its addresses, one or more, none of which is where
-    /// connections are taken; loopback addresses unless others are allowed.
-    pub upstreams: Vec<Vec<SocketAddr>>,
+    /// connections are taken; no IP addresses beyond loopback unless such are allowed.
+    pub upstreams: Vec<Vec<Address>>,
     /// How many connections each thread of readers takes, 1 to 1,000,000; none where it takes any number.
     pub accepts: Option<u32>,
     /// How many connections each thread of an upstream tries, 1 to 1,000,000; none where it tries any number.
@@ -122,12 +122,12 @@ fn origin_of(alloc: Global, found: &ArgMatches<'_>) -> Result<SchemaOrigin, Comm
 }
 
 // The address to listen at.
-fn listen_of(alloc: Global, found: &ArgMatches<'_>) -> Result<SocketAddr, CommandFault>
+fn listen_of(alloc: Global, found: &ArgMatches<'_>) -> Result<Address, CommandFault>
     ensures value { IfOk result (Gives (SpellsAllowed (rows_of (found_of found.now))) options.Listen (rows_of (found_of found.now))) }
     ensures fault { IfErr result (IsFaultOf options.Listen (rows_of (found_of found.now))) }
 {
     let word = needed(found, CommandOption::Listen)?;
-    match read_address(word, goes_beyond(found)) {
+    match Address::read(word, goes_beyond(found)) {
         Some(address) => Ok(address),
         None => Err(no_value(alloc, CommandOption::Listen, word)),
     }
@@ -225,7 +225,7 @@ pub(crate) fn relay_options(
     Ok(RelayOptions {
         schema,
         listen,
-        upstreams: other_upstreams_of(alloc, found, listen)?,
+        upstreams: other_upstreams_of(alloc, found, &listen)?,
         accepts: count_of(alloc, found, CommandOption::Accepts)?,
         tries: count_of(alloc, found, CommandOption::Tries)?,
         most_bytes: count_of(alloc, found, CommandOption::MostBytes)?,

@@ -1,20 +1,20 @@
 //! The upstreams of a relay, as they are given.
 
-ghost use Rattle.std.specs.Prelude.{◌≡◌, ◌≢◌, true, false, map, All, Contains, IfOk, IfErr};
+ghost use Rattle.std.specs.Prelude.{◌≡◌, true, false, map, All, Contains, IfOk, IfErr};
 ghost use Rattle.std.specs.List.{AllZip};
 ghost use Rattle.clap.specs.Words.{found_of, rows_of};
 ghost use Rattle.ovs_command_line.specs.declared.command_option.CommandOption.TheVariants as options;
 ghost use Rattle.ovs_command_line.specs.Options.{AreUpstreams, Gives, SpellsAllowed};
-ghost use Rattle.ovs_command_line.specs.Values.{SpellsAddress, SpellsAddresses, parts_of};
+ghost use Rattle.ovs_address.specs.Address.{AreSame, SpellsAddress};
+ghost use Rattle.ovs_command_line.specs.Values.{SpellsAddresses, parts_of};
 ghost use Rattle.ovs_command_line.specs.Faults.{IsFaultOf, IsOneTooMany, IsNoAddress, IsFaultAmong, IsFaultInside};
 
 use crate::command_fault::CommandFault;
 use crate::command_option::CommandOption;
 use crate::options::{goes_beyond, no_value};
-use crate::values::read_address;
 use clap::ArgMatches;
+use ovs_address::Address;
 use std::alloc::{AllocError, Global};
-use std::net::SocketAddr;
 
 // How many upstreams a relay has at most.
 const MOST_UPSTREAMS: usize = 4;
@@ -29,11 +29,11 @@ fn one_too_many(alloc: Global, word: &str) -> CommandFault
     }
 }
 
-fn address_of(alloc: Global, word: &str, beyond_loopback: bool) -> Result<SocketAddr, CommandFault>
+fn address_of(alloc: Global, word: &str, beyond_loopback: bool) -> Result<Address, CommandFault>
     ensures value { IfOk result (SpellsAddress beyond_loopback word.now) }
     ensures fault { IfErr result (IsNoAddress beyond_loopback word.now) }
 {
-    match read_address(word, beyond_loopback) {
+    match Address::read(word, beyond_loopback) {
         Some(address) => Ok(address),
         None => Err(no_value(alloc, CommandOption::Upstream, word)),
     }
@@ -44,7 +44,7 @@ fn addresses_of(
     alloc: Global,
     parts: &[&str],
     beyond_loopback: bool,
-) -> Result<Vec<SocketAddr>, CommandFault>
+) -> Result<Vec<Address>, CommandFault>
     ensures value { IfOk result (λ addresses. AllZip (SpellsAddress beyond_loopback) (map (λ part. part.now) parts.now) addresses.items) }
     ensures fault { IfErr result (IsFaultAmong beyond_loopback (map (λ part. part.now) parts.now)) }
 {
@@ -67,7 +67,7 @@ fn upstream_of(
     alloc: Global,
     word: &str,
     beyond_loopback: bool,
-) -> Result<Vec<SocketAddr>, CommandFault>
+) -> Result<Vec<Address>, CommandFault>
     ensures value { IfOk result (λ addresses. SpellsAddresses beyond_loopback word.now addresses.items) }
     ensures fault { IfErr result (IsFaultAmong beyond_loopback (parts_of word.now)) }
 {
@@ -80,7 +80,7 @@ fn each_upstream_of(
     alloc: Global,
     words: &[&str],
     beyond_loopback: bool,
-) -> Result<Vec<Vec<SocketAddr>>, CommandFault>
+) -> Result<Vec<Vec<Address>>, CommandFault>
     ensures value { IfOk result (λ upstreams. AllZip (λ word addresses. SpellsAddresses beyond_loopback word addresses.items) (map (λ word. word.now) words.now) upstreams.items) }
     ensures fault { IfErr result (IsFaultInside beyond_loopback (map (λ word. word.now) words.now)) }
 {
@@ -92,7 +92,7 @@ fn each_upstream_of(
 }
 
 // The upstreams that `relay` is given, by what clap finds of it.
-fn upstreams_of(alloc: Global, found: &ArgMatches<'_>) -> Result<Vec<Vec<SocketAddr>>, CommandFault>
+fn upstreams_of(alloc: Global, found: &ArgMatches<'_>) -> Result<Vec<Vec<Address>>, CommandFault>
     ensures value { IfOk result (λ upstreams. AreUpstreams (rows_of (found_of found.now)) upstreams.items) }
     ensures fault { IfErr result (IsFaultOf options.Upstream (rows_of (found_of found.now))) }
 {
@@ -106,21 +106,13 @@ fn upstreams_of(alloc: Global, found: &ArgMatches<'_>) -> Result<Vec<Vec<SocketA
     each_upstream_of(alloc, words, goes_beyond(found))
 }
 
-// Whether two addresses are the same.
-fn is_same(address: SocketAddr, other: SocketAddr) -> bool
-    ensures same { result ≡ true → address ≡ other }
-    ensures another { result ≡ false → address ≢ other }
-{
-    address == other
-}
-
 // Whether an address is among others.
-fn is_among(address: SocketAddr, others: &[SocketAddr]) -> bool
-    ensures among { result ≡ true → Contains others.now address }
-    ensures none { result ≡ false → All (λ other. other ≢ address) others.now }
+fn is_among(address: &Address, others: &[Address]) -> bool
+    ensures among { result ≡ true → (other : _) × Contains others.now other × AreSame other address.now }
+    ensures none { result ≡ false → All (λ other. ¬ (AreSame other address.now)) others.now }
 {
     for other in others {
-        if is_same(*other, address) {
+        if other.is_same(address) {
             return true;
         }
     }
@@ -131,17 +123,17 @@ fn is_among(address: SocketAddr, others: &[SocketAddr]) -> bool
 pub(crate) fn other_upstreams_of(
     alloc: Global,
     found: &ArgMatches<'_>,
-    listen: SocketAddr,
-) -> Result<Vec<Vec<SocketAddr>>, CommandFault>
-    requires listens { Gives (SpellsAllowed (rows_of (found_of found.now))) options.Listen (rows_of (found_of found.now)) listen }
+    listen: &Address,
+) -> Result<Vec<Vec<Address>>, CommandFault>
+    requires listens { Gives (SpellsAllowed (rows_of (found_of found.now))) options.Listen (rows_of (found_of found.now)) listen.now }
     ensures value { IfOk result (λ upstreams. AreUpstreams (rows_of (found_of found.now)) upstreams.items) }
-    ensures others { IfOk result (λ upstreams. All (λ upstream. All (λ address. address ≢ listen) upstream.items) upstreams.items) }
+    ensures others { IfOk result (λ upstreams. All (λ upstream. All (λ address. ¬ (AreSame address listen.now)) upstream.items) upstreams.items) }
     ensures fault { IfErr result (IsFaultOf options.Upstream (rows_of (found_of found.now))) }
 {
     let upstreams = upstreams_of(alloc, found)?;
     for upstream in &upstreams {
         if is_among(listen, upstream.as_slice()) {
-            return Err(CommandFault::OwnAddress(listen));
+            return Err(CommandFault::OwnAddress(*listen));
         }
     }
     Ok(upstreams)

@@ -1,27 +1,10 @@
 //! What the words behind options stand for.
 
 ghost use Rattle.std.specs.Prelude.{IfSome};
-ghost use Rattle.ovs_command_line.specs.Values.{Stands, SpellsAddress, SpellsCommit, SpellsRow, SpellsNumber};
+ghost use Rattle.ovs_address.specs.Address.{Stands};
+ghost use Rattle.ovs_command_line.specs.Values.{SpellsCommit, SpellsRow, SpellsNumber};
 
 use ovs_data::{RowId, TxnId};
-use std::net::SocketAddr;
-
-/// The address and port that a word spells, where no address but one of loopback is allowed, or any is.
-pub(crate) fn read_address(word: &str, beyond_loopback: bool) -> Option<SocketAddr>
-    ensures value { Stands (SpellsAddress beyond_loopback) word.now result }
-{
-    let Ok(address) = word.parse::<SocketAddr>() else {
-        return None;
-    };
-    if beyond_loopback {
-        return Some(address);
-    }
-    if address.ip().is_loopback() {
-        Some(address)
-    } else {
-        None
-    }
-}
 
 /// The id of a commit that a word spells.
 pub(crate) fn read_commit(word: &str) -> Option<TxnId>

@@ -8,6 +8,7 @@ use ovs_node::Opened;
 use ovs_types::Schema;
 use serde_json::Value;
 use std::alloc::Global;
+use std::fs::Files;
 use std::marker::Brand;
 use std::net::{Net, TcpListener, TcpStream};
 use std::sync::Wait;
@@ -25,6 +26,7 @@ impl<
     R: Threads
         + Wait
         + Net<Listener = TcpListener, Stream = TcpStream>
+        + Files
         + Log
         + Copy
         + Drop

@@ -5,12 +5,16 @@ use crate::client::RequestClient;
 use crate::links::id_of;
 use crate::node_case_error::NodeCaseError;
 use log::{LevelFilter, Log, Logged};
+use ovs_address::Address;
 use ovs_data::{RowId, TxnId};
-use ovs_server::{ExitReport, NodeRuntime, NodeServer, RelayPlan, ServerError, SourcePlan, Stop};
+use ovs_server::{
+    ExitReport, Listening, NodeRuntime, NodeServer, RelayPlan, ServerError, SourcePlan, Stop,
+};
 use ovs_types::Schema;
 use ovs_wire::MAX_MESSAGE_BYTES;
 use serde_json::Value;
 use std::alloc::Global;
+use std::fs::Files;
 use std::net::{Net, SocketAddr, TcpStream};
 use std::thread::{Threads, join};
 
@@ -52,37 +56,44 @@ type NodeEnd = Result<ExitReport, ServerError>;
 // What the client was answered.
 type ClientAnswers = Result<(String, String), NodeCaseError>;
 
-// An address of this machine, with a port that the system chooses.
-fn any_port() -> Result<SocketAddr, NodeCaseError> {
-    "127.0.0.1:0"
-        .parse::<SocketAddr>()
-        .or(Err(NodeCaseError::Malformed))
+// Listens at an address of this machine, with a port that the system chooses.
+fn any_port<R: Files + Net>(rt: &R, alloc: Global) -> Result<Listening, NodeCaseError> {
+    let address = Address::read("127.0.0.1:0", false).ok_or(NodeCaseError::Malformed)?;
+    Listening::at(rt, alloc, &address).or(Err(NodeCaseError::System))
+}
+
+// The IP address and port of an address.
+fn ip_of(address: Address) -> Result<SocketAddr, NodeCaseError> {
+    match address {
+        Address::Ip(address) => Ok(address),
+        Address::Unix(_) => Err(NodeCaseError::Malformed),
+    }
 }
 
 // A source whose first commit and first row have the ids of the scene.
 fn source<R: NodeRuntime + Log>(
     rt: R,
     alloc: Global,
+    listening: Listening,
     scene: &Scene,
 ) -> Result<NodeServer<R>, NodeCaseError> {
     let plan = SourcePlan {
-        listen: any_port()?,
         first_commit: scene.first_commit,
         first_row: scene.first_row,
         trim_every: None,
         accepts: Some(MOST_CONNECTIONS),
     };
-    Ok(NodeServer::source(rt, alloc, plan)?)
+    Ok(NodeServer::source(rt, alloc, listening, plan)?)
 }
 
 // A relay of the node at this address.
 fn relay<R: NodeRuntime + Log>(
     rt: R,
     alloc: Global,
-    upstream: SocketAddr,
+    listening: Listening,
+    upstream: Address,
 ) -> Result<NodeServer<R>, NodeCaseError> {
     let plan = RelayPlan {
-        listen: any_port()?,
         upstreams: &[Vec::from_slice(alloc, &[upstream])?],
         accepts: Some(MOST_CONNECTIONS),
         tries: Some(MOST_CONNECTIONS),
@@ -90,7 +101,7 @@ fn relay<R: NodeRuntime + Log>(
         ends_on_refusal: false,
         prunes: false,
     };
-    Ok(NodeServer::relay(rt, alloc, plan)?)
+    Ok(NodeServer::relay(rt, alloc, listening, plan)?)
 }
 
 // What the client does.
@@ -175,19 +186,21 @@ fn told(
 }
 
 /// What comes of a tier that runs until the client is shown its row.
-pub(crate) fn run_tier<R: NodeRuntime + Log>(
+pub(crate) fn run_tier<R: NodeRuntime + Log + Files>(
     rt: R,
     alloc: Global,
     schema: &Schema,
     scene: &Scene,
 ) -> Result<String, NodeCaseError> {
     let quiet = Logged::new(rt, LevelFilter::Off, rt);
-    let source = source(quiet, alloc, scene)?;
-    let relay = relay(quiet, alloc, source.address())?;
+    let (at_source, at_relay) = (any_port(&rt, alloc)?, any_port(&rt, alloc)?);
+    let (upstream, address) = (at_source.address(), ip_of(at_relay.address())?);
+    let source = source(quiet, alloc, at_source, scene)?;
+    let relay = relay(quiet, alloc, at_relay, upstream)?;
     let stops = [relay.stop()?, source.stop()?];
     let talk = Talk {
         alloc,
-        address: relay.address(),
+        address,
         scene,
         stops: &stops,
     };

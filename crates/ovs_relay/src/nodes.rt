@@ -4,16 +4,18 @@ use crate::backlog::Backlog;
 use crate::log_lines::LogLines;
 use crate::saying::{complains, fails, says};
 use crate::schema_file::schema_of_file;
-use log::{LevelFilter, Logged};
+use log::{LevelFilter, Log, Logged};
+use ovs_address::Address;
 use ovs_command_line::{Complaint, RelayOptions, SchemaOrigin, SourceOptions};
 use ovs_server::{
-    ExitReport, NodeRuntime, NodeServer, RelayPlan, ServerError, SourcePlan, schema_of_upstream,
+    ExitReport, Listening, NodeRuntime, NodeServer, RelayPlan, ServerError, SourcePlan,
+    remove_socket_file, schema_of_upstream,
 };
 use ovs_types::Schema;
 use ovs_wire::MAX_MESSAGE_BYTES;
 use std::alloc::Global;
 use std::fs::Files;
-use std::net::{Net, SocketAddr, TcpListener, TcpStream};
+use std::net::{Net, TcpListener, TcpStream};
 use std::process::ExitCode;
 use std::rt::Runtime;
 use std::sync::Wait;
@@ -33,7 +35,7 @@ fn level_of(verbose: bool, ends_on_refusal: bool) -> LevelFilter {
 }
 
 // Tells why a node isn't begun that was to listen at an address.
-fn unrun<R: Eprint>(rt: &R, address: SocketAddr, error: ServerError) -> ExitCode {
+fn unrun<R: Eprint>(rt: &R, address: &Address, error: ServerError) -> ExitCode {
     match error {
         ServerError::Listening(cause) => complains(rt, Complaint::Unlistened { address, cause }),
         ServerError::NoMemory => complains(rt, Complaint::NoMemory),
@@ -66,8 +68,8 @@ fn closes<R: Print + Eprint + Clock + Wait>(
 }
 
 // Says that whoever reaches the node may write, where that isn't this host alone.
-fn warns<R: Wait>(rt: &R, alloc: Global, backlog: &Backlog, address: SocketAddr) {
-    if address.ip().is_loopback() {
+fn warns<R: Wait>(rt: &R, alloc: Global, backlog: &Backlog, address: &Address) {
+    if address.is_local() {
         return;
     }
     let line = format!(in alloc;
@@ -79,15 +81,47 @@ fn warns<R: Wait>(rt: &R, alloc: Global, backlog: &Backlog, address: SocketAddr)
     }
 }
 
+// Takes connections at this address.
+fn listens<R: Files + Net>(
+    rt: &R,
+    alloc: Global,
+    address: &Address,
+) -> Result<Listening, ServerError> {
+    match Listening::at(rt, alloc, address) {
+        Ok(listening) => Ok(listening),
+        Err(error) => Err(ServerError::Listening(error)),
+    }
+}
+
+// Runs the node that was begun at this address, and says what it holds at its end. Nothing is left at the address then, nor where the node
+// couldn't be begun.
+fn runs<R: Print + Eprint + Clock + Wait + Files, L: NodeRuntime + Log>(
+    rt: &R,
+    alloc: Global,
+    backlog: &Backlog,
+    address: &Address,
+    begun: Result<NodeServer<L>, ServerError>,
+    schema: &Schema,
+) -> Result<ExitCode, ServerError> {
+    let ran = match begun {
+        Ok(server) => {
+            warns(rt, alloc, backlog, address);
+            Ok(server.run(schema))
+        }
+        Err(error) => Err(error),
+    };
+    remove_socket_file(rt, address);
+    Ok(closes(rt, alloc, backlog, ran?))
+}
+
 // A source of this schema, from its address to its end.
-fn source<R: NodeRuntime + Print + Eprint + Clock + 'static>(
+fn source<R: NodeRuntime + Print + Eprint + Clock + Files + 'static>(
     rt: R,
     alloc: Global,
     schema: &Schema,
     options: &SourceOptions,
 ) -> Result<ExitCode, ServerError> {
     let plan = SourcePlan {
-        listen: options.listen,
         first_commit: options.first_id,
         first_row: options.first_row,
         trim_every: options.trim_every,
@@ -96,10 +130,10 @@ fn source<R: NodeRuntime + Print + Eprint + Clock + 'static>(
     let backlog = Backlog::begin(rt, alloc)?;
     let level = level_of(options.verbose, false);
     let logged = Logged::new(rt, level, LogLines::new(rt, alloc, &*backlog));
-    let server = NodeServer::source(logged, alloc, plan)?;
-    warns(&rt, alloc, &*backlog, server.address());
-    let ran = server.run(schema);
-    Ok(closes(&rt, alloc, &*backlog, ran))
+    let listening = listens(&rt, alloc, &options.listen)?;
+    let address = listening.address();
+    let begun = NodeServer::source(logged, alloc, listening, plan);
+    runs(&rt, alloc, &*backlog, &address, begun, schema)
 }
 
 // How many bytes a message from an upstream may have: as many as a reader's, where that isn't said.
@@ -138,7 +172,6 @@ fn relay<R: NodeRuntime + Print + Eprint + Clock + Files + 'static>(
     options: &RelayOptions,
 ) -> Result<ExitCode, ServerError> {
     let plan = RelayPlan {
-        listen: options.listen,
         upstreams: &options.upstreams,
         accepts: options.accepts,
         tries: options.tries,
@@ -153,10 +186,10 @@ fn relay<R: NodeRuntime + Print + Eprint + Clock + Files + 'static>(
     };
     let level = level_of(options.verbose, options.end_on_refusal);
     let logged = Logged::new(rt, level, LogLines::new(rt, alloc, &*backlog));
-    let server = NodeServer::relay(logged, alloc, plan)?;
-    warns(&rt, alloc, &*backlog, server.address());
-    let ran = server.run(&schema);
-    Ok(closes(&rt, alloc, &*backlog, ran))
+    let listening = listens(&rt, alloc, &options.listen)?;
+    let address = listening.address();
+    let begun = NodeServer::relay(logged, alloc, listening, plan);
+    runs(&rt, alloc, &*backlog, &address, begun, &schema)
 }
 
 /// Runs a source until all its threads have come to their ends. Its bounds are those of `NodeRuntime`, one by one: the checker doesn't
@@ -175,7 +208,7 @@ pub(crate) fn run_source<
     match schema_of_file(&rt, alloc, options.schema.as_str()) {
         Ok(schema) => match source(rt, alloc, &schema, options) {
             Ok(status) => status,
-            Err(error) => unrun(&rt, options.listen, error),
+            Err(error) => unrun(&rt, &options.listen, error),
         },
         Err(status) => status,
     }
@@ -195,6 +228,6 @@ pub(crate) fn run_relay<
 >(rt: R, alloc: Global, options: &RelayOptions) -> ExitCode {
     match relay(rt, alloc, options) {
         Ok(status) => status,
-        Err(error) => unrun(&rt, options.listen, error),
+        Err(error) => unrun(&rt, &options.listen, error),
     }
 }

@@ -24,7 +24,7 @@ sockets_send : (R I O : RattleType) (d : poller.Ghosts (SocketPoller R.Denot) I.
 sockets_send R I O d r w rt =
     let unused = unused_pollers_send (socket_poller.the_row R) I O d r w (socket_pollers_send R rt) in
     declared_send (sockets.the_type R I O d r w)
-    (search (sendable, as_row_send, variants_send) depth 20, (search (unused, sendable, heap.crosses) depth 30 fits 10000, (search (sendable, heap.crosses, as_row_send, as_row_sync, declared_send, declared_sync, variants_send) depth 30 fits 10000, tt)))
+    (search (unused, sendable, heap.crosses) depth 30 fits 10000, (search (sendable, heap.crosses, as_row_send, as_row_sync, declared_send, declared_sync, variants_send) depth 30 fits 10000, tt))
 
 site_sends : (R I O : RattleType) (d : poller.Ghosts (SocketPoller R.Denot) I.Denot O.Denot) (r : read.Ghosts I.Denot) (w : write.Ghosts O.Denot)
     → IsSend R → IsSend (site.the_row R I O d r w)

@@ -1,11 +1,11 @@
 //! Why a node over sockets can't be run.
 
+use ovs_address::Address;
 use ovs_node::NodeError;
 use ovs_node_threads::RunError;
 use ovs_types::NoMemory;
 use std::alloc::{AllocError, AllocFailed};
 use std::io;
-use std::net::SocketAddr;
 use thiserror::Error;
 
 /// Why a node over sockets isn't run, or didn't come to its end as it should.
@@ -22,7 +22,7 @@ pub enum ServerError {
     Node(NodeError),
     /// The upstream, which was tried at this address last, told no schema, and isn't tried any more.
     #[error("upstream {0} told no schema, and isn't tried any more")]
-    NoSchema(SocketAddr),
+    NoSchema(Address),
     /// Not all that the node's threads had came back.
     #[error("a thread was lost")]
     NotBack,

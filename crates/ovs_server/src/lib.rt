@@ -18,6 +18,7 @@ mod upstreams;
 pub use error::ServerError;
 pub use exit_report::{Cause, ExitReport};
 pub use node::NodeServer;
+pub use ovs_sockets::{Listening, remove_socket_file};
 pub use relay::RelayPlan;
 pub use runtime::NodeRuntime;
 pub use schema_query::schema_of_upstream;

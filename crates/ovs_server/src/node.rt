@@ -19,12 +19,12 @@ use ovs_links::Step;
 use ovs_node::{FeedName, Handle, NodeName, OpenNode, Opened};
 use ovs_recorded_desk::DeskStep;
 use ovs_recorded_source::SourceStep;
-use ovs_sockets::{Shutdown, ShutdownFlag, SocketPoller};
+use ovs_sockets::{Listening, Shutdown, ShutdownFlag, SocketPoller};
 use ovs_types::Schema;
 use ovs_worker::Poller;
 use std::alloc::Global;
 use std::marker::Brand;
-use std::net::{Net, SocketAddr};
+use std::net::Net;
 
 /// A node that listens, and is served once it runs.
 #[derive(Drop)]
@@ -57,13 +57,18 @@ impl<R: Net + Log + Drop> Role<R> {
 }
 
 impl<R: NodeRuntime + Log> NodeServer<R> {
-    /// A source: takes its address.
+    /// A source, whose readers come in there.
     ///
     /// # Errors
-    /// `Listening` where the address can't be had; `System`; `NoMemory`.
-    pub fn source(rt: R, alloc: Global, plan: SourcePlan) -> Result<NodeServer<R>, ServerError> {
+    /// `System`; `NoMemory`.
+    pub fn source(
+        rt: R,
+        alloc: Global,
+        listening: Listening,
+        plan: SourcePlan,
+    ) -> Result<NodeServer<R>, ServerError> {
         let shutdown_flag = ShutdownFlag::new(alloc)?;
-        let sockets = WorkerSockets::new(rt, alloc, plan.listen, plan.accepts, &shutdown_flag)?;
+        let sockets = WorkerSockets::new(rt, alloc, listening, plan.accepts, &shutdown_flag)?;
         Ok(NodeServer {
             rt,
             site: Site::new(alloc, sockets, Shutdown::new(alloc, shutdown_flag))?,
@@ -71,13 +76,18 @@ impl<R: NodeRuntime + Log> NodeServer<R> {
         })
     }
 
-    /// A relay: takes its address.
+    /// A relay, whose readers come in there.
     ///
     /// # Errors
-    /// `Listening` where the address can't be had; `System`; `NoMemory`.
-    pub fn relay(rt: R, alloc: Global, plan: RelayPlan<'_>) -> Result<NodeServer<R>, ServerError> {
+    /// `System`; `NoMemory`.
+    pub fn relay(
+        rt: R,
+        alloc: Global,
+        listening: Listening,
+        plan: RelayPlan<'_>,
+    ) -> Result<NodeServer<R>, ServerError> {
         let shutdown_flag = ShutdownFlag::new(alloc)?;
-        let sockets = WorkerSockets::new(rt, alloc, plan.listen, plan.accepts, &shutdown_flag)?;
+        let sockets = WorkerSockets::new(rt, alloc, listening, plan.accepts, &shutdown_flag)?;
         let upstreams = Upstreams::new(
             rt,
             alloc,
@@ -96,11 +106,6 @@ impl<R: NodeRuntime + Log> NodeServer<R> {
             site,
             role: Role::Relay(role),
         })
-    }
-
-    /// Where its readers come in.
-    pub fn address(&self) -> SocketAddr {
-        self.site.sockets.address
     }
 
     /// What brings it to its end.

@@ -14,6 +14,7 @@ use crate::site::Site;
 use crate::sockets::{LIMITS, WorkerSockets};
 use crate::upstreams::{UpstreamSockets, Upstreams};
 use log::Log;
+use ovs_address::Address;
 use ovs_json::Text;
 use ovs_node::{
     Board, FeedEnd, FeedName, FeedQueue, Handle, Node, NodeError, NodeLink, NodeName, Opened,
@@ -28,7 +29,7 @@ use ovs_sockets::{Shutdown, SocketPoller, SocketWaker};
 use ovs_types::Schema;
 use ovs_worker::Poller;
 use std::alloc::Global;
-use std::net::{Net, SocketAddr};
+use std::net::Net;
 use std::sync::{Arc, Mutex, Wait};
 
 // What a relay says once none of its upstreams is tried any more, while it serves readers.
@@ -37,10 +38,8 @@ const UNFED: &str = "no upstream is tried any more";
 /// Which relay to run.
 #[derive(Clone, Copy, Debug)]
 pub struct RelayPlan<'a> {
-    /// Where its readers come in.
-    pub listen: SocketAddr,
     /// Its upstreams, each with the addresses at which it is tried in turn. The first upstream is asked what only the source can answer.
-    pub upstreams: &'a [Vec<SocketAddr>],
+    pub upstreams: &'a [Vec<Address>],
     /// How many connections each worker takes at most, where there is a bound.
     pub accepts: Option<u32>,
     /// How many connections with each upstream are tried at most, where there is a bound.

@@ -4,6 +4,7 @@ use crate::error::ServerError;
 use crate::runtime::NodeRuntime;
 use crate::sockets::LIMITS;
 use log::{Log, error};
+use ovs_address::Address;
 use ovs_follow::schema_query::{SchemaReply, query_schema};
 use ovs_json::Text;
 use ovs_node::NodeError;
@@ -11,14 +12,13 @@ use ovs_sockets::{ShutdownFlag, Uplink};
 use ovs_types::Schema;
 use ovs_wire::Counted;
 use std::alloc::Global;
-use std::net::SocketAddr;
 use std::sync::Wait;
 
 // A session in which a schema is asked for makes so many turns at most.
 const MOST_TURNS: u32 = 1_000_000;
 
 // Tells why an upstream's reply is no schema.
-fn tell<R: Log>(rt: &R, upstream: Option<SocketAddr>, database: &str, reply: &SchemaReply) {
+fn tell<R: Log>(rt: &R, upstream: Option<Address>, database: &str, reply: &SchemaReply) {
     let Some(upstream) = upstream else {
         return;
     };
@@ -40,7 +40,7 @@ fn tell<R: Log>(rt: &R, upstream: Option<SocketAddr>, database: &str, reply: &Sc
 pub fn schema_of_upstream<R: NodeRuntime + Log>(
     rt: R,
     alloc: Global,
-    upstreams: &[Vec<SocketAddr>],
+    upstreams: &[Vec<Address>],
     database: &str,
     tries: Option<u32>,
     most_bytes: usize,

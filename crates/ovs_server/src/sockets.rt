@@ -7,7 +7,7 @@ use ovs_session::Limits;
 use ovs_sockets::{Listening, ShutdownFlag, SocketPoller, SocketWaker};
 use ovs_worker::Poller;
 use std::alloc::Global;
-use std::net::{Net, SocketAddr};
+use std::net::Net;
 
 /// What waits to be written to a reader at most before it is read again, and how many messages it is answered in a turn.
 pub(crate) const LIMITS: Limits = Limits {
@@ -24,24 +24,19 @@ pub(crate) struct WorkerSockets<R: Log + Drop>
 where
     SocketPoller<R>: Poller,
 {
-    pub(crate) address: SocketAddr,
     pub(crate) pollers: Vec<UnusedPoller<SocketPoller<R>>>,
     pub(crate) wakers: Vec<SocketWaker>,
 }
 
 impl<R: Net + Log + Copy + Drop> WorkerSockets<R> {
-    /// At this address, each of which takes so many connections, or any number.
+    /// In this place, each of which takes so many connections, or any number.
     pub(crate) fn new(
         rt: R,
         alloc: Global,
-        listen: SocketAddr,
+        listening: Listening,
         accepts: Option<u32>,
         shutdown_flag: &ShutdownFlag,
     ) -> Result<WorkerSockets<R>, ServerError> {
-        let listening = match Listening::at(&rt, alloc, listen) {
-            Ok(listening) => listening,
-            Err(error) => return Err(ServerError::Listening(error)),
-        };
         let mut pollers = Vec::with_capacity(alloc, WORKERS)?;
         let mut wakers = Vec::with_capacity(alloc, WORKERS)?;
         for worker in 0..WORKERS {
@@ -49,10 +44,6 @@ impl<R: Net + Log + Copy + Drop> WorkerSockets<R> {
             wakers.push(poller.waker()?)?;
             pollers.push(UnusedPoller::new(poller))?;
         }
-        Ok(WorkerSockets {
-            address: listening.address()?,
-            pollers,
-            wakers,
-        })
+        Ok(WorkerSockets { pollers, wakers })
     }
 }

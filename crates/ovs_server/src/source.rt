@@ -24,7 +24,6 @@ use ovs_source_node::{LockedSource, SourceSender, run_source};
 use ovs_types::{RowId, Schema, TxnId};
 use ovs_worker::Poller;
 use std::alloc::Global;
-use std::net::SocketAddr;
 use std::sync::{Mutex, Wait};
 
 // What a source says where its desk has no thread, while it serves readers.
@@ -33,8 +32,6 @@ const UNFED: &str = "there is no thread to publish commits";
 /// Which source to run.
 #[derive(Clone, Copy, Debug, PartialEq, Eq)]
 pub struct SourcePlan {
-    /// Where its readers come in.
-    pub listen: SocketAddr,
     /// The id of the first commit; those after it count on.
     pub first_commit: TxnId,
     /// The id of the first row that is inserted; those after it count on.

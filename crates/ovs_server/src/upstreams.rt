@@ -3,6 +3,7 @@
 use crate::error::ServerError;
 use crate::refusals::UpstreamRefusals;
 use log::{Log, error, info};
+use ovs_address::Address;
 use ovs_follow::InputFault;
 use ovs_node_threads::Connector;
 use ovs_session::Ended;
@@ -11,7 +12,7 @@ use ovs_types::TxnId;
 use ovs_upstream::UpError;
 use ovs_wire::FrameError;
 use std::alloc::{AllocError, Global};
-use std::net::{Net, SocketAddr};
+use std::net::Net;
 use std::sync::Arc;
 
 /// Connections over sockets with one upstream. They don't tell their bytes, so that any link may come of them.
@@ -108,7 +109,7 @@ impl<R: Net + Log + Copy + Drop> Upstreams<R> {
     pub(crate) fn new(
         rt: R,
         alloc: Global,
-        upstreams: &[Vec<SocketAddr>],
+        upstreams: &[Vec<Address>],
         tries: Option<u32>,
         most_bytes: usize,
         shutdown_flag: &ShutdownFlag,

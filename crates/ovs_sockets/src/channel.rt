@@ -4,13 +4,14 @@ ghost use Rattle.std.specs.Io.{ReadsAtMost, WritesAtMost};
 
 use crate::exchange::Exchange;
 use crate::shutdown::ShutdownFlag;
+use crate::stream::Stream;
 use crate::timed_out::has_timed_out;
-use mio::net::TcpStream;
 use mio::{Events, Interest, Poll, Token, Waker};
+use ovs_address::Address;
 use std::alloc::Global;
 use std::collections::VecDeque;
 use std::io::{self, ErrorKind, Read, Write};
-use std::net::{Net, SocketAddr};
+use std::net::Net;
 use std::sync::Arc;
 use std::time::Duration;
 
@@ -35,7 +36,7 @@ pub(crate) struct Channel {
     // What it connects and pauses with, which what is asked of the upstream doesn't wake: else clients would cut the pauses short.
     pause_poll: Poll,
     events: Events<Global>,
-    stream: Option<TcpStream>,
+    stream: Option<Stream>,
     // What came while a write had to wait. An upstream that writes may read nothing until that is taken.
     ahead: VecDeque<u8>,
     // So much is read at most before it is taken.
@@ -99,17 +100,13 @@ impl Channel {
     }
 
     /// Connects, and waits until that has succeeded or failed, or has taken too long, as with a host that is switched off.
-    pub(crate) fn connect<N: Net>(&mut self, net: &N, address: SocketAddr) -> io::Result<()> {
+    pub(crate) fn connect<N: Net>(&mut self, net: &N, address: &Address) -> io::Result<()> {
         self.close();
-        let mut stream = TcpStream::connect(net, address)?;
+        let mut stream = Stream::connect(net, address)?;
         let registry = self.pause_poll.registry();
         registry.register(&mut stream, STREAM, Interest::WRITABLE)?;
         self.wait_for_stream()?;
-        if let Some(error) = stream.take_error()? {
-            return Err(error);
-        }
-        stream.peer_addr()?;
-        stream.set_nodelay(true)?;
+        stream.finish()?;
         self.pause_poll.registry().deregister(&mut stream)?;
         self.poll.registry().register(
             &mut stream,
@@ -147,7 +144,7 @@ impl Channel {
         let Some(stream) = &self.stream else {
             return Ok(0);
         };
-        match (&mut &*stream).read(buf) {
+        match stream.read(buf) {
             Err(error) if has_timed_out(&error) => Err(ErrorKind::ConnectionAborted.into()),
             Ok(len) if len > 0 => {
                 self.exchange = self.exchange.after_read();
@@ -203,7 +200,7 @@ impl Channel {
         if self.shutdown_flag() {
             return Err(ErrorKind::BrokenPipe.into());
         }
-        match (&mut &*stream).write(buf) {
+        match stream.write(buf) {
             Err(error) if error.kind() == ErrorKind::WouldBlock => {
                 if !self.read_ahead()? {
                     self.wait()?;

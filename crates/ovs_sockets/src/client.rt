@@ -1,20 +1,20 @@
 //! A reader's connection.
 
 use crate::shutdown::ShutdownFlag;
+use crate::stream::Stream;
 use crate::timed_out::has_timed_out;
-use mio::net::TcpStream;
 use std::io::{self, ErrorKind, Read, Write};
 use std::sync::Arc;
 
 /// One direction of a reader's connection, which doesn't wait. Once all is to end nothing comes in and nothing goes out.
 #[derive(Drop)]
 pub struct Half {
-    stream: Arc<TcpStream>,
+    stream: Arc<Stream>,
     shutdown_flag: ShutdownFlag,
 }
 
 impl Half {
-    pub(crate) fn new(stream: Arc<TcpStream>, shutdown_flag: ShutdownFlag) -> Half {
+    pub(crate) fn new(stream: Arc<Stream>, shutdown_flag: ShutdownFlag) -> Half {
         Half {
             stream,
             shutdown_flag,
@@ -27,7 +27,7 @@ impl Read for Half {
         if self.shutdown_flag.is_asked() {
             return Ok(0);
         }
-        match (&*self.stream).read(buf) {
+        match self.stream.read(buf) {
             Err(error) if has_timed_out(&error) => Err(ErrorKind::ConnectionAborted.into()),
             read => read,
         }
@@ -39,7 +39,7 @@ impl Write for Half {
         if self.shutdown_flag.is_asked() {
             return Err(ErrorKind::BrokenPipe.into());
         }
-        match (&*self.stream).write(buf) {
+        match self.stream.write(buf) {
             Err(error) if has_timed_out(&error) => Err(ErrorKind::ConnectionAborted.into()),
             written => written,
         }

@@ -6,18 +6,19 @@ ghost use Rattle.ovs_sockets.specs.Allowance.{IsOneLess, IsNoMore};
 
 use crate::allowance::one_less;
 use crate::client::Half;
+use crate::listener::Listener;
 use crate::shutdown::ShutdownFlag;
+use crate::stream::{Peer, Stream};
 use crate::waker::{SocketWaker, WakeState};
 use crate::worker_group::WorkerGroup;
 use log::{Log, error, info};
-use mio::net::{TcpListener, TcpStream};
 use mio::{Events, Interest, Poll, Token, Waker};
 use ovs_session::Ended;
 use ovs_worker::{Connections, Poller, Ready, Timeout, Wakeup};
 use std::alloc::Global;
 use std::collections::VecDeque;
 use std::io::{self, ErrorKind};
-use std::net::{self, Net, SocketAddr};
+use std::net::Net;
 use std::sync::Arc;
 use std::time::Duration;
 
@@ -61,7 +62,7 @@ pub struct SocketPoller<R: Log + Drop> {
     events: Events<Global>,
     // The sessions that may go on.
     ready: VecDeque<Ready>,
-    listener: TcpListener,
+    listener: Listener,
     waker: Arc<Waker>,
     wake_state: Arc<WakeState>,
     accepts_left: Option<u32>,
@@ -83,7 +84,7 @@ impl<R: Net + Log + Drop> SocketPoller<R> {
         rt: R,
         alloc: Global,
         worker: usize,
-        listener: net::TcpListener,
+        listener: Listener,
         worker_group: Arc<WorkerGroup>,
         accepts: Option<u32>,
         shutdown_flag: ShutdownFlag,
@@ -94,7 +95,7 @@ impl<R: Net + Log + Drop> SocketPoller<R> {
     {
         let poll = Poll::new(&rt)?;
         let waker = Arc::new(alloc, Waker::new(poll.registry(), WAKER)?)?;
-        let mut listener = TcpListener::from_std(listener);
+        let mut listener = listener;
         poll.registry()
             .register(&mut listener, LISTENER, Interest::READABLE)?;
         Ok(SocketPoller {
@@ -179,7 +180,7 @@ impl<R: Log + Drop> SocketPoller<R> {
     }
 
     // The next connection that waits, without waiting for one.
-    fn next_stream(&mut self) -> Option<(TcpStream, SocketAddr)>
+    fn next_stream(&mut self) -> Option<(Stream, Peer)>
         ensures same { (self.new.accepts_left ≡ self.old.accepts_left) × (self.new.is_over ≡ self.old.is_over) × (self.new.connections ≡ self.old.connections) }
     {
         match self.listener.accept() {
@@ -245,8 +246,8 @@ impl<R: Log + Drop> SocketPoller<R> {
     }
 
     // Has the session of this number wait for what comes by a connection.
-    fn slot(&self, key: usize, mut stream: TcpStream) -> io::Result<(Half, Half)> {
-        stream.set_nodelay(true)?;
+    fn slot(&self, key: usize, mut stream: Stream) -> io::Result<(Half, Half)> {
+        stream.set_nodelay()?;
         self.poll.registry().register(
             &mut stream,
             Token(key),

@@ -10,10 +10,11 @@ use crate::pause::Pause;
 use crate::shutdown::ShutdownFlag;
 use crate::waker::SocketWaker;
 use log::{Log, info};
+use ovs_address::Address;
 use ovs_session::Ended;
 use std::alloc::Global;
 use std::io::{self, ErrorKind, Read, Write};
-use std::net::{Net, SocketAddr};
+use std::net::Net;
 use std::sync::{Arc, Mutex};
 
 /// Connections with an upstream, one after another: its addresses are tried in turn, round and round, with a growing pause before each
@@ -23,7 +24,7 @@ use std::sync::{Arc, Mutex};
 #[derive(Drop)]
 pub struct Uplink<R: Net + Log + Drop> {
     rt: R,
-    addresses: Vec<SocketAddr>,
+    addresses: Vec<Address>,
     // The place of the address that is tried, or was tried last.
     at: usize,
     tries_left: Option<u32>,
@@ -77,7 +78,7 @@ impl<R: Net + Log + Drop> Uplink<R> {
     pub fn new(
         rt: R,
         alloc: Global,
-        addresses: &[SocketAddr],
+        addresses: &[Address],
         tries: Option<u32>,
         most_ahead: usize,
         shutdown_flag: &ShutdownFlag,
@@ -103,7 +104,7 @@ impl<R: Net + Log + Drop> Uplink<R> {
     }
 
     /// The address that is tried, or was tried last.
-    pub fn address(&self) -> Option<SocketAddr> {
+    pub fn address(&self) -> Option<Address> {
         self.addresses.get(self.at).copied()
     }
 
@@ -137,8 +138,8 @@ impl<R: Net + Log + Drop> Uplink<R> {
         ensures same { self.new.tries_left ≡ self.old.tries_left }
     {
         let address = self.address()?;
-        let connected = self.channel.try_lock()?.connect(&self.rt, address);
-        self.tell(address, connected)?;
+        let connected = self.channel.try_lock()?.connect(&self.rt, &address);
+        self.tell(&address, connected)?;
         let reader = FromUpstream {
             channel: self.channel.clone().ok()?,
         };
@@ -149,7 +150,7 @@ impl<R: Net + Log + Drop> Uplink<R> {
     }
 
     // Tells of the first failure of several at each address, and that the upstream was found. `None` where it wasn't.
-    fn tell(&mut self, address: SocketAddr, connected: io::Result<()>) -> Option<()>
+    fn tell(&mut self, address: &Address, connected: io::Result<()>) -> Option<()>
         ensures same { self.new.tries_left ≡ self.old.tries_left }
     {
         match connected {

@@ -1,8 +1,9 @@
 use Rattle.std.proofs.Common.{◌∙◌, ap, sym, subst, refl, Some, None}
 use Rattle.clap.proofs.WalkLemmas.{first_value-rows}
 use Rattle.clap.specs.Words.{first_value, found_of, rows_of}
+use Rattle.ovs_address.specs.Address.{SpellsNone}
 use Rattle.ovs_command_line.specs.Options.{option_name, least, SpellsIfGiven}
-use Rattle.ovs_command_line.specs.Values.{SpellsNone, SpellsNumber}
+use Rattle.ovs_command_line.specs.Values.{SpellsNumber}
 use Rattle.ovs_command_line.proofs.OptionFaults.{count_fault}
 use Rattle.ovs_command_line.proofs.options.count_of.Goals as goal
 

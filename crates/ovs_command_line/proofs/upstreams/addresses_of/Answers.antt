@@ -1,5 +1,5 @@
 use Rattle.std.proofs.Common.{arith}
-use Rattle.ovs_command_line.specs.Values.{SpellsAddress}
+use Rattle.ovs_address.specs.Address.{SpellsAddress}
 use Rattle.ovs_command_line.proofs.Addresses.{one_more}
 use Rattle.ovs_command_line.proofs.upstreams.addresses_of.Goals as goal
 

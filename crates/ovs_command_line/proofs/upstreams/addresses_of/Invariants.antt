@@ -1,7 +1,7 @@
 use Rattle.std.proofs.Common.{◌≡◌, ◌≤◌, length, take}
 use Rattle.std.specs.List.{AllZip}
 use Rattle.std.specs.Prelude.{vec_len, vec_capacity}
-use Rattle.ovs_command_line.specs.Values.{SpellsAddress}
+use Rattle.ovs_address.specs.Address.{SpellsAddress}
 use Rattle.ovs_command_line.proofs.Addresses.{texts_of}
 use Rattle.ovs_command_line.proofs.upstreams.addresses_of.Given as goal
 

@@ -1,14 +1,15 @@
-use Rattle.std.proofs.Common.{◌≢◌, All, take, subst, take_all, List}
+use Rattle.std.proofs.Common.{All, take, subst, take_all, List}
 use Rattle.std.proofs.lemmas.List.Elements.{All-more}
-use Rattle.std.specs.declared.net.socket_addr.SocketAddr.{SocketAddr}
+use Rattle.ovs_address.specs.declared.address.Address.{Address}
+use Rattle.ovs_address.specs.Address.{AreSame}
 use Rattle.ovs_command_line.proofs.upstreams.is_among.Goals as goal
 
 pub loop-other-preserved : goal.loop-other-preserved
 loop-other-preserved c = record {
-  none = All-more (λ (other : SocketAddr). other ≢ c.args.address) c.args.others.now c.loop-other.other-index _ c.loop-other-test.true
+  none = All-more (λ (other : Address). ¬ (AreSame other c.args.address.now)) c.args.others.now c.loop-other.other-index _ c.loop-other-test.true
       c.loop-other.invariant.none (c.is_same.ensures.another c.if-is_same.false);
 }
 
 pub returns-clause-none : goal.returns-clause-none
-returns-clause-none c = λ _. subst (λ (xs : List SocketAddr). All (λ (other : SocketAddr). other ≢ c.args.address) xs)
+returns-clause-none c = λ _. subst (λ (xs : List Address). All (λ (other : Address). ¬ (AreSame other c.args.address.now)) xs)
     (take_all c.loop-other.other-index c.args.others.now c.loop-other-test.false) c.loop-other.invariant.none

@@ -3,7 +3,7 @@ use Rattle.std.proofs.lemmas.Result.{IfOk-weaker, IfErr-weaker}
 use Rattle.std.specs.Borrow.{Bor}
 use Rattle.std.specs.List.{AllZip}
 use Rattle.clap.specs.Words.{Text}
-use Rattle.ovs_command_line.specs.Values.{SpellsAddress}
+use Rattle.ovs_address.specs.Address.{SpellsAddress}
 use Rattle.ovs_command_line.specs.Faults.{IsFaultAmong}
 use Rattle.ovs_command_line.proofs.Addresses.{texts_of}
 use Rattle.ovs_command_line.proofs.upstreams.upstream_of.Goals as goal

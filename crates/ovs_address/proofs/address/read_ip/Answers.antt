@@ -1,22 +1,10 @@
-use Rattle.std.proofs.Common.{◌≡◌, ◌∙◌, subst, sym, true≢false, Bool}
+use Rattle.std.proofs.Common.{◌≡◌, ◌∙◌, subst, sym, true≢false}
 use Rattle.std.proofs.NetLemmas.Theorems.{IsSocketText_unique}
 use Rattle.std.specs.Net.Addr.{MatchIp, IsLoopbackV4, IsLoopbackV6}
 use Rattle.std.specs.Net.Socket.{socket_ip}
 use Rattle.std.specs.declared.net.socket_addr.SocketAddr.{SocketAddr}
-use Rattle.ovs_command_line.specs.Values.{SpellsAddress}
-use Rattle.ovs_command_line.proofs.Addresses.{is_of_loopback, is_text}
-use Rattle.ovs_command_line.proofs.values.read_address.Goals as goal
-
-pub returns-then-beyond_loopback : goal.returns-then-beyond_loopback
-returns-then-beyond_loopback c = record {
-  value = subst (λ (beyond : Bool). SpellsAddress beyond c.args.word.now c.in-Ok.address) (sym c.if-beyond_loopback.true) c.in-Ok.ensures.value;
-}
-
-pub returns-then-is_loopback : goal.returns-then-is_loopback
-returns-then-is_loopback c = record {
-  value = subst (λ (beyond : Bool). SpellsAddress beyond c.args.word.now c.in-Ok.address) (sym c.if-beyond_loopback.false)
-      (c.in-Ok.ensures.value, subst (λ ip. MatchIp ip IsLoopbackV4 IsLoopbackV6) c.ip.ensures (c.is_loopback.ensures.0 c.if-is_loopback.true));
-}
+use Rattle.ovs_address.proofs.Ips.{is_of_loopback, is_text}
+use Rattle.ovs_address.proofs.address.read_ip.Goals as goal
 
 pub returns-else-is_loopback : goal.returns-else-is_loopback
 returns-else-is_loopback c = record {
