@@ -14,6 +14,7 @@ use Rattle.ovs_links.specs.Sets.{AllOf, IsOfTables}
 use Rattle.ovs_links.specs.declared.link.Link.{Link}
 use Rattle.ovs_links.proofs.HistoryLemmas.{history_changes}
 use Rattle.ovs_upstream.specs.Lawful.{IsLawful}
+use Rattle.ovs_wire.specs.Limits.{most_bytes}
 use Rattle.ovs_node_threads.specs.Lines.{AdmitsBytes, AmongHistory}
 use Rattle.ovs_node_threads.proofs.Lawful.{lawful_admits}
 use Rattle.ovs_stream_cases.specs.Made.{IsHistoryOf, one_epoch}
@@ -27,7 +28,7 @@ pub session_admits : (schema : SchemaValue) (commits : List Commit) (ls : List L
     → IsSession schema ls asked bytes → AdmitsBytes (AmongHistory schema (one_epoch commits)) asked (Some bytes)
 session_admits schema commits ls asked bytes of session =
     let e : Epoch = record { start = 0; commits = commits } in
-    lawful_admits schema (one_epoch commits) asked (said schema ls asked session.place) bytes (epoch_history schema.description.tables commits of.history)
+    lawful_admits schema (one_epoch commits) most_bytes asked (said schema ls asked session.place) bytes (epoch_history schema.description.tables commits of.history)
     (e, inl refl, subst (λ (xs : List Link). IsLawful schema.description xs asked (said schema ls asked session.place)) of.links session.lawful) session.stream
 
 -- ---- the links of a history

@@ -1,8 +1,8 @@
 -- What a source says is lawful.
-use Rattle.std.proofs.Common.{◌≡◌, ◌≤◌, ◌<◌, ℕ, zero, suc, ◌+◌, Bool, true, false, List, [], ◌∷◌, Option, None, Some, Ok, length, take, drop, map, get_or, refl, sym, ◌∙◌, ap, subst, arith, inl, inr}
-use Rattle.std.specs.Prelude.{codes, slice_get, option_and_then, Result, Err, OnOk}
+use Rattle.std.proofs.Common.{◌≡◌, ℕ, zero, suc, Bool, true, false, List, [], ◌∷◌, Option, None, Some, Ok, drop, map, refl, sym, ◌∙◌, ap, subst, inl}
+use Rattle.std.specs.Prelude.{slice_get, option_and_then, Result, Err, OnOk}
 use Rattle.std.specs.List.{AllByRecursion}
-use Rattle.serde_json.specs.Data.{Data, string, object, no_members}
+use Rattle.serde_json.specs.Data.{Data, object, no_members}
 use Rattle.ovs_json.proofs.SameLemmas.{same_itself}
 use Rattle.ovs_types.specs.Id.{id_text, read_id}
 use Rattle.ovs_types.specs.Schema.{SchemaValue}
@@ -14,13 +14,12 @@ use Rattle.ovs_types.specs.declared.schema.error.SchemaError.{SchemaError}
 use Rattle.ovs_rows.specs.Change.{Actions}
 use Rattle.ovs_rows.specs.ChangeReading.{read_change}
 use Rattle.ovs_rows.specs.ChangeWriting.{change_json}
-use Rattle.ovs_links.specs.Chains.{start_of, head_after}
+use Rattle.ovs_links.specs.Chains.{start_of}
 use Rattle.ovs_links.specs.declared.link.Link.{Link}
-use Rattle.ovs_wire.specs.declared.message.Message.{Message}
 use Rattle.ovs_upstream.specs.Hearing.{says}
 use Rattle.ovs_upstream.specs.Talk.{Talk, Schema, Reached, Update, answer_said, update_said, talk_of}
-use Rattle.ovs_upstream.specs.Lawful.{IsAt, IsLinkAt, LawfulFrom, LawfulAsked, LawfulTalk, IsLawful}
-use Rattle.ovs_stream_cases.specs.Said.{schema_reply, place_reply, update_notice, IsTold, IsPlaceOf, told_from, said}
+use Rattle.ovs_upstream.specs.Lawful.{IsAt, LawfulFrom, LawfulAsked, IsLawful}
+use Rattle.ovs_stream_cases.specs.Said.{schema_reply, place_reply, update_notice, IsTold, told_from, said}
 
 -- ---- what the messages say
 

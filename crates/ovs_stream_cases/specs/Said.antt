@@ -1,7 +1,7 @@
 -- What a source says to a relay that asked for what comes after an id.
 use Rattle.std.specs.Prelude.{◌≡◌, ℕ, Bool, true, false, List, [], ◌∷◌, Option, Some, None, Ok, map, drop, codes}
 use Rattle.std.specs.List.{All, AllZip, concat}
-use Rattle.serde_json.specs.Data.{Data, null, boolean, string, array, object, no_members}
+use Rattle.serde_json.specs.Data.{null, boolean, string, array, object, no_members}
 use Rattle.serde_json.specs.View.{items_of}
 use Rattle.ovs_types.specs.Id.{id_text, read_id}
 use Rattle.ovs_types.specs.Schema.{SchemaValue}
@@ -10,6 +10,7 @@ use Rattle.ovs_rows.specs.ChangeReading.{read_change}
 use Rattle.ovs_rows.specs.ChangeWriting.{change_json}
 use Rattle.ovs_links.specs.declared.link.Link.{Link}
 use Rattle.ovs_wire.specs.Frames.{IsObject}
+use Rattle.ovs_wire.specs.Limits.{most_bytes}
 use Rattle.ovs_wire.specs.Message.{Says}
 use Rattle.ovs_wire.specs.declared.message.Message.{Message}
 use Rattle.ovs_wire.specs.declared.message.Message.TheVariants.{Reply, Notice}
@@ -47,16 +48,16 @@ told_from schema ls asked None = place_reply false 0 ∷ map (update_notice sche
 abbrev pub said : SchemaValue → List Link → ℕ → Option ℕ → List Message
 said schema ls asked place = schema_reply schema ∷ told_from schema ls asked place
 
--- the bytes are texts of these messages, one behind another
+-- the bytes are texts of these messages, one behind another, none of which has more bytes than a message may where no other limit is said
 pub record AreSaid (messages : List Message) (bytes : List ℕ) : Type 0 where
   pub texts : List (List ℕ)
   pub whole : bytes ≡ concat texts
-  pub frames : All IsObject texts
+  pub frames : All (IsObject most_bytes) texts
   pub say : AllZip Says texts messages
 
 -- the bytes are all of a session with a source that has these links: a stream of what it says, which is lawful
 pub record IsSession (schema : SchemaValue) (ls : List Link) (asked : ℕ) (bytes : List ℕ) : Type 0 where
   pub place : Option ℕ
   pub is_place : IsPlaceOf ls asked place
-  pub stream : IsStreamOf (said schema ls asked place) bytes
+  pub stream : IsStreamOf most_bytes (said schema ls asked place) bytes
   pub lawful : IsLawful schema.description ls asked (said schema ls asked place)

@@ -5,6 +5,7 @@ ghost use Rattle.ovs_types.specs.Id.{id_text, read_id};
 ghost use Rattle.ovs_types.specs.SchemaReading.{read_description};
 ghost use Rattle.ovs_links.specs.Sets.{IsOfTables};
 ghost use Rattle.ovs_wire.specs.Frames.{IsObject};
+ghost use Rattle.ovs_wire.specs.Limits.{most_bytes};
 ghost use Rattle.ovs_wire.specs.Message.{Says};
 ghost use Rattle.ovs_stream_cases.specs.Said.{schema_reply, place_reply, update_notice, IsTold};
 
@@ -79,7 +80,7 @@ pub(crate) fn update_notice(
 /// # Errors
 /// `TooLarge` where it is above the limits of a message, and `NoMemory`.
 pub(crate) fn text_of(alloc: Global, message: &Message) -> Result<Vec<u8>, Fault>
-    ensures frame { IfOk result (λ text. IsObject text.items) }
+    ensures frame { IfOk result (λ text. IsObject most_bytes text.items) }
     ensures says { IfOk result (λ text. Says text.items message.now) }
 {
     let text = message.write(alloc)?;

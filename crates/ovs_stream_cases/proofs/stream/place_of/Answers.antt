@@ -1,4 +1,4 @@
-use Rattle.std.proofs.Common.{◌≡◌, ◌≢◌, arith, true-eqb, false-eqb}
+use Rattle.std.proofs.Common.{◌≡◌, ◌≢◌, arith}
 use Rattle.std.proofs.lemmas.Bool.Decides.{nat_tests}
 use Rattle.ovs_stream_cases.proofs.Places.{not_behind, stands_behind}
 use Rattle.ovs_stream_cases.proofs.stream.place_of.Goals as goal

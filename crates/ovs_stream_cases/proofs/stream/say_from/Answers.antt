@@ -4,7 +4,6 @@ use Rattle.std.specs.Prelude.{Option, OnOk, false}
 use Rattle.std.specs.List.{All, AllByRecursion}
 use Rattle.ovs_types.specs.Id.{id_text, read_id}
 use Rattle.ovs_links.specs.Sets.{IsOfTables}
-use Rattle.ovs_links.specs.declared.link.Link.{Link}
 use Rattle.ovs_upstream.specs.Lawful.{LawfulAsked}
 use Rattle.ovs_upstream.specs.Talk.{talk_of}
 use Rattle.ovs_wire.specs.declared.message.Message.{Message}
