@@ -13,6 +13,7 @@ from debian import environment, run, schema_file, tool, wait_for, watch
 from ends import TAKEN, UNFED, closing, shows
 from harness import END_SECONDS, START_SECONDS, Node, check, equal, holds
 from processes import TIMED, free_port, wait_until
+from reach import OTHER
 
 # The longest path that a socket may have (unix(7)).
 LONGEST_PATH = 107
@@ -205,7 +206,7 @@ def the_file_at_the_end(lab):
     equal(relay.end()[0], 0, "the relay's status")
     equal(sorted(relay.child.complaints().splitlines(True)), [TAKEN, UNFED], "the lines of the relay's standard error")
     holds(not os.path.lexists(relay.path), "the relay's socket is left")
-    other = source_at(lab, schema={**NET, "version": "2.0.0"})
+    other = source_at(lab, schema=OTHER)
     refusing = relay_at(lab, other, more=["--end-on-refusal"])
     equal(refusing.child.wait(END_SECONDS), 1, "the status of a relay whose upstream has another schema")
     holds(not os.path.lexists(refusing.path), "the socket of a relay that ended on a refusal is left")

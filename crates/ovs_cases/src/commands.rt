@@ -162,7 +162,8 @@ pub(crate) fn unopened_for(alloc: Global, parts: &[Value]) -> Result<String, Cas
 
 /// What is said of an address where nothing can be done for an error of this number.
 pub(crate) fn unreached(alloc: Global, parts: &[Value]) -> Result<String, CaseError> {
-    let address = &Address::read(text(parts, 1)?, true).ok_or(CaseError::Malformed)?;
+    let address = Address::read(text(parts, 1)?, true).ok_or(CaseError::Malformed)?;
+    let address = &address;
     let cause = cause(parts)?;
     let complaint = match text(parts, 0)? {
         "unlistened" => Complaint::Unlistened { address, cause },

@@ -4,7 +4,7 @@ use crate::backlog::Backlog;
 use crate::log_lines::LogLines;
 use crate::saying::{complains, fails, says};
 use crate::schema_file::schema_of_file;
-use log::{LevelFilter, Log, Logged};
+use log::{LevelFilter, Logged};
 use ovs_address::Address;
 use ovs_command_line::{Complaint, RelayOptions, SchemaOrigin, SourceOptions};
 use ovs_server::{
@@ -93,25 +93,16 @@ fn listens<R: Files + Net>(
     }
 }
 
-// Runs the node that was begun at this address, and says what it holds at its end. Nothing is left at the address then, nor where the node
-// couldn't be begun.
-fn runs<R: Print + Eprint + Clock + Wait + Files, L: NodeRuntime + Log>(
-    rt: &R,
-    alloc: Global,
-    backlog: &Backlog,
+// What was begun at this address. Where it couldn't be, nothing is left there.
+fn begun_at<R: Files, T: Drop>(
+    files: &R,
     address: &Address,
-    begun: Result<NodeServer<L>, ServerError>,
-    schema: &Schema,
-) -> Result<ExitCode, ServerError> {
-    let ran = match begun {
-        Ok(server) => {
-            warns(rt, alloc, backlog, address);
-            Ok(server.run(schema))
-        }
-        Err(error) => Err(error),
-    };
-    remove_socket_file(rt, address);
-    Ok(closes(rt, alloc, backlog, ran?))
+    begun: Result<T, ServerError>,
+) -> Result<T, ServerError> {
+    if begun.is_err() {
+        remove_socket_file(files, address);
+    }
+    begun
 }
 
 // A source of this schema, from its address to its end.
@@ -132,8 +123,15 @@ fn source<R: NodeRuntime + Print + Eprint + Clock + Files + 'static>(
     let logged = Logged::new(rt, level, LogLines::new(rt, alloc, &*backlog));
     let listening = listens(&rt, alloc, &options.listen)?;
     let address = listening.address();
-    let begun = NodeServer::source(logged, alloc, listening, plan);
-    runs(&rt, alloc, &*backlog, &address, begun, schema)
+    let server = begun_at(
+        &rt,
+        &address,
+        NodeServer::source(logged, alloc, listening, plan),
+    )?;
+    warns(&rt, alloc, &*backlog, &address);
+    let ran = server.run(schema);
+    remove_socket_file(&rt, &address);
+    Ok(closes(&rt, alloc, &*backlog, ran))
 }
 
 // How many bytes a message from an upstream may have: as many as a reader's, where that isn't said.
@@ -188,8 +186,15 @@ fn relay<R: NodeRuntime + Print + Eprint + Clock + Files + 'static>(
     let logged = Logged::new(rt, level, LogLines::new(rt, alloc, &*backlog));
     let listening = listens(&rt, alloc, &options.listen)?;
     let address = listening.address();
-    let begun = NodeServer::relay(logged, alloc, listening, plan);
-    runs(&rt, alloc, &*backlog, &address, begun, &schema)
+    let server = begun_at(
+        &rt,
+        &address,
+        NodeServer::relay(logged, alloc, listening, plan),
+    )?;
+    warns(&rt, alloc, &*backlog, &address);
+    let ran = server.run(&schema);
+    remove_socket_file(&rt, &address);
+    Ok(closes(&rt, alloc, &*backlog, ran))
 }
 
 /// Runs a source until all its threads have come to their ends. Its bounds are those of `NodeRuntime`, one by one: the checker doesn't
