@@ -1,5 +1,5 @@
 -- Words that spell an IP address and a port.
-use Rattle.std.proofs.Common.{◌≡◌, List, ℕ, Bool, true, false, true≢false}
+use Rattle.std.proofs.Common.{◌≡◌, Bool, true, false, true≢false}
 use Rattle.std.specs.Net.Addr.{MatchIp, IsLoopbackV4, IsLoopbackV6}
 use Rattle.std.specs.Net.Grammar.{IsSocketText}
 use Rattle.std.specs.Net.Socket.{socket_ip}
