@@ -1,5 +1,5 @@
 -- Addresses, and the words that spell them, one after another.
-use Rattle.std.proofs.Common.{◌≡◌, ◌∙◌, ◌<◌, ◌≤◌, ◌+◌, ℕ, zero, suc, ap, sym, subst, refl, arith, codes, List, [], ◌∷◌, ◌++◌, map, length, take, get_or, Option, Some, None, Bool, true, false, true≢false}
+use Rattle.std.proofs.Common.{◌≡◌, ◌∙◌, ◌<◌, ◌≤◌, ◌+◌, ℕ, zero, suc, ap, sym, subst, refl, arith, codes, List, [], ◌∷◌, ◌++◌, map, length, take, get_or, Option, Some, None, Bool}
 use Rattle.std.specs.Borrow.{Bor}
 use Rattle.std.specs.Prelude.{option_map, option_and_then, find, slice_get, bytes_eq, Contains}
 use Rattle.std.specs.Option.{unwrap_or}

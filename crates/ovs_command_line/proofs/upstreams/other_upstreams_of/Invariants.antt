@@ -4,4 +4,4 @@ use Rattle.ovs_command_line.proofs.upstreams.other_upstreams_of.Given as goal
 
 -- those before this one have other addresses
 abbrev pub invariant-loop-upstream : goal.invariant-loop-upstream
-invariant-loop-upstream l = record { others : All (λ upstream. All (λ address. ¬ (AreSame address l.fn.listen.now)) upstream.items) (take l.upstream-index l.upstream-items) }
+invariant-loop-upstream l = record { others : All (λ upstream. All (λ address. ¬ (AreSame address l.fn.listen)) upstream.items) (take l.upstream-index l.upstream-items) }
