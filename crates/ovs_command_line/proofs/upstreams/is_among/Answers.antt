@@ -1,4 +1,4 @@
-use Rattle.std.proofs.Common.{All, take, subst, take_all, List}
+use Rattle.std.proofs.Common.{All, subst, take_all, List}
 use Rattle.std.proofs.lemmas.List.Elements.{All-more}
 use Rattle.ovs_address.specs.declared.address.Address.{Address}
 use Rattle.ovs_address.specs.Address.{AreSame}
@@ -6,8 +6,9 @@ use Rattle.ovs_command_line.proofs.upstreams.is_among.Goals as goal
 
 pub loop-other-preserved : goal.loop-other-preserved
 loop-other-preserved c = record {
-  none = All-more (λ (other : Address). ¬ (AreSame other c.args.address.now)) c.args.others.now c.loop-other.other-index _ c.loop-other-test.true
-      c.loop-other.invariant.none (c.is_same.ensures.another c.if-is_same.false);
+  none = All-more (λ (other : Address). ¬ (AreSame other c.args.address.now)) c.args.others.now c.loop-other.other-index c.other-item.result c.loop-other-test.true
+      c.loop-other.invariant.none
+      (subst (λ (other : Address). ¬ (AreSame other c.args.address.now)) c.other-item.is (c.is_same.ensures.another c.if-is_same.false));
 }
 
 pub returns-clause-none : goal.returns-clause-none
