@@ -4,6 +4,7 @@ use crate::case::{add, list, text, word};
 use crate::case_error::CaseError;
 use crate::desks::{ended, session, verb};
 use ovs_authority::{Ask, Authority, Member, Verb};
+use ovs_case_lines::list_in;
 use ovs_desk::RelayDesk;
 use ovs_json::SessionId;
 use ovs_source::{FreshRows, Source, SourceDesk};
@@ -84,8 +85,8 @@ fn answers<A: Authority>(
 ) -> Result<String, CaseError> {
     let mut answers = String::new(alloc);
     for one in events {
-        let parts = one.as_array().ok_or(CaseError::Malformed)?;
-        let answer = event(alloc, authority, parts.as_slice())?;
+        let parts = list_in(one)?;
+        let answer = event(alloc, authority, parts)?;
         add(&mut answers, answer.as_str())?;
     }
     Ok(answers)

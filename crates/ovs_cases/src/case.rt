@@ -6,6 +6,7 @@ use crate::{
     messages, queries, readers, relay_desks, schemas, scripts, sources, stores, stories, streams,
     upstreams,
 };
+use ovs_case_lines::{CaseTable, count_in, list_in, text_in};
 use ovs_types::Schema;
 use serde_json::Value;
 use std::alloc::Global;
@@ -17,15 +18,17 @@ pub(crate) fn part(parts: &[Value], at: usize) -> Result<&Value, CaseError> {
 
 /// The same where it is a text.
 pub(crate) fn text(parts: &[Value], at: usize) -> Result<&str, CaseError> {
-    part(parts, at)?.as_str().ok_or(CaseError::Malformed)
+    Ok(text_in(part(parts, at)?)?)
 }
 
 /// The same where it is a list.
 pub(crate) fn list(parts: &[Value], at: usize) -> Result<&[Value], CaseError> {
-    match part(parts, at)?.as_array() {
-        Some(items) => Ok(items.as_slice()),
-        None => Err(CaseError::Malformed),
-    }
+    Ok(list_in(part(parts, at)?)?)
+}
+
+/// The same where it is a number.
+pub(crate) fn count(parts: &[Value], at: usize) -> Result<u64, CaseError> {
+    Ok(count_in(part(parts, at)?)?)
 }
 
 /// A word as an answer.
@@ -118,22 +121,22 @@ fn alone(alloc: Global, what: &str, parts: &[Value]) -> Result<Option<String>, C
     Ok(Some(answer))
 }
 
-/// What a case answers.
-pub(crate) fn answer(
-    alloc: Global,
-    schema: &mut Option<Box<Schema>>,
-    parts: &[Value],
-) -> Result<String, CaseError> {
-    let what = text(parts, 0)?;
-    if what == "use" {
-        *schema = Some(schemas::read(alloc, parts, 1)?);
-        return word(alloc, "ok");
-    }
-    match alone(alloc, what, parts)? {
-        Some(answer) => Ok(answer),
-        None => {
-            let schema = schema.as_ref().ok_or(CaseError::Malformed)?;
-            of_schema(alloc, schema, what, parts)
+/// The cases of the crates.
+pub(crate) struct CrateCases;
+
+impl CaseTable for CrateCases {
+    type Error = CaseError;
+
+    fn answer(
+        &self,
+        alloc: Global,
+        schema: Option<&Schema>,
+        case: &[Value],
+    ) -> Result<String, CaseError> {
+        let what = text(case, 0)?;
+        match alone(alloc, what, case)? {
+            Some(answer) => Ok(answer),
+            None => of_schema(alloc, schema.ok_or(CaseError::Malformed)?, what, case),
         }
     }
 }

@@ -1,35 +1,37 @@
 //! Why a case has no answer.
 
+use ovs_case_lines::LineError;
 use ovs_reader::ShownError;
 use ovs_types::NoMemory;
-use std::alloc::{AllocError, AllocFailed};
+use std::alloc::AllocError;
+use thiserror::Error;
 
-#[derive(Clone, Copy, Debug, PartialEq, Eq)]
+#[derive(Clone, Copy, Debug, Error)]
 pub(crate) enum CaseError {
+    /// The line can't be read.
+    #[error(transparent)]
+    Line(#[from] LineError),
     /// The line is no case.
+    #[error("no such case")]
     Malformed,
     /// No link has such ids.
+    #[error("bad-id")]
     BadId,
     /// What is shown begins anew.
+    #[error("epoch")]
     Epoch,
     /// Memory ran out.
-    NoMemory,
-    /// It ran out within the call that the case asks for.
+    #[error("no memory")]
+    NoMemory(#[from] NoMemory),
+    /// A growth was refused.
+    #[error("no memory")]
+    Ungrown(#[from(alloc)] AllocError),
+    /// Memory ran out within the call that the case asks for.
+    #[error("no memory")]
     Refused,
     /// It ran out within a call, and what the call says then isn't so.
+    #[error("changed for want of memory")]
     Changed,
-}
-
-impl CaseError {
-    pub(crate) fn word(self) -> &'static str {
-        match self {
-            CaseError::Malformed => "no such case",
-            CaseError::BadId => "bad-id",
-            CaseError::Epoch => "epoch",
-            CaseError::NoMemory | CaseError::Refused => "no memory",
-            CaseError::Changed => "changed for want of memory",
-        }
-    }
 }
 
 /// What a call answered that can fail by memory alone.
@@ -54,39 +56,11 @@ pub(crate) fn is_so(holds: bool) -> Result<(), CaseError> {
     }
 }
 
-impl From<NoMemory> for CaseError {
-    fn from(_error: NoMemory) -> CaseError {
-        CaseError::NoMemory
-    }
-}
-
 impl From<ShownError> for CaseError {
     fn from(error: ShownError) -> CaseError {
         match error {
             ShownError::Epoch => CaseError::Epoch,
             ShownError::NoMemory => CaseError::Refused,
-        }
-    }
-}
-
-impl From<AllocError> for CaseError {
-    fn from(_error: AllocError) -> CaseError {
-        CaseError::NoMemory
-    }
-}
-
-impl<T: Drop> From<AllocFailed<T>> for CaseError {
-    fn from(_error: AllocFailed<T>) -> CaseError {
-        CaseError::NoMemory
-    }
-}
-
-impl From<serde_json::Error> for CaseError {
-    fn from(error: serde_json::Error) -> CaseError {
-        if error.is_memory() {
-            CaseError::NoMemory
-        } else {
-            CaseError::Malformed
         }
     }
 }

@@ -6,7 +6,7 @@ ghost use Rattle.ovs_query.specs.Updates.{AreTouchedOf};
 
 use crate::case::{list, part, truth, word};
 use crate::case_error::{CaseError, is_refused};
-use crate::ids::commit;
+use ovs_case_lines::commit;
 use ovs_rows::{Applied, ApplyError, Change, Database};
 use ovs_types::{Schema, TxnId};
 use serde_json::Value;
@@ -17,7 +17,7 @@ const IDS: [&str; 4] = ["a", "b", "c", "d"];
 // The id of the commit of this number, the first of which is 0. Those past the letters count down from the last id.
 fn commit_at(number: usize) -> Result<TxnId, CaseError> {
     match IDS.get(number) {
-        Some(letter) => commit(letter),
+        Some(letter) => Ok(commit(letter)?),
         None => Ok(TxnId::from(u128::MAX - number as u128)),
     }
 }

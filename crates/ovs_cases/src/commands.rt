@@ -1,6 +1,6 @@
 //! Command lines of the program: what they ask for, and what is said on standard error.
 
-use crate::case::{part, text, word};
+use crate::case::{count, part, text, word};
 use crate::case_error::CaseError;
 use ovs_address::Address;
 use ovs_command_line::{
@@ -137,7 +137,7 @@ fn end_of(word: &str) -> Result<RunEnd, CaseError> {
 pub(crate) fn run_end(alloc: Global, parts: &[Value]) -> Result<String, CaseError> {
     let end = end_of(text(parts, 1)?)?;
     let file = part(parts, 2)?.as_str();
-    let failures = part(parts, 3)?.as_u64().ok_or(CaseError::Malformed)?;
+    let failures = count(parts, 3)?;
     complaint_told(alloc, complaint_of(end, file, failures))
 }
 

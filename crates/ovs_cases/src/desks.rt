@@ -1,9 +1,10 @@
 //! A source's desk, and what it answers to sessions.
 
-use crate::case::{add, list, part, text, word};
+use crate::case::{add, count, list, part, text, word};
 use crate::case_error::CaseError;
 use crate::messages::text_of;
 use ovs_authority::{Ask, Authority, Verb};
+use ovs_case_lines::list_in;
 use ovs_json::SessionId;
 use ovs_source::{FreshRows, Source, SourceDesk};
 use ovs_types::{RowId, Schema, Text, TxnId};
@@ -13,7 +14,7 @@ use std::alloc::Global;
 
 /// The session of an event.
 pub(crate) fn session(parts: &[Value]) -> Result<SessionId, CaseError> {
-    part(parts, 1)?.as_u64().ok_or(CaseError::Malformed)
+    count(parts, 1)
 }
 
 fn name(alloc: Global, parts: &[Value]) -> Result<Text, CaseError> {
@@ -108,8 +109,8 @@ fn opened(alloc: Global, schema: &Schema, parts: &[Value]) -> Result<SourceDesk,
 fn answers(alloc: Global, desk: &mut SourceDesk, events: &[Value]) -> Result<String, CaseError> {
     let mut answers = String::new(alloc);
     for one in events {
-        let parts = one.as_array().ok_or(CaseError::Malformed)?;
-        let answer = event(alloc, desk, parts.as_slice())?;
+        let parts = list_in(one)?;
+        let answer = event(alloc, desk, parts)?;
         add(&mut answers, answer.as_str())?;
     }
     Ok(answers)

@@ -1,25 +1,22 @@
 //! Requests that are passed on, and their answers.
 
-use crate::case::{add, list, part, text, word};
+use crate::case::{add, count, list, part, text, word};
 use crate::case_error::{CaseError, called, is_refused, is_so};
 use crate::messages::text_of;
 use ovs_authority::{Request, Response};
+use ovs_case_lines::list_in;
 use ovs_desk::{ForwardError, Forwards, StandingAnswer};
-use ovs_json::{Json, SessionId};
+use ovs_json::{Json, NoMemory, SessionId};
 use ovs_types::TxnId;
 use ovs_wire::{Id, Message, Method, Params};
 use serde_json::Value;
 use std::alloc::Global;
 
-fn number(parts: &[Value], at: usize) -> Result<u64, CaseError> {
-    part(parts, at)?.as_u64().ok_or(CaseError::Malformed)
-}
-
 fn refusal(error: ForwardError) -> Result<&'static str, CaseError> {
     match error {
         ForwardError::Full => Ok("full"),
         ForwardError::Spent => Ok("spent"),
-        ForwardError::NoMemory => Err(CaseError::NoMemory),
+        ForwardError::NoMemory => Err(NoMemory.into()),
     }
 }
 
@@ -32,7 +29,7 @@ fn request(alloc: Global) -> Result<Request, CaseError> {
 
 fn send(alloc: Global, forwards: &mut Forwards, parts: &[Value]) -> Result<String, CaseError> {
     let id = Id::new(part(parts, 2)?.clone()?).ok_or(CaseError::Malformed)?;
-    match forwards.send(number(parts, 1)?, id, request(alloc)?) {
+    match forwards.send(count(parts, 1)?, id, request(alloc)?) {
         Ok(number) => Ok(format!(in alloc; "{number}")?),
         Err(unsent) => word(alloc, refusal(unsent.error)?),
     }
@@ -41,7 +38,7 @@ fn send(alloc: Global, forwards: &mut Forwards, parts: &[Value]) -> Result<Strin
 // Sends so many requests of one session, and tells what the last of them is answered.
 fn send_many(alloc: Global, forwards: &mut Forwards, parts: &[Value]) -> Result<String, CaseError> {
     let mut told = word(alloc, "none")?;
-    for _ in 0..number(parts, 3)? {
+    for _ in 0..count(parts, 3)? {
         told = send(alloc, forwards, parts)?;
     }
     Ok(told)
@@ -78,7 +75,7 @@ fn reply(alloc: Global, forwards: &mut Forwards, parts: &[Value]) -> Result<Stri
         answer,
         standing: standing()?,
     };
-    match forwards.reply(number(parts, 1)?, answer) {
+    match forwards.reply(count(parts, 1)?, answer) {
         Ok(()) => word(alloc, "ok"),
         Err(_) => word(alloc, "unknown"),
     }
@@ -104,13 +101,13 @@ fn event(alloc: Global, forwards: &mut Forwards, parts: &[Value]) -> Result<Stri
         "send many" => send_many(alloc, forwards, parts),
         "up" => told(alloc, &forwards.take_up()),
         "reply" => reply(alloc, forwards, parts),
-        "collect" => collect(alloc, forwards, number(parts, 1)?),
+        "collect" => collect(alloc, forwards, count(parts, 1)?),
         "lost" => {
             forwards.source_lost();
             word(alloc, "lost")
         }
         "end" => {
-            forwards.end_session(number(parts, 1)?);
+            forwards.end_session(count(parts, 1)?);
             word(alloc, "ended")
         }
         _ => Err(CaseError::Malformed),
@@ -123,8 +120,8 @@ pub(crate) fn forwards(alloc: Global, parts: &[Value]) -> Result<String, CaseErr
     let mut forwards = Forwards::new(alloc);
     let mut answers = String::new(alloc);
     for one in list(parts, 1)? {
-        let parts = one.as_array().ok_or(CaseError::Malformed)?;
-        let answer = event(alloc, &mut forwards, parts.as_slice())?;
+        let parts = list_in(one)?;
+        let answer = event(alloc, &mut forwards, parts)?;
         add(&mut answers, answer.as_str())?;
     }
     Ok(answers)

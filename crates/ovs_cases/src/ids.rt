@@ -40,27 +40,3 @@ pub(crate) fn name(alloc: Global, parts: &[Value]) -> Result<String, CaseError> 
         (false, true) => word(alloc, "a name that is no id"),
     }
 }
-
-/// A commit's id: a letter stands for the id that is written with it, `0` for the start, other texts for themselves.
-pub(crate) fn commit(text: &str) -> Result<TxnId, CaseError> {
-    Ok(match text {
-        "0" => TxnId::zero(),
-        "a" => TxnId::from(0xaaaaaaaa_aaaa_4aaa_8aaa_aaaaaaaaaaaa),
-        "b" => TxnId::from(0xbbbbbbbb_bbbb_4bbb_8bbb_bbbbbbbbbbbb),
-        "c" => TxnId::from(0xcccccccc_cccc_4ccc_8ccc_cccccccccccc),
-        "d" => TxnId::from(0xdddddddd_dddd_4ddd_8ddd_dddddddddddd),
-        _ => TxnId::read(text).map_err(|_| CaseError::Malformed)?,
-    })
-}
-
-/// The letter of an id, where it has one.
-pub(crate) fn letter(id: TxnId) -> &'static str {
-    match u128::from(id) {
-        0 => "0",
-        0xaaaaaaaa_aaaa_4aaa_8aaa_aaaaaaaaaaaa => "a",
-        0xbbbbbbbb_bbbb_4bbb_8bbb_bbbbbbbbbbbb => "b",
-        0xcccccccc_cccc_4ccc_8ccc_cccccccccccc => "c",
-        0xdddddddd_dddd_4ddd_8ddd_dddddddddddd => "d",
-        _ => "?",
-    }
-}

@@ -1,16 +1,13 @@
 //! Locks of a server, asked for one after the other.
 
-use crate::case::{add, list, part, text, word};
+use crate::case::{add, count, list, text, word};
 use crate::case_error::{CaseError, is_refused};
+use ovs_case_lines::list_in;
 use ovs_json::SessionId;
 use ovs_locks::{LockError, LockNotice, LockTable};
 use ovs_types::Text;
 use serde_json::Value;
 use std::alloc::Global;
-
-fn session(parts: &[Value]) -> Result<SessionId, CaseError> {
-    part(parts, 1)?.as_u64().ok_or(CaseError::Malformed)
-}
 
 fn name(alloc: Global, parts: &[Value], at: usize) -> Result<Text, CaseError> {
     Ok(Text::new(alloc, text(parts, at)?)?)
@@ -59,7 +56,7 @@ fn notices(
 }
 
 fn unlock(alloc: Global, locks: &mut LockTable, parts: &[Value]) -> Result<String, CaseError> {
-    match locks.unlock(session(parts)?, &name(alloc, parts, 2)?) {
+    match locks.unlock(count(parts, 1)?, &name(alloc, parts, 2)?) {
         Ok(()) => word(alloc, "ok"),
         Err(_) => word(alloc, "never asked"),
     }
@@ -69,17 +66,17 @@ fn event(alloc: Global, locks: &mut LockTable, parts: &[Value]) -> Result<String
     match text(parts, 0)? {
         "lock" => {
             let name = name(alloc, parts, 2)?;
-            asked(alloc, locks.lock(alloc, session(parts)?, &name))
+            asked(alloc, locks.lock(alloc, count(parts, 1)?, &name))
         }
         "steal" => {
             let name = name(alloc, parts, 2)?;
-            asked(alloc, locks.steal(alloc, session(parts)?, &name))
+            asked(alloc, locks.steal(alloc, count(parts, 1)?, &name))
         }
         "unlock" => unlock(alloc, locks, parts),
         "owner" => owner(alloc, locks, parts),
-        "told" => notices(alloc, locks, session(parts)?),
+        "told" => notices(alloc, locks, count(parts, 1)?),
         "end" => {
-            locks.end_session(session(parts)?);
+            locks.end_session(count(parts, 1)?);
             word(alloc, "ok")
         }
         _ => Err(CaseError::Malformed),
@@ -101,8 +98,8 @@ pub(crate) fn locks(alloc: Global, parts: &[Value]) -> Result<String, CaseError>
     let mut locks = LockTable::new(alloc);
     let mut answers = String::new(alloc);
     for one in list(parts, 1)? {
-        let parts = one.as_array().ok_or(CaseError::Malformed)?;
-        let answer = event_again(alloc, &mut locks, parts.as_slice())?;
+        let parts = list_in(one)?;
+        let answer = event_again(alloc, &mut locks, parts)?;
         add(&mut answers, answer.as_str())?;
     }
     Ok(answers)

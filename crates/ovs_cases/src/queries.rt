@@ -9,7 +9,7 @@ use crate::case_error::CaseError;
 use crate::changes::{after, applied};
 use ovs_query::{Monitor, Notation, QueryError, read_only, transact_read};
 use ovs_rows::{Applied, Database};
-use ovs_types::Schema;
+use ovs_types::{NoMemory, Schema};
 use serde_json::Value;
 use std::alloc::Global;
 
@@ -49,7 +49,7 @@ pub(crate) fn monitor(
 ) -> Result<String, CaseError> {
     match Monitor::read(alloc, notation(parts)?, part(parts, 2)?, schema) {
         Ok(_) => word(alloc, "ok"),
-        Err(QueryError::NoMemory) => Err(CaseError::NoMemory),
+        Err(QueryError::NoMemory) => Err(NoMemory.into()),
         Err(fault) => word(alloc, fault.text()),
     }
 }

@@ -12,6 +12,7 @@ use crate::messages::text_of;
 use crate::stores::take;
 use crate::upstreams::message_of;
 use ovs_authority::Verb;
+use ovs_case_lines::{list_in, read_json};
 use ovs_links::LinkStore;
 use ovs_reader::{ReaderSession, Turn, what_a_store_folded_may_be_shown};
 use ovs_types::Schema;
@@ -71,9 +72,9 @@ fn learn(
     requires shown { MayBeShown session.now (folded_of store.old.schema store.old.folded) }
     ensures shown { MayBeShown session.now (folded_of store.new.schema store.new.folded) }
 {
-    let link = Value::from_str(alloc, spelled_out(alloc, link)?.as_str())?;
-    let parts = link.as_array().ok_or(CaseError::Malformed)?;
-    let told = take(alloc, store, parts.as_slice())?;
+    let link = read_json(alloc, spelled_out(alloc, link)?.as_str())?;
+    let parts = list_in(&link)?;
+    let told = take(alloc, store, parts)?;
     fold(alloc, store, session)?;
     Ok(told)
 }

@@ -1,10 +1,11 @@
 //! A relay's desk: what goes up, and what it answers to sessions.
 
-use crate::case::{add, list, part, text, word};
+use crate::case::{add, count, list, part, text, word};
 use crate::case_error::{CaseError, called, is_refused, is_so};
 use crate::desks::{ended, session, told, verb};
 use crate::forwards::{is_lost, standing};
 use ovs_authority::{Ask, Authority, Response};
+use ovs_case_lines::list_in;
 use ovs_desk::{BadReply, RelayDesk, SourceMessage, StandingAnswer};
 use ovs_json::{Json, SessionId};
 use ovs_types::Text;
@@ -33,7 +34,7 @@ fn name(alloc: Global, parts: &[Value]) -> Result<Text, CaseError> {
 fn said(alloc: Global, what: &str, parts: &[Value]) -> Result<SourceMessage, CaseError> {
     match what {
         "reply" => Ok(SourceMessage::ReplyFor {
-            number: part(parts, 1)?.as_u64().ok_or(CaseError::Malformed)?,
+            number: count(parts, 1)?,
             answer: StandingAnswer {
                 answer: answer(parts)?,
                 standing: standing()?,
@@ -135,8 +136,8 @@ pub(crate) fn relay_desk(alloc: Global, parts: &[Value]) -> Result<String, CaseE
     let mut desk = RelayDesk::new(alloc, name(alloc, parts)?);
     let mut answers = String::new(alloc);
     for one in list(parts, 2)? {
-        let parts = one.as_array().ok_or(CaseError::Malformed)?;
-        let answer = event_again(alloc, &mut desk, parts.as_slice())?;
+        let parts = list_in(one)?;
+        let answer = event_again(alloc, &mut desk, parts)?;
         add(&mut answers, answer.as_str())?;
     }
     Ok(answers)

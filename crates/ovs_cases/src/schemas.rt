@@ -3,6 +3,7 @@
 use crate::case::{part, text, truth, word};
 use crate::case_error::CaseError;
 use crate::columns::brief;
+use ovs_case_lines::read_schema;
 use ovs_types::{Schema, Table};
 use serde_json::Value;
 use std::alloc::Global;
@@ -40,10 +41,7 @@ pub(crate) fn schema(alloc: Global, parts: &[Value]) -> Result<String, CaseError
 
 /// The schema that an argument is.
 pub(crate) fn read(alloc: Global, parts: &[Value], at: usize) -> Result<Box<Schema>, CaseError> {
-    match Schema::read(alloc, part(parts, at)?) {
-        Ok(schema) => Ok(Box::new(alloc, schema)?),
-        Err(_) => Err(CaseError::Malformed),
-    }
+    Ok(read_schema(alloc, part(parts, at)?)?)
 }
 
 fn json_text(alloc: Global, schema: &Schema) -> Result<String, CaseError> {

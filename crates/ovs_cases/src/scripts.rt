@@ -4,7 +4,7 @@ ghost use Rattle.std.specs.Prelude.{◌≡◌, ◌++◌, IfOk, length, string_by
 ghost use Rattle.std.specs.Fmt.{decimal};
 ghost use Rattle.std.specs.Option.{option_map_or};
 
-use crate::case::part;
+use crate::case::{count, part};
 use crate::case_error::CaseError;
 use crate::folds::end_word;
 use crate::streams::bytes_of;
@@ -160,10 +160,6 @@ impl Write for Narrow {
     }
 }
 
-fn number(parts: &[Value], at: usize) -> Result<u64, CaseError> {
-    part(parts, at)?.as_u64().ok_or(CaseError::Malformed)
-}
-
 // What was written, on one line, and then the rest.
 fn told(alloc: Global, written: &[u8], rest: &str) -> Result<String, CaseError> {
     let Ok(text) = std::str::from_utf8(written) else {
@@ -204,9 +200,9 @@ fn run(alloc: Global, text: &[u8], most: u64, gives: u64, room: u64) -> Result<S
 /// fails after so many reads and a writer that is full after so many bytes.
 pub(crate) fn script(alloc: Global, parts: &[Value]) -> Result<String, CaseError> {
     let text = bytes_of(alloc, part(parts, 1)?)?;
-    let most = number(parts, 2)?;
-    let gives = number(parts, 3)?;
-    let room = number(parts, 4)?;
+    let most = count(parts, 2)?;
+    let gives = count(parts, 3)?;
+    let room = count(parts, 4)?;
     run(alloc, text.as_slice(), most, gives, room)
 }
 

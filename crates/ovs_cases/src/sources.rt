@@ -3,9 +3,9 @@
 ghost use Rattle.std.specs.Prelude.{IfSome};
 ghost use Rattle.ovs_rows.specs.Change.{IsChangeOf};
 
-use crate::case::{add, list, part, text};
+use crate::case::{add, count, list, text};
 use crate::case_error::{CaseError, is_refused, is_so};
-use ovs_json::SessionId;
+use ovs_case_lines::list_in;
 use ovs_links::Link;
 use ovs_locks::LockTable;
 use ovs_rows::Change;
@@ -22,17 +22,13 @@ fn row_id(parts: &[Value]) -> Result<RowId, CaseError> {
     RowId::read(text(parts, 1)?).ok().ok_or(CaseError::BadId)
 }
 
-fn session(parts: &[Value], at: usize) -> Result<SessionId, CaseError> {
-    part(parts, at)?.as_u64().ok_or(CaseError::Malformed)
-}
-
 // The locks that sessions asked for, each a list of the session and the name.
 fn locks_of(alloc: Global, asked: &[Value]) -> Result<LockTable, CaseError> {
     let mut locks = LockTable::new(alloc);
     for one in asked {
-        let parts = one.as_array().ok_or(CaseError::Malformed)?;
+        let parts = list_in(one)?;
         let name = Text::new(alloc, text(parts, 1)?)?;
-        if locks.lock(alloc, session(parts, 0)?, &name).is_err() {
+        if locks.lock(alloc, count(parts, 0)?, &name).is_err() {
             return Err(CaseError::Malformed);
         }
     }
@@ -87,7 +83,7 @@ fn transaction(
     parts: &[Value],
 ) -> Result<String, CaseError> {
     let id = commit_id(parts)?;
-    let session_id = session(parts, 1)?;
+    let session_id = count(parts, 1)?;
     match source.transact(alloc, session_id, list(parts, 2)?, id, fresh, locks) {
         Ok(done) => outcome(alloc, source.store().schema(), &done),
         Err(error) => Ok(String::from_str(alloc, refusal(error)?)?),
@@ -121,7 +117,7 @@ fn transactions(
 ) -> Result<String, CaseError> {
     let mut told = String::new(alloc);
     for one in asked {
-        let parts = one.as_array().ok_or(CaseError::Malformed)?;
+        let parts = list_in(one)?;
         let answer = transaction_again(alloc, source, fresh, locks, parts)?;
         add(&mut told, answer.as_str())?;
     }

@@ -6,7 +6,7 @@ ghost use Rattle.ovs_links.specs.Store.{tables_of};
 
 use crate::case::{list, part, text, truth, word};
 use crate::case_error::{CaseError, is_refused, is_so};
-use crate::ids::{commit, letter};
+use ovs_case_lines::{commit, count_in, letter, list_in, text_in};
 use ovs_links::{By, Link, LinkStore, MergeError, Settled, TakeError, Took};
 use ovs_rows::Change;
 use ovs_types::{Schema, TxnId};
@@ -20,8 +20,8 @@ fn link(alloc: Global, schema: &Schema, parts: &[Value]) -> Result<Link, CaseErr
     let [prev, id, change] = parts else {
         return Err(CaseError::Malformed);
     };
-    let prev = commit(prev.as_str().ok_or(CaseError::Malformed)?)?;
-    let id = commit(id.as_str().ok_or(CaseError::Malformed)?)?;
+    let prev = commit(text_in(prev)?)?;
+    let id = commit(text_in(id)?)?;
     let Ok(change) = Change::read(alloc, change, schema) else {
         return Err(CaseError::Malformed);
     };
@@ -121,8 +121,8 @@ fn take_all(alloc: Global, store: &mut LinkStore, links: &[Value]) -> Result<(),
     ensures tables { tables_of store.new ≡ tables_of store.old }
 {
     for parts in links {
-        let parts = parts.as_array().ok_or(CaseError::Malformed)?;
-        let _ = take(alloc, store, parts.as_slice())?;
+        let parts = list_in(parts)?;
+        let _ = take(alloc, store, parts)?;
     }
     Ok(())
 }
@@ -171,7 +171,7 @@ fn position(alloc: Global, store: &LinkStore, id: TxnId) -> Result<String, CaseE
 }
 
 fn link_at(alloc: Global, store: &LinkStore, number: &Value) -> Result<String, CaseError> {
-    let number = number.as_u64().ok_or(CaseError::Malformed)?;
+    let number = count_in(number)?;
     match store.link_at(number as usize) {
         Some(link) => word(alloc, letter(link.id())),
         None => word(alloc, "none"),
@@ -198,7 +198,7 @@ fn event(alloc: Global, store: &mut LinkStore, parts: &[Value]) -> Result<String
     let [what, link @ ..] = parts else {
         return Err(CaseError::Malformed);
     };
-    match what.as_str().ok_or(CaseError::Malformed)? {
+    match text_in(what)? {
         "take" => take(alloc, store, link),
         "append" => append(alloc, store, link),
         "settle" => settle(alloc, store),
@@ -242,8 +242,8 @@ fn state(alloc: Global, store: &LinkStore) -> Result<String, CaseError> {
 fn events(alloc: Global, store: &mut LinkStore, events: &[Value]) -> Result<String, CaseError> {
     let mut told = String::new(alloc);
     for parts in events {
-        let parts = parts.as_array().ok_or(CaseError::Malformed)?;
-        let answer = event_again(alloc, store, parts.as_slice())?;
+        let parts = list_in(parts)?;
+        let answer = event_again(alloc, store, parts)?;
         told.push_str(answer.as_str())?;
         told.push_str("; ")?;
     }

@@ -3,6 +3,7 @@
 
 use crate::case::{list, text};
 use crate::case_error::CaseError;
+use ovs_case_lines::{count_in, text_in};
 use ovs_wire::{FrameError, Framer};
 use serde_json::Value;
 use std::alloc::Global;
@@ -29,13 +30,8 @@ pub(crate) fn add_bytes_of(
             let [text, times] = parts.as_slice() else {
                 return Err(CaseError::Malformed);
             };
-            let text = text.as_str().ok_or(CaseError::Malformed)?;
-            add_repeated(
-                alloc,
-                bytes,
-                text,
-                times.as_u64().ok_or(CaseError::Malformed)?,
-            )
+            let text = text_in(text)?;
+            add_repeated(alloc, bytes, text, count_in(times)?)
         }
         _ => Err(CaseError::Malformed),
     }
@@ -116,7 +112,7 @@ fn framer_of(alloc: Global, limit: Option<&Value>) -> Result<Framer, CaseError> 
     match limit {
         None => Ok(Framer::new(alloc)),
         Some(limit) => {
-            let limit = limit.as_u64().ok_or(CaseError::Malformed)?;
+            let limit = count_in(limit)?;
             Ok(Framer::with_limit(alloc, limit as usize))
         }
     }

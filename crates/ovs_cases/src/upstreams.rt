@@ -8,12 +8,12 @@ ghost use Rattle.ovs_upstream.specs.Hearing.{links_in};
 use crate::case::{list, text, word};
 use crate::case_error::{CaseError, is_refused, is_so};
 use crate::folds::{shortened, spelled_out};
-use crate::ids::commit;
 use crate::messages::text_of;
 use crate::sources::link_text;
 use ovs_authority::Response;
+use ovs_case_lines::commit;
 use ovs_links::Link;
-use ovs_types::Schema;
+use ovs_types::{NoMemory, Schema};
 use ovs_upstream::{UpError, UpEvent, UpSession};
 use ovs_wire::{Message, MessageError};
 use serde_json::Value;
@@ -24,7 +24,7 @@ pub(crate) fn message_of(alloc: Global, value: &Value) -> Result<Message, CaseEr
     let text = spelled_out(alloc, value)?;
     match Message::read(alloc, text.as_bytes()) {
         Ok(message) => Ok(message),
-        Err(MessageError::NoMemory) => Err(CaseError::NoMemory),
+        Err(MessageError::NoMemory) => Err(NoMemory.into()),
         Err(_) => Err(CaseError::Malformed),
     }
 }

@@ -3,6 +3,7 @@
 use crate::node_case_error::NodeCaseError;
 use crate::{engine, many, node, sendings, tier, worker};
 use log::Log;
+use ovs_case_lines::{CaseTable, LineError, count_in, list_in};
 use ovs_links::Step;
 use ovs_node::Opened;
 use ovs_types::Schema;
@@ -14,12 +15,10 @@ use std::net::{Net, TcpListener, TcpStream};
 use std::sync::Wait;
 use std::thread::Threads;
 
-/// What the lines are asked of: a host, and the schema that is in use.
+/// The host on which the lines are tried.
 #[derive(Drop)]
-pub(crate) struct Table<R: Drop> {
-    rt: R,
-    alloc: Global,
-    schema: Option<Box<Schema>>,
+pub(crate) struct NodeCases<R> {
+    pub(crate) rt: R,
 }
 
 impl<
@@ -32,60 +31,34 @@ impl<
         + Drop
         + Send
         + Sync,
-> Table<R> {
-    /// No schema is in use yet.
-    pub(crate) fn new(rt: R, alloc: Global) -> Table<R> {
-        Table {
-            rt,
-            alloc,
-            schema: None,
-        }
-    }
+> CaseTable for NodeCases<R> {
+    type Error = NodeCaseError;
 
-    /// What a line answers, with a fault as text.
-    pub(crate) fn told(&mut self, line: &str) -> Result<String, NodeCaseError> {
-        match self.answer(line) {
-            Ok(answer) => Ok(answer),
-            Err(fault) => Ok(String::from_str(self.alloc, fault.word())?),
-        }
-    }
-
-    fn answer(&mut self, line: &str) -> Result<String, NodeCaseError> {
-        let line = Value::from_str(self.alloc, line)?;
-        let parts = line.as_array().ok_or(NodeCaseError::Malformed)?.as_slice();
-        match parts {
-            [word, json] if word.as_str() == Some("use") => {
-                self.schema = Some(read_schema(self.alloc, json)?);
-                Ok(String::from_str(self.alloc, "ok")?)
-            }
-            _ => self.of_schema(
-                self.schema.as_deref().ok_or(NodeCaseError::Malformed)?,
-                parts,
-            ),
-        }
-    }
-
-    // The lines that are asked of the schema in use.
-    fn of_schema(&self, schema: &Schema, parts: &[Value]) -> Result<String, NodeCaseError> {
-        let (rt, alloc) = (&self.rt, self.alloc);
-        let (word, arguments) = parts.split_first().ok_or(NodeCaseError::Malformed)?;
-        match (word.as_str().ok_or(NodeCaseError::Malformed)?, arguments) {
+    fn answer(
+        &self,
+        alloc: Global,
+        schema: Option<&Schema>,
+        case: &[Value],
+    ) -> Result<String, NodeCaseError> {
+        let rt = &self.rt;
+        let schema = schema.ok_or(LineError::Malformed)?;
+        let (word, arguments) = case.split_first().ok_or(LineError::Malformed)?;
+        match (word.as_str().ok_or(LineError::Malformed)?, arguments) {
             ("node", [views, ends]) => {
-                let ends = ends.as_array().ok_or(NodeCaseError::Malformed)?.as_slice();
-                let scene = sendings::Scene::Listed(ends);
-                of_node(rt, alloc, schema, count(views)? as usize, scene)
+                let scene = sendings::Scene::Listed(list_in(ends)?);
+                of_node(rt, alloc, schema, count_in(views)? as usize, scene)
             }
             ("publish", [views, steps]) => {
-                let scene = sendings::Scene::Many(count(steps)?);
-                of_node(rt, alloc, schema, count(views)? as usize, scene)
+                let scene = sendings::Scene::Many(count_in(steps)?);
+                of_node(rt, alloc, schema, count_in(views)? as usize, scene)
             }
-            ("store", [steps]) => many::stored(alloc, schema, count(steps)?),
-            ("make", [steps]) => many::made(alloc, schema, count(steps)?),
+            ("store", [steps]) => many::stored(alloc, schema, count_in(steps)?),
+            ("make", [steps]) => many::made(alloc, schema, count_in(steps)?),
             ("worker", [change, sessions, piece, talk]) => {
                 let scene = worker::Scene {
                     change,
-                    sessions: count(sessions)?,
-                    piece: count(piece)? as usize,
+                    sessions: count_in(sessions)?,
+                    piece: count_in(piece)? as usize,
                     talk,
                 };
                 of_worker(rt, alloc, schema, scene)
@@ -101,17 +74,6 @@ impl<
             _ => Err(NodeCaseError::Malformed),
         }
     }
-}
-
-fn read_schema(alloc: Global, json: &Value) -> Result<Box<Schema>, NodeCaseError> {
-    match Schema::read(alloc, json) {
-        Ok(schema) => Ok(Box::new(alloc, schema)?),
-        Err(_) => Err(NodeCaseError::Malformed),
-    }
-}
-
-fn count(json: &Value) -> Result<u64, NodeCaseError> {
-    json.as_u64().ok_or(NodeCaseError::Malformed)
 }
 
 // What a node answers, whose history is opened here.

@@ -10,6 +10,7 @@ use crate::node_case_error::NodeCaseError;
 use crate::outcome::{Question, shown};
 use crate::readers::request_text;
 use crate::upstreams::{ScriptedUpstream, UpstreamScript, number_in, read_sessions};
+use ovs_case_lines::{count_in, list_in};
 use ovs_json::Text;
 use ovs_links::Step;
 use ovs_node::{
@@ -69,7 +70,7 @@ impl Scene {
             _ => return Err(NodeCaseError::Malformed),
         };
         let mut sessions = Vec::new(alloc);
-        for upstream in list(upstreams)? {
+        for upstream in list_in(upstreams)? {
             sessions.push(read_sessions(alloc, schema, upstream)?)?;
         }
         let (until, readers) = read_readers(until)?;
@@ -93,10 +94,6 @@ impl Scene {
     }
 }
 
-fn list(json: &Value) -> Result<&[Value], NodeCaseError> {
-    Ok(json.as_array().ok_or(NodeCaseError::Malformed)?.as_slice())
-}
-
 // The number of the commit that readers are to see, 0 where null stands, and how many readers there are, where that stands beside it.
 fn read_readers(json: &Value) -> Result<(u64, Option<usize>), NodeCaseError> {
     let Some(parts) = json.as_array() else {
@@ -105,8 +102,7 @@ fn read_readers(json: &Value) -> Result<(u64, Option<usize>), NodeCaseError> {
     let [until, readers] = parts.as_slice() else {
         return Err(NodeCaseError::Malformed);
     };
-    let readers = readers.as_u64().ok_or(NodeCaseError::Malformed)?;
-    Ok((number_in(until)?, Some(readers as usize)))
+    Ok((number_in(until)?, Some(count_in(readers)? as usize)))
 }
 
 // A select, or a number: how many steps come after the first so many.
@@ -127,9 +123,9 @@ fn read_questions(
     lists: &Value,
 ) -> Result<Vec<Vec<Question>>, NodeCaseError> {
     let mut views = Vec::new(alloc);
-    for questions in list(lists)? {
+    for questions in list_in(lists)? {
         let mut read = Vec::new(alloc);
-        for question in list(questions)? {
+        for question in list_in(questions)? {
             read.push(read_question(alloc, schema, question)?)?;
         }
         views.push(read)?;

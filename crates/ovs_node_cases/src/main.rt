@@ -1,7 +1,5 @@
 //! Runs a table of nodes: a line of standard input says what is said to a node, and what is to come of it. What differs is
 //! printed, and at last how many lines were as expected.
-//!
-//! A line is `["WHAT", ARGUMENT, ..] => ANSWER`. Empty lines and lines that begin with `#` are passed over.
 #![tactic(auto)]
 
 mod case;
@@ -9,9 +7,7 @@ mod client;
 mod engine;
 mod fold;
 mod hosts;
-mod ids;
 mod jobs;
-mod links;
 mod many;
 mod memory_threads;
 mod node;
@@ -25,31 +21,10 @@ mod tier;
 mod upstreams;
 mod worker;
 
-use case::Table;
-use std::io::{self, BufRead, BufReader};
+use case::NodeCases;
+use ovs_case_lines::run_cases;
+use std::io;
 
 fn main(rt: HostRuntime) -> io::Result<()> {
-    let alloc = rt.alloc();
-    let mut table = Table::new(rt, alloc);
-    let mut right = 0u64;
-    let mut wrong = 0u64;
-    for line in BufReader::new(alloc, rt.reader())?.lines(alloc) {
-        let line = line?;
-        let line = line.as_str().trim();
-        if line.is_empty() || line.starts_with('#') {
-            continue;
-        }
-        let (case, want) = line.split_once(" => ").unwrap_or((line, "ok"));
-        let Ok(answer) = table.told(case) else {
-            return Err(io::ErrorKind::OutOfMemory.into());
-        };
-        if answer.as_str() == want {
-            right = right.saturating_add(1);
-        } else {
-            wrong = wrong.saturating_add(1);
-            println!(rt; "{line}\n  but: {answer}")?;
-        }
-    }
-    println!(rt; "{right} as expected, {wrong} not")?;
-    Ok(())
+    run_cases(&rt, rt.alloc(), &NodeCases { rt })
 }

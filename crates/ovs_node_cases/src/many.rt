@@ -4,8 +4,8 @@ ghost use Rattle.std.specs.Prelude.{◌≡◌, IfOk};
 ghost use Rattle.ovs_links.specs.Sets.{IsOfTables};
 ghost use Rattle.ovs_links.specs.Store.{tables_of};
 
-use crate::links::read_link;
 use crate::node_case_error::NodeCaseError;
+use ovs_case_lines::{read_json, read_link};
 use ovs_links::{Link, LinkStore};
 use ovs_types::{Schema, TxnId};
 use serde_json::Value;
@@ -28,7 +28,7 @@ fn change_after(alloc: Global, commits: u64) -> Result<Value, NodeCaseError> {
     let text = format!(in alloc;
         "{{\"Port\":{{\"{ROW}\":{{\"{verb}\":{{\"name\":\"p{commits}\"}}}}}}}}"
     )?;
-    Ok(Value::from_str(alloc, text.as_str())?)
+    Ok(read_json(alloc, text.as_str())?)
 }
 
 /// The link that comes after so many commits.
@@ -41,7 +41,7 @@ pub(crate) fn link_after(
 {
     let (prev, id) = (id_after(commits), id_after(commits.saturating_add(1)));
     let change = change_after(alloc, commits)?;
-    read_link(alloc, schema, prev, id, &change)
+    Ok(read_link(alloc, schema, prev, id, &change)?)
 }
 
 /// Makes so many links, and does nothing with them.

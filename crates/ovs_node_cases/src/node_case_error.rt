@@ -1,78 +1,61 @@
 //! Why a line has no answer.
 
+use ovs_case_lines::LineError;
 use ovs_node::{Gone, NodeError, ViewError};
 use ovs_node_threads::RunError;
 use ovs_server::ServerError;
 use ovs_types::NoMemory;
-use std::alloc::{AllocError, AllocFailed};
+use std::alloc::AllocError;
 use std::io;
+use thiserror::Error;
 
-#[derive(Clone, Copy, Debug, PartialEq, Eq)]
+#[derive(Clone, Copy, Debug, Error)]
 pub(crate) enum NodeCaseError {
+    /// The line can't be read.
+    #[error(transparent)]
+    Line(#[from] LineError),
     /// The line asks for nothing that is known here.
+    #[error("no such case")]
     Malformed,
     /// A node isn't made of so many parts.
+    #[error("bad count")]
     BadCount,
-    /// A view has no place, or nothing to read.
+    /// A view has no place.
+    #[error("no view")]
     NoView,
+    /// There is nothing to read by a view.
+    #[error(transparent)]
+    Gone(#[from] Gone),
+    /// A view gives no answer.
+    #[error(transparent)]
+    View(#[from] ViewError),
     /// What an end waited for didn't come, or a link wasn't sent.
+    #[error("not sent")]
     Unsent,
     /// An end didn't come back, or what it sent wasn't taken.
+    #[error("not drained")]
     NotDrained,
+    /// The node's threads couldn't be run to their ends.
+    #[error(transparent)]
+    NotRun(#[from] RunError),
     /// The system refuses what a node over sockets needs.
+    #[error("no sockets")]
     System,
     /// A client's connection failed, or a node closed it.
+    #[error("no connection")]
     Disconnected,
     /// What a node answered isn't of the protocol.
+    #[error("not of the protocol")]
     Garbled,
     /// What a client waited for was never shown.
+    #[error("not shown")]
     NotShown,
     /// Memory ran out.
-    NoMemory,
-}
-
-impl NodeCaseError {
-    pub(crate) fn word(self) -> &'static str {
-        match self {
-            NodeCaseError::Malformed => "no such case",
-            NodeCaseError::BadCount => "bad count",
-            NodeCaseError::NoView => "no view",
-            NodeCaseError::Unsent => "not sent",
-            NodeCaseError::NotDrained => "not drained",
-            NodeCaseError::System => "no sockets",
-            NodeCaseError::Disconnected => "no connection",
-            NodeCaseError::Garbled => "not of the protocol",
-            NodeCaseError::NotShown => "not shown",
-            NodeCaseError::NoMemory => "no memory",
-        }
-    }
-}
-
-impl From<NoMemory> for NodeCaseError {
-    fn from(_error: NoMemory) -> NodeCaseError {
-        NodeCaseError::NoMemory
-    }
-}
-
-impl From<AllocError> for NodeCaseError {
-    fn from(_error: AllocError) -> NodeCaseError {
-        NodeCaseError::NoMemory
-    }
-}
-
-impl<T: Drop> From<AllocFailed<T>> for NodeCaseError {
-    fn from(_error: AllocFailed<T>) -> NodeCaseError {
-        NodeCaseError::NoMemory
-    }
-}
-
-impl From<RunError> for NodeCaseError {
-    fn from(error: RunError) -> NodeCaseError {
-        match error {
-            RunError::NoMemory => NodeCaseError::NoMemory,
-            RunError::NotBack => NodeCaseError::NotDrained,
-        }
-    }
+    #[error("no memory")]
+    NoMemory(#[from] NoMemory),
+    /// A growth was refused.
+    #[error("no memory")]
+    Refused(#[from(alloc)] AllocError),
 }
 
 impl From<NodeError> for NodeCaseError {
@@ -80,7 +63,7 @@ impl From<NodeError> for NodeCaseError {
         match error {
             NodeError::BadCount => NodeCaseError::BadCount,
             NodeError::NoPlace => NodeCaseError::NoView,
-            NodeError::NoMemory => NodeCaseError::NoMemory,
+            NodeError::NoMemory => NodeCaseError::NoMemory(NoMemory),
         }
     }
 }
@@ -92,7 +75,7 @@ impl From<ServerError> for NodeCaseError {
             ServerError::Node(error) => NodeCaseError::from(error),
             ServerError::NoSchema(_) => NodeCaseError::Disconnected,
             ServerError::NotBack => NodeCaseError::NotDrained,
-            ServerError::NoMemory => NodeCaseError::NoMemory,
+            ServerError::NoMemory => NodeCaseError::NoMemory(NoMemory),
         }
     }
 }
@@ -100,30 +83,5 @@ impl From<ServerError> for NodeCaseError {
 impl From<io::Error> for NodeCaseError {
     fn from(_error: io::Error) -> NodeCaseError {
         NodeCaseError::Disconnected
-    }
-}
-
-impl From<Gone> for NodeCaseError {
-    fn from(_error: Gone) -> NodeCaseError {
-        NodeCaseError::NoView
-    }
-}
-
-impl From<ViewError> for NodeCaseError {
-    fn from(error: ViewError) -> NodeCaseError {
-        match error {
-            ViewError::Gone | ViewError::Epoch => NodeCaseError::NoView,
-            ViewError::NoMemory => NodeCaseError::NoMemory,
-        }
-    }
-}
-
-impl From<serde_json::Error> for NodeCaseError {
-    fn from(error: serde_json::Error) -> NodeCaseError {
-        if error.is_memory() {
-            NodeCaseError::NoMemory
-        } else {
-            NodeCaseError::Malformed
-        }
     }
 }

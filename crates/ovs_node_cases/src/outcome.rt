@@ -1,7 +1,7 @@
 //! What became of a node, as text.
 
-use crate::ids::letter;
 use crate::node_case_error::NodeCaseError;
+use ovs_case_lines::letter;
 use ovs_links::Settled;
 use ovs_node::{Board, FeedName, NodeName, Report, Told, View, teach};
 use ovs_query::Select;

@@ -3,8 +3,8 @@
 ghost use Rattle.std.specs.Prelude.{◌≡◌, [], ℕ, None, true};
 ghost use Rattle.ovs_worker.specs.Connections.{out_of};
 
-use crate::ids::last_number_in;
 use crate::node_case_error::NodeCaseError;
+use ovs_case_lines::last_number_in;
 use ovs_session::Ended;
 use ovs_worker::{Connections, Poller, Ready, Timeout, Wake, Wakeup};
 use serde_json::Value;

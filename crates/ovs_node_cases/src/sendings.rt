@@ -2,9 +2,9 @@
 
 ghost use Rattle.std.specs.Prelude.{◌≡◌};
 
-use crate::links::{id_of, read_link};
 use crate::many::link_after;
 use crate::node_case_error::NodeCaseError;
+use ovs_case_lines::{commit_in, list_in, read_link};
 use ovs_node::{NodeLink, NodeName};
 use ovs_types::{Schema, TxnId};
 use serde_json::Value;
@@ -25,16 +25,15 @@ fn read_sending<K: NodeName>(
 ) -> Result<LinkSending<K>, NodeCaseError>
     requires schema { schema.now ≡ K.schema }
 {
-    let [after, prev, id, change] = json.as_array().ok_or(NodeCaseError::Malformed)?.as_slice()
-    else {
+    let [after, prev, id, change] = list_in(json)? else {
         return Err(NodeCaseError::Malformed);
     };
     let after = if after.is_null() {
         None
     } else {
-        Some(id_of(after)?)
+        Some(commit_in(after)?)
     };
-    let (prev, id) = (id_of(prev)?, id_of(id)?);
+    let (prev, id) = (commit_in(prev)?, commit_in(id)?);
     let link = read_link(alloc, schema, prev, id, change)?;
     Ok(LinkSending {
         after,
@@ -51,7 +50,7 @@ fn read_sendings<K: NodeName>(
     requires schema { schema.now ≡ K.schema }
 {
     let mut sendings = Vec::new(alloc);
-    for sending in json.as_array().ok_or(NodeCaseError::Malformed)?.as_slice() {
+    for sending in list_in(json)? {
         sendings.push(read_sending(alloc, schema, sending)?)?;
     }
     Ok(sendings)

@@ -1,6 +1,7 @@
 //! What the sessions of a worker send, and what is to come of it.
 
 use crate::node_case_error::NodeCaseError;
+use ovs_case_lines::list_in;
 use serde_json::Value;
 use std::alloc::Global;
 use std::sync::atomic::{AtomicBool, AtomicU64, Ordering};
@@ -51,8 +52,7 @@ fn add_exchange(
     text: &mut String,
     wanted: &mut String,
 ) -> Result<(), NodeCaseError> {
-    let [method, params, result] = json.as_array().ok_or(NodeCaseError::Malformed)?.as_slice()
-    else {
+    let [method, params, result] = list_in(json)? else {
         return Err(NodeCaseError::Malformed);
     };
     text.push_str(request_of(alloc, number, method, params)?.as_str())?;
@@ -64,7 +64,7 @@ fn add_exchange(
 fn read_talk(alloc: Global, json: &Value) -> Result<(String, String), NodeCaseError> {
     let mut text = String::new(alloc);
     let mut wanted = String::new(alloc);
-    let exchanges = json.as_array().ok_or(NodeCaseError::Malformed)?.as_slice();
+    let exchanges = list_in(json)?;
     for (number, json) in exchanges.iter().enumerate() {
         add_exchange(alloc, number, json, &mut text, &mut wanted)?;
     }

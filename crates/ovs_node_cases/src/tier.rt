@@ -2,10 +2,10 @@
 //! what both nodes say at their ends.
 
 use crate::client::RequestClient;
-use crate::links::id_of;
 use crate::node_case_error::NodeCaseError;
 use log::{LevelFilter, Log, Logged};
 use ovs_address::Address;
+use ovs_case_lines::{commit_in, text_in};
 use ovs_data::{RowId, TxnId};
 use ovs_server::{
     ExitReport, Listening, NodeRuntime, NodeServer, RelayPlan, ServerError, SourcePlan, Stop,
@@ -40,10 +40,9 @@ impl Scene {
         let [commit, row, insert, select] = parts else {
             return Err(NodeCaseError::Malformed);
         };
-        let row = row.as_str().ok_or(NodeCaseError::Malformed)?;
         Ok(Scene {
-            first_commit: id_of(commit)?,
-            first_row: RowId::read(row).or(Err(NodeCaseError::Malformed))?,
+            first_commit: commit_in(commit)?,
+            first_row: RowId::read(text_in(row)?).or(Err(NodeCaseError::Malformed))?,
             insert: insert.to_string(alloc)?,
             select: select.to_string(alloc)?,
         })

@@ -1,14 +1,14 @@
 //! What an upstream says over memory, session by session.
 
-use crate::ids::{number_of, text_of};
 use crate::node_case_error::NodeCaseError;
+use ovs_case_lines::{commit_in, count_in, list_in, number_of, text_in};
 use ovs_node_threads::Connector;
 use ovs_types::{Schema, TxnId};
 use ovs_wire::MAX_MESSAGE_BYTES;
 use serde_json::Value;
 use std::alloc::Global;
 use std::collections::VecDeque;
-use std::io::{self, Read, Write};
+use std::io::{self, Read, Sink, sink};
 use std::sync::Arc;
 use std::sync::atomic::{AtomicU64, Ordering};
 use std::thread;
@@ -42,17 +42,17 @@ fn wait_for(seen: &AtomicU64, number: u64) -> bool {
 
 // `[KNOWN, ID, CHANGES]`, the answer to a monitor request, or `[ID, CHANGES]`, what comes after it.
 fn message_text(alloc: Global, json: &Value) -> Result<String, NodeCaseError> {
-    match json.as_array().ok_or(NodeCaseError::Malformed)?.as_slice() {
+    match list_in(json)? {
         [known, id, changes] => {
             let known = known.as_bool().ok_or(NodeCaseError::Malformed)?;
-            let id = id_in(id)?;
+            let id = commit_in(id)?.to_text(alloc)?;
             let changes = changes.to_string(alloc)?;
             Ok(format!(in alloc;
                 "{{\"id\":\"monitor\",\"result\":[{known},\"{id}\",{changes}],\"error\":null}}"
             )?)
         }
         [id, changes] => {
-            let id = id_in(id)?;
+            let id = commit_in(id)?.to_text(alloc)?;
             let changes = changes.to_string(alloc)?;
             Ok(format!(in alloc;
                 "{{\"method\":\"update3\",\"params\":[\"relay\",\"{id}\",{changes}],\"id\":null}}"
@@ -62,24 +62,19 @@ fn message_text(alloc: Global, json: &Value) -> Result<String, NodeCaseError> {
     }
 }
 
-// How the id is written that a letter stands for.
-fn id_in(json: &Value) -> Result<&'static str, NodeCaseError> {
-    text_of(json.as_str().ok_or(NodeCaseError::Malformed)?)
-}
-
 // The number of the commit that a reader is to have seen; 0 where null stands.
 pub(crate) fn number_in(json: &Value) -> Result<u64, NodeCaseError> {
     if json.is_null() {
         return Ok(0);
     }
-    number_of(json.as_str().ok_or(NodeCaseError::Malformed)?)
+    Ok(number_of(text_in(json)?)?)
 }
 
 // Behind how many bytes a session breaks off: at its end where nothing stands there.
 fn bytes_in(parts: &[Value]) -> Result<usize, NodeCaseError> {
     match parts {
         [] => Ok(usize::MAX),
-        [bytes] => Ok(bytes.as_u64().ok_or(NodeCaseError::Malformed)? as usize),
+        [bytes] => Ok(count_in(bytes)? as usize),
         _ => Err(NodeCaseError::Malformed),
     }
 }
@@ -91,21 +86,13 @@ fn read_session(
     schema: &Schema,
     json: &Value,
 ) -> Result<UpstreamScript, NodeCaseError> {
-    let [after, until, messages, rest @ ..] = json
-        .as_array()
-        .ok_or(NodeCaseError::Malformed)?
-        .as_slice()
-    else {
+    let [after, until, messages, rest @ ..] = list_in(json)? else {
         return Err(NodeCaseError::Malformed);
     };
     let bytes = bytes_in(rest)?;
     let schema = schema.to_json()?.to_string(alloc)?;
     let mut text = format!(in alloc; "{{\"id\":\"schema\",\"result\":{schema},\"error\":null}}")?;
-    for message in messages
-        .as_array()
-        .ok_or(NodeCaseError::Malformed)?
-        .as_slice()
-    {
+    for message in list_in(messages)? {
         let message = message_text(alloc, message)?;
         text.push_str(message.as_str())?;
     }
@@ -124,7 +111,7 @@ pub(crate) fn read_sessions(
     json: &Value,
 ) -> Result<Vec<UpstreamScript>, NodeCaseError> {
     let mut sessions = Vec::new(alloc);
-    for session in json.as_array().ok_or(NodeCaseError::Malformed)?.as_slice() {
+    for session in list_in(json)? {
         sessions.push(read_session(alloc, schema, session)?)?;
     }
     Ok(sessions)
@@ -155,20 +142,6 @@ impl Read for Saying {
     }
 }
 
-/// What is said to an upstream, which isn't heard.
-#[derive(Drop)]
-pub(crate) struct Unheard;
-
-impl Write for Unheard {
-    fn write(&mut self, buf: &[u8]) -> io::Result<usize> {
-        Ok(buf.len())
-    }
-
-    fn flush(&mut self) -> io::Result<()> {
-        Ok(())
-    }
-}
-
 /// Connections with one upstream.
 #[derive(Drop)]
 pub(crate) struct ScriptedUpstream {
@@ -189,7 +162,8 @@ impl ScriptedUpstream {
 impl Connector for ScriptedUpstream {
     type In = Saying;
 
-    type Out = Unheard;
+    // What is said to an upstream isn't heard.
+    type Out = Sink;
 
     ghost admits = { λ _ _. Unit {0} };
 
@@ -204,13 +178,13 @@ impl Connector for ScriptedUpstream {
         }
     }
 
-    fn open(&mut self, _asked: TxnId) -> Option<(Saying, Unheard)> {
+    fn open(&mut self, _asked: TxnId) -> Option<(Saying, Sink)> {
         let session = self.sessions.pop_front()?;
         let reader = Saying {
             session,
             given: 0,
             seen: self.seen.clone().ok()?,
         };
-        Some((reader, Unheard))
+        Some((reader, sink()))
     }
 }

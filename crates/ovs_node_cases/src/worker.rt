@@ -5,11 +5,10 @@ ghost use Rattle.ovs_node.specs.Nodes.{OpenNodeInStep};
 ghost use Rattle.ovs_node.specs.Ledger.{IsFresh};
 
 use crate::hosts::WorkerHost;
-use crate::ids::commit;
-use crate::links::read_link;
 use crate::node_case_error::NodeCaseError;
 use crate::poller::MemoryPoller;
 use crate::sessions::{ReaderScript, read_scripts};
+use ovs_case_lines::{commit, read_link};
 use ovs_desk::RelayDesk;
 use ovs_json::Text;
 use ovs_links::Step;

@@ -7,6 +7,7 @@ use crate::session_case_error::SessionCaseError;
 use crate::stand_in::{StandIn, WHO, is_quiet};
 use crate::talks::TrialTalk;
 use crate::trials::{Trial, TrialOutcome, kind_of, tried};
+use ovs_case_lines::list_in;
 use ovs_desk::RelayDesk;
 use ovs_json::Text;
 use ovs_node::{NodeName, View};
@@ -240,11 +241,11 @@ pub(crate) fn told<K: NodeName>(
     }
     let kind: ErrorKind = kind_of(scene.kind)?;
     let talk = TrialTalk::read(alloc, scene.parts)?;
-    let answers = scene.answers.as_array().ok_or(SessionCaseError::Malformed)?;
+    let answers = list_in(scene.answers)?;
     let mut trial = ReaderTrial {
         view: Some(view),
         talk: &talk,
-        answers: answers.as_slice(),
+        answers,
     };
     tried(alloc, &mut trial, scene.piece, kind)
 }

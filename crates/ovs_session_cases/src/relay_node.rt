@@ -4,9 +4,9 @@ ghost use Rattle.std.specs.Prelude.{◌≡◌, ◌≤◌};
 ghost use Rattle.ovs_node.specs.Nodes.{OpenNodeInStep};
 ghost use Rattle.ovs_node.specs.Ledger.{IsFresh};
 
-use crate::links::{id_of_text, read_link};
 use crate::reader_trials;
 use crate::session_case_error::SessionCaseError;
+use ovs_case_lines::{commit, read_link};
 use ovs_links::Step;
 use ovs_node::{FeedName, Handle, NodeLink, NodeName, OpenNode, Opened, Parts};
 use ovs_types::{Schema, TxnId};
@@ -14,9 +14,6 @@ use serde_json::Value;
 use std::alloc::Global;
 use std::marker::Brand;
 use std::sync::Wait;
-
-// The id of the commit.
-const COMMIT: &str = "aaaaaaaa-aaaa-4aaa-8aaa-aaaaaaaaaaaa";
 
 /// What comes of a scene, where this history was opened and the commit makes this change.
 pub(crate) fn opened<K: NodeName, R: Wait>(
@@ -29,7 +26,7 @@ pub(crate) fn opened<K: NodeName, R: Wait>(
 ) -> Result<String, SessionCaseError>
     requires name { (opened.seen.book ≡ K.book) × (schema.now ≡ K.schema) }
 {
-    let id = id_of_text(COMMIT)?;
+    let id = commit("a")?;
     let link = read_link(alloc, schema, TxnId::zero(), id, change)?;
     let link = NodeLink::new(link);
     let node = OpenNode::<K, Handle<K, &R>>::new(alloc, rt, schema, opened, 1, 1)?;

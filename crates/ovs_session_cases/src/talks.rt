@@ -1,6 +1,7 @@
 //! What is said in a session, part by part, and what is to be written of it.
 
 use crate::session_case_error::SessionCaseError;
+use ovs_case_lines::list_in;
 use serde_json::Value;
 use std::alloc::Global;
 
@@ -24,11 +25,7 @@ pub(crate) struct TrialTalk {
 
 // Puts the texts of these messages behind another.
 fn add_texts(alloc: Global, json: &Value, text: &mut String) -> Result<(), SessionCaseError> {
-    for message in json
-        .as_array()
-        .ok_or(SessionCaseError::Malformed)?
-        .as_slice()
-    {
+    for message in list_in(json)? {
         text.push_str(message.to_string(alloc)?.as_str())?;
     }
     Ok(())
@@ -46,11 +43,7 @@ impl TrialTalk {
 
     // `[[MESSAGE, ..], [MESSAGE, ..]]`: what a part says, if anything, and what is to be written then.
     fn read_part(&mut self, alloc: Global, json: &Value) -> Result<(), SessionCaseError> {
-        let [said, wanted] = json
-            .as_array()
-            .ok_or(SessionCaseError::Malformed)?
-            .as_slice()
-        else {
+        let [said, wanted] = list_in(json)? else {
             return Err(SessionCaseError::Malformed);
         };
         let mut text = String::new(alloc);
@@ -67,11 +60,7 @@ impl TrialTalk {
             parts: Vec::new(alloc),
             wanted: String::new(alloc),
         };
-        for part in json
-            .as_array()
-            .ok_or(SessionCaseError::Malformed)?
-            .as_slice()
-        {
+        for part in list_in(json)? {
             talk.read_part(alloc, part)?;
         }
         talk.add_part(String::new(alloc))?;

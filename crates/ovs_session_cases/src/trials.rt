@@ -2,6 +2,7 @@
 
 use crate::devices::{Called, Calls, DeviceSide, Manner, Mark};
 use crate::session_case_error::SessionCaseError;
+use ovs_case_lines::text_in;
 use ovs_links::Link;
 use ovs_session::Ended;
 use serde_json::Value;
@@ -46,7 +47,7 @@ enum Found {
 
 /// What an error is told by a device's call.
 pub(crate) fn kind_of(json: &Value) -> Result<ErrorKind, SessionCaseError> {
-    match json.as_str().ok_or(SessionCaseError::Malformed)? {
+    match text_in(json)? {
         "Interrupted" => Ok(ErrorKind::Interrupted),
         "WouldBlock" => Ok(ErrorKind::WouldBlock),
         "TimedOut" => Ok(ErrorKind::TimedOut),

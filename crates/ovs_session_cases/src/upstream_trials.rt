@@ -3,12 +3,12 @@
 use crate::devices::{
     DeviceExchange, Giving, Manner, TakingDevice, called_of_reader, called_of_writer,
 };
-use crate::links::id_of_text;
 use crate::session_case_error::SessionCaseError;
 use crate::stand_in::{WHO, ask_for_lock, is_quiet};
 use crate::talks::TrialTalk;
 use crate::trials::{Trial, TrialOutcome, kind_of, tried};
 use ovs_authority::{Ask, Authority, Verb};
+use ovs_case_lines::{commit_in, count_in};
 use ovs_desk::{BadReply, RelayDesk, SourceMessage};
 use ovs_follow::{
     HandlerCall, LinkSink, UpstreamEnd, UpstreamHandler, follow_upstream, note_found, note_heard,
@@ -204,7 +204,7 @@ fn run_session(
         ..
     } = sink;
     if is_short {
-        return Err(SessionCaseError::NoMemory);
+        return Err(NoMemory.into());
     }
     let (written, writes) = called_of_writer(writer);
     Ok(TrialOutcome {
@@ -244,14 +244,14 @@ pub(crate) fn told(
     let [kind, piece, asked, operations, parts] = parts else {
         return Err(SessionCaseError::Malformed);
     };
-    let piece = piece.as_u64().ok_or(SessionCaseError::Malformed)? as usize;
+    let piece = count_in(piece)? as usize;
     if piece == 0 {
         return Err(SessionCaseError::Malformed);
     }
     let talk = TrialTalk::read(alloc, parts)?;
     let mut trial = UpstreamTrial {
         schema,
-        asked: id_of_text(asked.as_str().ok_or(SessionCaseError::Malformed)?)?,
+        asked: commit_in(asked)?,
         operations,
         talk: &talk,
     };

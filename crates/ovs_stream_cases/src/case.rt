@@ -6,70 +6,40 @@ ghost use Rattle.ovs_links.specs.Sets.{IsOfTables};
 
 use crate::fault::Fault;
 use crate::relay::{RelayEnd, relayed};
+use ovs_case_lines::{CaseTable, LineError, commit_in, count_in, list_in};
 use ovs_links::Link;
 use ovs_rows::Change;
-use ovs_types::{Schema, TxnId};
+use ovs_types::Schema;
 use serde_json::Value;
 use std::alloc::Global;
 use std::sync::Wait;
 use std::thread::Threads;
 
-/// What the lines are asked of: a host, and the schema that is in use.
+/// The host on which the lines are tried.
 #[derive(Drop)]
-pub(crate) struct Table<R: Drop> {
-    rt: R,
-    alloc: Global,
-    schema: Option<Box<Schema>>,
+pub(crate) struct StreamCases<R> {
+    pub(crate) rt: R,
 }
 
-impl<R: Threads + Wait + Drop + Sync> Table<R> {
-    /// No schema is in use yet.
-    pub(crate) fn new(rt: R, alloc: Global) -> Table<R> {
-        Table {
-            rt,
-            alloc,
-            schema: None,
-        }
-    }
+impl<R: Threads + Wait + Sync> CaseTable for StreamCases<R> {
+    type Error = Fault;
 
-    /// What a line answers, with a fault as text.
-    pub(crate) fn told(&mut self, line: &str) -> Result<String, Fault> {
-        match self.answer(line) {
-            Ok(answer) => Ok(answer),
-            Err(fault) => Ok(String::from_str(self.alloc, fault.word())?),
-        }
-    }
-
-    fn answer(&mut self, line: &str) -> Result<String, Fault> {
-        let line = Value::from_str(self.alloc, line)?;
-        match line.as_array().ok_or(Fault::Malformed)?.as_slice() {
-            [word, json] if word.as_str() == Some("use") => {
-                self.schema = Some(read_schema(self.alloc, json)?);
-                Ok(String::from_str(self.alloc, "ok")?)
-            }
+    fn answer(
+        &self,
+        alloc: Global,
+        schema: Option<&Schema>,
+        case: &[Value],
+    ) -> Result<String, Fault> {
+        let schema = schema.ok_or(LineError::Malformed)?;
+        match case {
             [word, connections, links] if word.as_str() == Some("stream") => {
-                let schema = self.schema.as_deref().ok_or(Fault::Malformed)?;
-                let connections = connections.as_u64().ok_or(Fault::Malformed)?;
-                let links = read_links(self.alloc, schema, links)?;
-                let relayed = relayed(&self.rt, self.alloc, schema, links, connections)?;
-                held(self.alloc, &relayed)
+                let connections = count_in(connections)?;
+                let links = read_links(alloc, schema, links)?;
+                let relayed = relayed(&self.rt, alloc, schema, links, connections)?;
+                held(alloc, &relayed)
             }
             _ => Err(Fault::Malformed),
         }
-    }
-}
-
-fn read_schema(alloc: Global, json: &Value) -> Result<Box<Schema>, Fault> {
-    match Schema::read(alloc, json) {
-        Ok(schema) => Ok(Box::new(alloc, schema)?),
-        Err(_) => Err(Fault::Malformed),
-    }
-}
-
-fn id_in(json: &Value) -> Result<TxnId, Fault> {
-    match TxnId::read(json.as_str().ok_or(Fault::Malformed)?) {
-        Ok(id) => Ok(id),
-        Err(_) => Err(Fault::Malformed),
     }
 }
 
@@ -77,10 +47,10 @@ fn id_in(json: &Value) -> Result<TxnId, Fault> {
 fn read_link(alloc: Global, schema: &Schema, json: &Value) -> Result<Link, Fault>
     ensures tables { IfOk result (IsOfTables schema.now.description.tables) }
 {
-    let [prev, id, change] = json.as_array().ok_or(Fault::Malformed)?.as_slice() else {
+    let [prev, id, change] = list_in(json)? else {
         return Err(Fault::Malformed);
     };
-    let (prev, id) = (id_in(prev)?, id_in(id)?);
+    let (prev, id) = (commit_in(prev)?, commit_in(id)?);
     let Ok(change) = Change::read(alloc, change, schema) else {
         return Err(Fault::Malformed);
     };
@@ -94,7 +64,7 @@ fn read_links(alloc: Global, schema: &Schema, json: &Value) -> Result<Vec<Link>,
     ensures tables { IfOk result (λ links. All (IsOfTables schema.now.description.tables) links.items) }
 {
     let mut links = Vec::new(alloc);
-    for link in json.as_array().ok_or(Fault::Malformed)?.as_slice() {
+    for link in list_in(json)? {
         links.push(read_link(alloc, schema, link)?)?;
     }
     Ok(links)

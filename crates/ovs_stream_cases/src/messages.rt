@@ -87,7 +87,7 @@ pub(crate) fn text_of(alloc: Global, message: &Message) -> Result<Vec<u8>, Fault
     let mut framer = Framer::new(alloc);
     match framer.feed(text.as_slice()) {
         Ok(()) => Ok(text),
-        Err(FrameError::NoMemory) => Err(Fault::NoMemory),
+        Err(FrameError::NoMemory) => Err(Fault::NoMemory(NoMemory)),
         Err(_) => Err(Fault::TooLarge),
     }
 }

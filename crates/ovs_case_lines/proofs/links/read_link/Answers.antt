@@ -1,7 +1,7 @@
 use Rattle.std.proofs.Common.{sym, ap, subst}
 use Rattle.ovs_rows.specs.Change.{Actions, IsChangeOf}
 use Rattle.ovs_links.specs.declared.link.Link.{Link}
-use Rattle.ovs_node_cases.proofs.links.read_link.Goals as goal
+use Rattle.ovs_case_lines.proofs.links.read_link.Goals as goal
 
 pub returns-in-Ok-new : goal.returns-in-Ok-new
 returns-in-Ok-new c = record {

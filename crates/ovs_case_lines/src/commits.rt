@@ -1,6 +1,6 @@
-//! Ids of commits: a letter stands for the id that is written with it.
+//! Ids of commits: a letter stands for the id that is written with it, and `0` for the start.
 
-use crate::node_case_error::NodeCaseError;
+use crate::line_error::LineError;
 use ovs_types::TxnId;
 
 // The letters, and the ids that they stand for.
@@ -11,27 +11,21 @@ const LETTERS: [(&str, &str); 4] = [
     ("d", "dddddddd-dddd-4ddd-8ddd-dddddddddddd"),
 ];
 
-const START: &str = "00000000-0000-0000-0000-000000000000";
-
-/// How the id is written that a letter stands for; `0` is the start.
-pub(crate) fn text_of(letter: &str) -> Result<&'static str, NodeCaseError> {
-    if letter == "0" {
-        return Ok(START);
+/// The id that a letter stands for, or that is written here.
+pub fn commit(text: &str) -> Result<TxnId, LineError> {
+    if text == "0" {
+        return Ok(TxnId::zero());
     }
-    match LETTERS.iter().find(|pair| pair.0 == letter) {
-        Some((_, text)) => Ok(*text),
-        None => Err(NodeCaseError::Malformed),
-    }
-}
-
-/// The id that a letter stands for.
-pub(crate) fn commit(letter: &str) -> Result<TxnId, NodeCaseError> {
-    TxnId::read(text_of(letter)?).map_err(|_| NodeCaseError::Malformed)
+    let id = match LETTERS.iter().find(|pair| pair.0 == text) {
+        Some((_, id)) => *id,
+        None => text,
+    };
+    TxnId::read(id).map_err(|_| LineError::Malformed)
 }
 
 /// The letter of an id, `0` for the start and `?` where it has none.
-pub(crate) fn letter(id: TxnId) -> &'static str {
-    if id.is_start() {
+pub fn letter(id: TxnId) -> &'static str {
+    if id == TxnId::zero() {
         return "0";
     }
     for (letter, _) in &LETTERS {
@@ -43,15 +37,15 @@ pub(crate) fn letter(id: TxnId) -> &'static str {
 }
 
 /// The number of a letter's commit, from 1 on.
-pub(crate) fn number_of(letter: &str) -> Result<u64, NodeCaseError> {
+pub fn number_of(letter: &str) -> Result<u64, LineError> {
     match LETTERS.iter().position(|pair| pair.0 == letter) {
         Some(place) => Ok(place as u64 + 1),
-        None => Err(NodeCaseError::Malformed),
+        None => Err(LineError::Malformed),
     }
 }
 
 /// The number of the last commit whose id stands in a text, 0 where none does.
-pub(crate) fn last_number_in(text: &str) -> u64 {
+pub fn last_number_in(text: &str) -> u64 {
     let mut last = 0;
     for (place, (_, id)) in LETTERS.iter().enumerate() {
         if text.contains(*id) {
