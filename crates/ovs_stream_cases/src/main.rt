@@ -4,7 +4,6 @@
 
 mod case;
 mod connector;
-mod fault;
 mod history;
 mod history_links;
 mod messages;
@@ -12,6 +11,7 @@ mod no_poller;
 mod no_waker;
 mod relay;
 mod stream;
+mod stream_case_error;
 
 use case::StreamCases;
 use ovs_case_lines::run_cases;

@@ -9,7 +9,7 @@ ghost use Rattle.ovs_wire.specs.Limits.{most_bytes};
 ghost use Rattle.ovs_wire.specs.Message.{Says};
 ghost use Rattle.ovs_stream_cases.specs.Said.{schema_reply, place_reply, update_notice, IsTold};
 
-use crate::fault::Fault;
+use crate::stream_case_error::StreamCaseError;
 use ovs_json::{Json, NoMemory, text_json};
 use ovs_links::Link;
 use ovs_types::{Schema, TxnId};
@@ -79,7 +79,7 @@ pub(crate) fn update_notice(
 ///
 /// # Errors
 /// `TooLarge` where it is above the limits of a message, and `NoMemory`.
-pub(crate) fn text_of(alloc: Global, message: &Message) -> Result<Vec<u8>, Fault>
+pub(crate) fn text_of(alloc: Global, message: &Message) -> Result<Vec<u8>, StreamCaseError>
     ensures frame { IfOk result (λ text. IsObject most_bytes text.items) }
     ensures says { IfOk result (λ text. Says text.items message.now) }
 {
@@ -87,7 +87,7 @@ pub(crate) fn text_of(alloc: Global, message: &Message) -> Result<Vec<u8>, Fault
     let mut framer = Framer::new(alloc);
     match framer.feed(text.as_slice()) {
         Ok(()) => Ok(text),
-        Err(FrameError::NoMemory) => Err(Fault::NoMemory(NoMemory)),
-        Err(_) => Err(Fault::TooLarge),
+        Err(FrameError::NoMemory) => Err(StreamCaseError::NoMemory(NoMemory)),
+        Err(_) => Err(StreamCaseError::TooLarge),
     }
 }

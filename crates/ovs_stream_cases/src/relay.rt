@@ -11,11 +11,11 @@ ghost use Rattle.ovs_stream_cases.specs.Made.{IsHistoryOf, IsMade, commits_of};
 ghost use Rattle.ovs_stream_cases.specs.Relayed.{HasOf};
 
 use crate::connector::HistoryConnector;
-use crate::fault::Fault;
 use crate::history::are_of_history;
 use crate::history_links::{HistoryLinks, HistoryName};
 use crate::no_poller::NoPoller;
 use crate::no_waker::NoWaker;
+use crate::stream_case_error::StreamCaseError;
 use ovs_json::Text;
 use ovs_links::{Link, LinkStore, Step};
 use ovs_node::{
@@ -59,13 +59,13 @@ pub(crate) fn relayed<R: Threads + Wait + Sync>(
     schema: &Schema,
     links: Vec<Link>,
     connections: u64,
-) -> Result<RelayEnd, Fault>
+) -> Result<RelayEnd, StreamCaseError>
     requires tables { All (IsOfTables schema.now.description.tables) links.items }
     ensures made { IfOk result (λ r. IsMade schema.now.description.tables links.items) }
     ensures headline { IfOk result (λ r. HasOf schema.now.description.tables (commits_of schema.now.description.tables no_rows links.items) r.store r.forks) }
 {
     if !are_of_history(alloc, schema, links.as_slice())? {
-        return Err(Fault::NoHistory);
+        return Err(StreamCaseError::NoHistory);
     }
     let opened = Opened::<Step>::new();
     behind::<Brand, Brand, R>(rt, alloc, schema, opened, links, connections)
@@ -79,7 +79,7 @@ fn behind<K: NodeName + Send + Sync, J: HistoryName + Send + Sync, R: Threads + 
     opened: Opened<Step>,
     links: Vec<Link>,
     connections: u64,
-) -> Result<RelayEnd, Fault>
+) -> Result<RelayEnd, StreamCaseError>
     requires name { (opened.seen.book ≡ K.book) × (schema.now ≡ K.schema) }
     requires history { IsHistoryOf K.schema.description.tables J.commits links.items }
     ensures headline { IfOk result (λ r. HasOf K.schema.description.tables J.commits r.store r.forks) }
@@ -103,7 +103,7 @@ fn named<
     schema: &'s Schema,
     node: OpenNode<K, Handle<K, &R>>,
     connector: HistoryConnector<'s, K, J>,
-) -> Result<RelayEnd, Fault>
+) -> Result<RelayEnd, StreamCaseError>
     requires schema { schema.now ≡ K.schema }
     requires table { node.feed.items.table.shared.table_id ≡ Q.table }
     requires upstreams { node.upstreams ≡ 1 }
@@ -143,7 +143,7 @@ fn run<
     parts: Parts<K, Q, Handle<K, &'x R>>,
     desk: DeskOf,
     connector: HistoryConnector<'s, K, J>,
-) -> Result<RelayEnd, Fault>
+) -> Result<RelayEnd, StreamCaseError>
     requires desk { (desk.opened.seen.book ≡ N.book) × (desk.database ≡ N.database) }
     requires schema { schema.now ≡ K.schema }
     requires in_step { NodeInStep parts.node }
@@ -160,10 +160,10 @@ fn run<
         board,
     } = parts;
     let Some(end) = ends.pop() else {
-        return Err(Fault::NotRun);
+        return Err(StreamCaseError::NotRun);
     };
     let Some(view) = views.pop() else {
-        return Err(Fault::NotRun);
+        return Err(StreamCaseError::NotRun);
     };
     let DeskOf { database, opened } = desk;
     let (desk, _known) = RecordedDesk::<N>::new(alloc, database, opened);
@@ -206,7 +206,7 @@ fn run_threads<
     sender: UpstreamSender<K, Q, HistoryConnector<'s, K, J>>,
     connector: HistoryConnector<'s, K, J>,
     view: View<K>,
-) -> Result<RelayEnd, Fault>
+) -> Result<RelayEnd, StreamCaseError>
     requires schema { schema.now ≡ K.schema }
     requires in_step { NodeInStep node }
     requires none { node.intake.feed.returned ≡ [] }

@@ -11,8 +11,8 @@ ghost use Rattle.ovs_upstream.specs.Lawful.{LawfulAsked};
 ghost use Rattle.ovs_upstream.specs.Talk.{talk_of};
 ghost use Rattle.ovs_stream_cases.specs.Said.{schema_reply, place_reply, update_notice, told_from, AreSaid, IsPlaceOf, IsSession, IsTold};
 
-use crate::fault::Fault;
 use crate::messages::{place_reply, schema_reply, text_of, update_notice};
+use crate::stream_case_error::StreamCaseError;
 use ovs_links::Link;
 use ovs_types::{Schema, TxnId};
 use ovs_wire::Message;
@@ -35,7 +35,7 @@ pub(crate) fn place_of(links: &[Link], asked: TxnId) -> Option<usize>
 }
 
 // Says a message more.
-fn say(alloc: Global, bytes: &mut Vec<u8>, message: &Message) -> Result<(), Fault>
+fn say(alloc: Global, bytes: &mut Vec<u8>, message: &Message) -> Result<(), StreamCaseError>
     ensures more { OnOk result ((said : List Message) → AreSaid said bytes.old.items → AreSaid (said ++ message.now ∷ []) bytes.new.items) }
 {
     let text = text_of(alloc, message)?;
@@ -44,7 +44,7 @@ fn say(alloc: Global, bytes: &mut Vec<u8>, message: &Message) -> Result<(), Faul
 }
 
 // Says the schema.
-fn say_schema(alloc: Global, bytes: &mut Vec<u8>, schema: &Schema) -> Result<(), Fault>
+fn say_schema(alloc: Global, bytes: &mut Vec<u8>, schema: &Schema) -> Result<(), StreamCaseError>
     ensures more { OnOk result ((said : List Message) → AreSaid said bytes.old.items → AreSaid (said ++ schema_reply schema.now ∷ []) bytes.new.items) }
     ensures told { OnOk result (read_description schema.now.json ≡ Ok schema.now.description) }
 {
@@ -53,7 +53,12 @@ fn say_schema(alloc: Global, bytes: &mut Vec<u8>, schema: &Schema) -> Result<(),
 }
 
 // Says whether the id is known that was asked, and where the updates go on.
-fn say_place(alloc: Global, bytes: &mut Vec<u8>, is_known: bool, id: TxnId) -> Result<(), Fault>
+fn say_place(
+    alloc: Global,
+    bytes: &mut Vec<u8>,
+    is_known: bool,
+    id: TxnId,
+) -> Result<(), StreamCaseError>
     ensures more { OnOk result ((said : List Message) → AreSaid said bytes.old.items → AreSaid (said ++ place_reply is_known id ∷ []) bytes.new.items) }
     ensures told { OnOk result (read_id (id_text id) ≡ Some id) }
 {
@@ -62,7 +67,12 @@ fn say_place(alloc: Global, bytes: &mut Vec<u8>, is_known: bool, id: TxnId) -> R
 }
 
 // Says an update.
-fn say_update(alloc: Global, schema: &Schema, bytes: &mut Vec<u8>, link: &Link) -> Result<(), Fault>
+fn say_update(
+    alloc: Global,
+    schema: &Schema,
+    bytes: &mut Vec<u8>,
+    link: &Link,
+) -> Result<(), StreamCaseError>
     requires tables { IsOfTables schema.now.description.tables link.now }
     ensures more { OnOk result ((said : List Message) → AreSaid said bytes.old.items → AreSaid (said ++ update_notice schema.now.description.tables link.now ∷ []) bytes.new.items) }
     ensures told { OnOk result (IsTold schema.now.description.tables link.now) }
@@ -77,7 +87,7 @@ fn say_updates(
     schema: &Schema,
     bytes: &mut Vec<u8>,
     links: &[Link],
-) -> Result<(), Fault>
+) -> Result<(), StreamCaseError>
     requires tables { All (IsOfTables schema.now.description.tables) links.now }
     ensures more { OnOk result ((said : List Message) → AreSaid said bytes.old.items → AreSaid (said ++ map (update_notice schema.now.description.tables) links.now) bytes.new.items) }
     ensures told { OnOk result (AllByRecursion (IsTold schema.now.description.tables) links.now) }
@@ -96,7 +106,7 @@ fn say_all(
     is_known: bool,
     id: TxnId,
     links: &[Link],
-) -> Result<(), Fault>
+) -> Result<(), StreamCaseError>
     requires tables { All (IsOfTables schema.now.description.tables) links.now }
     ensures more { OnOk result ((said : List Message) → AreSaid said bytes.old.items → AreSaid (said ++ place_reply is_known id ∷ map (update_notice schema.now.description.tables) links.now) bytes.new.items) }
     ensures told { OnOk result ((read_id (id_text id) ≡ Some id) × AllByRecursion (IsTold schema.now.description.tables) links.now) }
@@ -113,7 +123,7 @@ fn say_from(
     links: &[Link],
     asked: TxnId,
     place: Option<usize>,
-) -> Result<(), Fault>
+) -> Result<(), StreamCaseError>
     requires tables { All (IsOfTables schema.now.description.tables) links.now }
     requires start { start_of links.now ≡ 0 }
     requires place { IsPlaceOf links.now asked place }
@@ -135,7 +145,7 @@ pub(crate) fn session_bytes(
     schema: &Schema,
     links: &[Link],
     asked: TxnId,
-) -> Result<Vec<u8>, Fault>
+) -> Result<Vec<u8>, StreamCaseError>
     requires tables { All (IsOfTables schema.now.description.tables) links.now }
     requires start { start_of links.now ≡ 0 }
     ensures session { IfOk result (λ bytes. IsSession schema.now links.now asked bytes.items) }

@@ -8,7 +8,7 @@ use std::alloc::AllocError;
 use thiserror::Error;
 
 #[derive(Clone, Copy, Debug, Error)]
-pub(crate) enum Fault {
+pub(crate) enum StreamCaseError {
     /// The line can't be read.
     #[error(transparent)]
     Line(#[from] LineError),
