@@ -1,5 +1,7 @@
 //! Ids of commits: a letter stands for the id that is written with it, and `0` for the start.
 
+ghost use Rattle.std.specs.Prelude.{◌≡◌, IfOk, codes};
+
 use crate::line_error::LineError;
 use ovs_types::TxnId;
 
@@ -12,7 +14,9 @@ const LETTERS: [(&str, &str); 4] = [
 ];
 
 /// The id that a letter stands for, or that is written here.
-pub fn commit(text: &str) -> Result<TxnId, LineError> {
+pub fn commit(text: &str) -> Result<TxnId, LineError>
+    ensures start { text.now ≡ codes "0" → IfOk result (λ id. id ≡ 0) }
+{
     if text == "0" {
         return Ok(TxnId::zero());
     }

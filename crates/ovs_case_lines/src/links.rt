@@ -1,6 +1,6 @@
 //! Links of a case.
 
-ghost use Rattle.std.specs.Prelude.{IfOk};
+ghost use Rattle.std.specs.Prelude.{◌≡◌, IfOk};
 ghost use Rattle.ovs_links.specs.Sets.{IsOfTables};
 
 use crate::line_error::LineError;
@@ -18,6 +18,7 @@ pub fn read_link(
     id: TxnId,
     change: &Value,
 ) -> Result<Link, LineError>
+    ensures ends { IfOk result (λ link. (link.prev ≡ prev) × (link.id ≡ id)) }
     ensures tables { IfOk result (IsOfTables schema.now.description.tables) }
 {
     let Ok(change) = Change::read(alloc, change, schema) else {
