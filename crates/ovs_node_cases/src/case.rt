@@ -3,22 +3,24 @@
 use crate::node_case_error::NodeCaseError;
 use crate::{engine, many, node, sendings, tier, worker};
 use log::Log;
-use ovs_case_lines::{CaseTable, LineError, count_in, list_in};
+use ovs_case_lines::{LineError, count_in, list_in, read_json, read_schema};
 use ovs_links::Step;
 use ovs_node::Opened;
 use ovs_types::Schema;
 use serde_json::Value;
-use std::alloc::Global;
+use std::alloc::{AllocError, Global};
 use std::fs::Files;
 use std::marker::Brand;
 use std::net::{Net, TcpListener, TcpStream};
 use std::sync::Wait;
 use std::thread::Threads;
 
-/// The host on which the lines are tried.
+/// What the lines are asked of: a host, and the schema that is in use.
 #[derive(Drop)]
-pub(crate) struct NodeCases<R> {
-    pub(crate) rt: R,
+pub(crate) struct NodeCases<R: Drop> {
+    rt: R,
+    alloc: Global,
+    schema: Option<Box<Schema>>,
 }
 
 impl<
@@ -31,17 +33,38 @@ impl<
         + Drop
         + Send
         + Sync,
-> CaseTable for NodeCases<R> {
-    type Error = NodeCaseError;
+> NodeCases<R> {
+    /// No schema is in use yet.
+    pub(crate) fn new(rt: R, alloc: Global) -> NodeCases<R> {
+        NodeCases {
+            rt,
+            alloc,
+            schema: None,
+        }
+    }
 
-    fn answer(
-        &self,
-        alloc: Global,
-        schema: Option<&Schema>,
-        case: &[Value],
-    ) -> Result<String, NodeCaseError> {
-        let rt = &self.rt;
-        let schema = schema.ok_or(LineError::Malformed)?;
+    /// The answer to a line, or the text of the error where it has none.
+    pub(crate) fn told(&mut self, line: &str) -> Result<String, AllocError> {
+        match self.answer(line) {
+            Ok(answer) => Ok(answer),
+            Err(error) => format!(in self.alloc; "{error}"),
+        }
+    }
+
+    fn answer(&mut self, line: &str) -> Result<String, NodeCaseError> {
+        let case = read_json(self.alloc, line)?;
+        match list_in(&case)? {
+            [word, json] if word.as_str() == Some("use") => {
+                self.schema = Some(read_schema(self.alloc, json)?);
+                Ok(String::from_str(self.alloc, "ok")?)
+            }
+            parts => self.of_schema(self.schema.as_deref().ok_or(LineError::Malformed)?, parts),
+        }
+    }
+
+    // The lines that are asked of the schema in use.
+    fn of_schema(&self, schema: &Schema, case: &[Value]) -> Result<String, NodeCaseError> {
+        let (rt, alloc) = (&self.rt, self.alloc);
         let (word, arguments) = case.split_first().ok_or(LineError::Malformed)?;
         match (word.as_str().ok_or(LineError::Malformed)?, arguments) {
             ("node", [views, ends]) => {

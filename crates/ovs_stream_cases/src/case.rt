@@ -6,37 +6,60 @@ ghost use Rattle.ovs_links.specs.Sets.{IsOfTables};
 
 use crate::relay::{RelayEnd, relayed};
 use crate::stream_case_error::StreamCaseError;
-use ovs_case_lines::{CaseTable, LineError, commit_in, count_in, list_in};
+use ovs_case_lines::{LineError, commit_in, count_in, list_in, read_json, read_schema};
 use ovs_links::Link;
 use ovs_rows::Change;
 use ovs_types::Schema;
 use serde_json::Value;
-use std::alloc::Global;
+use std::alloc::{AllocError, Global};
 use std::sync::Wait;
 use std::thread::Threads;
 
-/// The host on which the lines are tried.
+/// What the lines are asked of: a host, and the schema that is in use.
 #[derive(Drop)]
-pub(crate) struct StreamCases<R> {
-    pub(crate) rt: R,
+pub(crate) struct StreamCases<R: Drop> {
+    rt: R,
+    alloc: Global,
+    schema: Option<Box<Schema>>,
 }
 
-impl<R: Threads + Wait + Sync> CaseTable for StreamCases<R> {
-    type Error = StreamCaseError;
+impl<R: Threads + Wait + Drop + Sync> StreamCases<R> {
+    /// No schema is in use yet.
+    pub(crate) fn new(rt: R, alloc: Global) -> StreamCases<R> {
+        StreamCases {
+            rt,
+            alloc,
+            schema: None,
+        }
+    }
 
-    fn answer(
-        &self,
-        alloc: Global,
-        schema: Option<&Schema>,
-        case: &[Value],
-    ) -> Result<String, StreamCaseError> {
-        let schema = schema.ok_or(LineError::Malformed)?;
+    /// The answer to a line, or the text of the error where it has none.
+    pub(crate) fn told(&mut self, line: &str) -> Result<String, AllocError> {
+        match self.answer(line) {
+            Ok(answer) => Ok(answer),
+            Err(error) => format!(in self.alloc; "{error}"),
+        }
+    }
+
+    fn answer(&mut self, line: &str) -> Result<String, StreamCaseError> {
+        let case = read_json(self.alloc, line)?;
+        match list_in(&case)? {
+            [word, json] if word.as_str() == Some("use") => {
+                self.schema = Some(read_schema(self.alloc, json)?);
+                Ok(String::from_str(self.alloc, "ok")?)
+            }
+            parts => self.of_schema(self.schema.as_deref().ok_or(LineError::Malformed)?, parts),
+        }
+    }
+
+    // The lines that are asked of the schema in use.
+    fn of_schema(&self, schema: &Schema, case: &[Value]) -> Result<String, StreamCaseError> {
         match case {
             [word, connections, links] if word.as_str() == Some("stream") => {
                 let connections = count_in(connections)?;
-                let links = read_links(alloc, schema, links)?;
-                let relayed = relayed(&self.rt, alloc, schema, links, connections)?;
-                held(alloc, &relayed)
+                let links = read_links(self.alloc, schema, links)?;
+                let relayed = relayed(&self.rt, self.alloc, schema, links, connections)?;
+                held(self.alloc, &relayed)
             }
             _ => Err(StreamCaseError::Malformed),
         }
