@@ -37,7 +37,7 @@ returns-clause-whole c =
     let watches = c.args.self.now.watches in
     ok_no_float c.step_json.result _ c.step_json.ensures.value
     (ap has_float (told_alike Update2 _ _ _ _ c.rows.ensures.value c.as_slice.ensures.value ∙ step_told2 watches c.args.applied.now c.rows.ensures.ascending)
-    ∙ updates_no_float action_json action_no_float watches (updates watches c.args.applied.now))
+    ∙ updates_no_float told_action_json told_no_float watches (updates watches c.args.applied.now))
 
 pub returns-clause-reads_back : goal.returns-clause-reads_back
 returns-clause-reads_back c =
