@@ -7,8 +7,7 @@ use Rattle.ovs_types.specs.declared.schema.Table.{Table}
 use Rattle.ovs_rows.specs.declared.row_key.RowKey.{RowKey}
 use Rattle.ovs_rows.specs.declared.row.Row.{Row}
 use Rattle.ovs_rows.specs.After.{TouchedRow, put_at, applied_to, AreFrom}
-use Rattle.ovs_rows.specs.Database.{no_rows}
-use Rattle.ovs_rows.specs.Row.{Rows, columns_at}
+use Rattle.ovs_rows.specs.Row.{Rows, columns_at, no_rows}
 use Rattle.ovs_rows.specs.RowKey.{place_cmp, place_total, place_exact}
 use Rattle.ovs_rows.proofs.PlacingSteps.{get-put_at}
 use Rattle.ovs_links.specs.Steps.{FoldedValue}
