@@ -62,37 +62,34 @@ module _ (w : Watched) (h : AsksAllOf w) (id : ℕ) where
       by true = each row
       by false = tt
 
+  changed_whole : (es : List (Option Datum)) → told_edits kinds.Modify w.columns es ≡ es → (b : Bool) → list_any is_some es ≡ b
+      → option_and_then (as_asked w) (cond b (Some (Modify es)) None) ≡ cond b (Some (Modify es)) None
+  changed_whole es same false e = refl
+  changed_whole es same true e =
+      ap (λ b. cond b (modified (told_edits kinds.Modify w.columns es)) None) h.0.2 ∙ ap modified same ∙ ap (λ b. cond b (Some (Modify es)) None) e
+
   pub action_whole : (old new : Option (List Datum)) → IfSome new (λ ys. told_data kinds.Insert w.columns ys ≡ ys)
       → option_and_then (as_asked w) (update_between (shown_columns (shown_of w)) old new) ≡ update_between (shown_columns (shown_of w)) old new
   action_whole None None k = refl
   action_whole None (Some ys) k = ap (λ b. cond b (Some (Insert (told_data kinds.Insert w.columns ys))) None) h.0.0 ∙ ap (λ zs. Some (Insert zs)) k
   action_whole (Some xs) None k = ap (λ b. cond b (Some Delete) None) h.0.1
-  action_whole (Some xs) (Some ys) k = by (list_any is_some edits) refl
-    where
-      abbrev edits : List (Option Datum)
-      edits = edits_between (shown_columns (shown_of w)) xs ys
+  action_whole (Some xs) (Some ys) k =
+      let es = edits_between (shown_columns (shown_of w)) xs ys in
+      changed_whole es (all_edits w.columns h.1 xs ys) (list_any is_some es) refl
 
-      by : (b : Bool) → list_any is_some edits ≡ b → option_and_then (as_asked w) (cond b (Some (Modify edits)) None) ≡ cond b (Some (Modify edits)) None
-      by false e = refl
-      by true e =
-          ap (λ b. cond b (modified (told_edits kinds.Modify w.columns edits)) None) h.0.2
-          ∙ ap modified (all_edits w.columns h.1 xs ys) ∙ ap (λ b. cond b (Some (Modify edits)) None) e
+  previous_whole : (es : List (Option Datum)) (ys : List Datum) → told_edits kinds.Modify w.columns es ≡ es → (b : Bool) → list_any is_some es ≡ b
+      → option_and_then (row_as_asked w) (cond b (Some (Changed es ys)) None) ≡ cond b (Some (Changed es ys)) None
+  previous_whole es ys same false e = refl
+  previous_whole es ys same true e =
+      ap (λ b. cond (b && list_any is_some (told_edits kinds.Modify w.columns es)) (Some (Changed es ys)) None) h.0.2
+      ∙ ap (λ ds. cond (list_any is_some ds) (Some (Changed es ys)) None) same ∙ ap (λ b. cond b (Some (Changed es ys)) None) e
 
   row_whole : (old new : Option (List Datum)) → IfSome old (λ xs. (ys : List Datum) → told_edits kinds.Modify w.columns (previous xs ys) ≡ previous xs ys)
       → option_and_then (row_as_asked w) (row_update_between old new) ≡ row_update_between old new
   row_whole None None k = refl
   row_whole None (Some ys) k = ap (λ b. cond b (Some (New ys)) None) h.0.0
   row_whole (Some xs) None k = ap (λ b. cond b (Some (Gone xs)) None) h.0.1
-  row_whole (Some xs) (Some ys) k = by (list_any is_some before) refl
-    where
-      abbrev before : List (Option Datum)
-      before = previous xs ys
-
-      by : (b : Bool) → list_any is_some before ≡ b → option_and_then (row_as_asked w) (cond b (Some (Changed before ys)) None) ≡ cond b (Some (Changed before ys)) None
-      by false e = refl
-      by true e =
-          ap (λ b. cond (b && list_any is_some (told_edits kinds.Modify w.columns before)) (Some (Changed before ys)) None) h.0.2
-          ∙ ap (λ es. cond (list_any is_some es) (Some (Changed before ys)) None) (k ys) ∙ ap (λ b. cond b (Some (Changed before ys)) None) e
+  row_whole (Some xs) (Some ys) k = previous_whole (previous xs ys) ys (k ys) (list_any is_some (previous xs ys)) refl
 
 -- of a table that isn't watched nothing is shown
 pub actions_all : (watched : Option Watched) (id : ℕ) (old new : Option Row) → IfSome watched AsksAllOf

@@ -46,10 +46,7 @@ module _ {U : Type 0} (made : Watched → List Datum → U) where
     first_shown None id (Some row) h = nothing
     first_shown (Some w) id (Some row) h = by (admits w.clauses id row)
       where
-        abbrev shown : Bool → Option (List Datum)
-        shown b = cond b (Some (shown_data (shown_of w) id row)) None
-
-        by : (b : Bool) → f None (option_and_then (asked_first made (Some w)) (shown b)) ≡ Some (shown b)
+        by : (b : Bool) → f None (option_and_then (asked_first made (Some w)) (cond b (Some (shown_data (shown_of w) id row)) None)) ≡ Some (cond b (Some (shown_data (shown_of w) id row)) None)
         by false = nothing
         by true = ap (λ b. f None (cond b (Some (made w (shown_data (shown_of w) id row))) None)) h.0 ∙ makes w h id row
 

@@ -20,14 +20,14 @@ use Rattle.ovs_rows.specs.declared.row.Row.{Row}
 use Rattle.ovs_rows.specs.After.{TouchedRow}
 use Rattle.ovs_rows.specs.Applied.{AscendByPlace}
 use Rattle.ovs_rows.specs.Draft.{Overlay, overlaid}
-use Rattle.ovs_rows.specs.Row.{Rows, AreDataOf, AreRowsOf, columns_at}
+use Rattle.ovs_rows.specs.Row.{Rows, columns_at}
 use Rattle.ovs_rows.specs.RowKey.{place_cmp, place_total, place_exact}
 use Rattle.ovs_rows.specs.Writing.{rows_in}
 use Rattle.ovs_rows.proofs.Combining.{get-combined}
 use Rattle.ovs_rows.proofs.Writings.{filter_kept}
 use Rattle.ovs_query.specs.declared.clauses.Clause.{Clause}
 use Rattle.ovs_query.specs.declared.monitor.Watched.{Watched}
-use Rattle.ovs_query.specs.Changing.{considered, considered_table, all_considered, turned_member, known_in, turned_members, turned_told, IsChangeable, AreChangeable}
+use Rattle.ovs_query.specs.Changing.{considered, considered_table, all_considered, turned_member, known_in, turned_members, turned_told, HaveColumnsOf, IsChangeable, AreChangeable}
 use Rattle.ovs_query.specs.Earlier.{rows_earlier}
 use Rattle.ovs_query.specs.Telling.{touched_in}
 use Rattle.ovs_query.specs.Turned.{turned_row, turned, condition_at, with_clauses, with_condition, with_conditions}
@@ -211,7 +211,7 @@ module _ (rows : Rows) where
             → turned_row (watched_at watches p.table) (watched_at after p.table) p.id o o ≡ None
         absent clauses is None at = refl
         absent clauses is (Some row) at =
-            absurd (true≢false (sym (known_from 0 conditions earlier p.table clauses is p row refl at) ∙ ap is_some unknown))
+            absurd (true≢false (sym (known_from 0 conditions earlier p.table clauses is p row (let same : p.table ≡ 0 + p.table = omega arith in same) at) ∙ ap is_some unknown))
 
         by : (c : Option (List Clause)) → condition_at conditions p.table ≡ c → turned_row (watched_at watches p.table) (watched_at after p.table) p.id (get rows p) (get rows p) ≡ None
         by None is =
@@ -274,18 +274,14 @@ module _ (rows : Rows) where
 
     -- ---- and can be told
 
-    module _ (tables : List Table) (m : IsMonitorOf tables watches) (was : AreRowsOf tables (rows_earlier earlier rows)) (now : AreRowsOf tables rows) where
-      row_of : (p : RowKey) (o : Option Row) (all : Rows) → AreRowsOf tables all → get all p ≡ o → IsRowOf (columns_at tables p.table) o
-      row_of p None all are at = tt
-      row_of p (Some row) all are at = (are p row at).1
-
+    module _ (tables : List Table) (m : IsMonitorOf tables watches) (was : HaveColumnsOf tables (rows_earlier earlier rows)) (now : HaveColumnsOf tables rows) where
       pub changeable : AreChangeable known rows watches
       changeable number w is =
           filter_kept (IsChangeable rows w) (λ e. e.0.table == number) (entries known)
           (All-entries place_total place_exact known (λ e. (e.0.table == number) ≡ true → IsChangeable rows w e) (λ p o stood at. (
             one_shown tables number w (m number w is) p.table p.id o (eqb-true p.table number at)
-            (row_of p o (rows_earlier earlier rows) was (get-earlier earlier p ∙ sym (tables_stand earlier (enumerate_from 0 conditions) p) ∙ ap (λ x. unwrap_or x (get rows p)) stood)),
-            one_shown tables number w (m number w is) p.table p.id (get rows p) (eqb-true p.table number at) (row_of p (get rows p) rows now refl),
+            (subst (IsRowOf (columns_at tables p.table)) (get-earlier earlier p ∙ sym (tables_stand earlier (enumerate_from 0 conditions) p) ∙ ap (λ x. unwrap_or x (get rows p)) stood) (was p)),
+            one_shown tables number w (m number w is) p.table p.id (get rows p) (eqb-true p.table number at) (now p),
           )))
 
 -- the same of a table by its number

@@ -24,3 +24,5 @@ pub mod Whole
 pub mod Shares
 pub mod Turning
 pub mod Changing
+pub mod NewConditionsWithin
+pub mod ToldEdits

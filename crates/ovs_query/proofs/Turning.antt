@@ -50,7 +50,9 @@ module _ (conditions : List (Option (List Clause))) where
       at_from (k + 1) ws n ∙ ap (λ j. option_map (with_condition (condition_at conditions j)) (watched_at ws n)) same
 
   pub watched_by : (ws : List (Option Watched)) (n : ℕ) → watched_at (with_conditions ws conditions) n ≡ option_map (with_condition (condition_at conditions n)) (watched_at ws n)
-  watched_by ws n = at_from 0 ws n
+  watched_by ws n =
+      let same : 0 + n ≡ n = omega arith in
+      at_from 0 ws n ∙ ap (λ j. option_map (with_condition (condition_at conditions j)) (watched_at ws n)) same
 
   one_turned : (c : Option (List Clause)) (o : Option Watched) → IsTurned o (option_map (with_condition c) o)
   one_turned c None = tt

@@ -29,6 +29,15 @@ use Rattle.ovs_query.proofs.ShownFields.{columns_are, all_but_id_are, columns_fo
 abbrev Asked : Type 0
 Asked = ℕ × Option Watched
 
+both_shown : (columns : List NamedColumn) (ms ns : List Monitored) → AllByRecursion (IsShownOf columns) (parts_of ms) → AllByRecursion (IsShownOf columns) (parts_of ns)
+    → AllByRecursion (IsShownOf columns) (parts_of (ms ++ ns))
+both_shown columns [] ns h k = k
+both_shown columns (m ∷ ms) ns h k = (h.0, both_shown columns ms ns h.1 k)
+
+pub parts_monitored : (asked : Kinds) (shown : List Projected) → parts_of (monitored asked shown) ≡ shown
+parts_monitored asked [] = refl
+parts_monitored asked (s ∷ shown) = ap (λ (ps : List Projected). s ∷ ps) (parts_monitored asked shown)
+
 module _ (notation : Notation) (tables : List Table) where
   -- what holds of what a request of a table spells holds of what is watched of the table of the number
   module _ (P : ℕ → Watched → Type 0) (each : (number : ℕ) (name : List ℕ) (table : Table) (d : Data) (w : Watched) → table_named tables name ≡ Some (number, table) → SpellsRequest notation table d w → P number w)
@@ -70,15 +79,6 @@ module _ (notation : Notation) (tables : List Table) where
         let asked : last_for number all ≡ there.0 = some_is (last_for number all) there.0 (sym (at number (omega (arith, below, count))) ∙ there.1) in
         let last = then_found (last_or None (filter (λ a. a.0 == number) all)) (λ a. a.1) w (asked ∙ there.2) in
         last_has number ms all spelled None (λ a none. absurd cc) last.0 last.1 w last.2
-
-  both_shown : (columns : List NamedColumn) (ms ns : List Monitored) → AllByRecursion (IsShownOf columns) (parts_of ms) → AllByRecursion (IsShownOf columns) (parts_of ns)
-      → AllByRecursion (IsShownOf columns) (parts_of (ms ++ ns))
-  both_shown columns [] ns h k = k
-  both_shown columns (m ∷ ms) ns h k = (h.0, both_shown columns ms ns h.1 k)
-
-  parts_monitored : (asked : Kinds) (shown : List Projected) → parts_of (monitored asked shown) ≡ shown
-  parts_monitored asked [] = refl
-  parts_monitored asked (s ∷ shown) = ap (λ (ps : List Projected). s ∷ ps) (parts_monitored asked shown)
 
   pub monitor_of_tables : (d : Data) (m : Monitor) → SpellsMonitor notation tables d m → IsMonitorOf tables m.watches
   monitor_of_tables d m (members, is, same, spelled) =

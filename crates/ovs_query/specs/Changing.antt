@@ -5,15 +5,17 @@ use Rattle.std.specs.Option.{unwrap_or}
 use Rattle.std.specs.FinMap.{get, insert, entries}
 use Rattle.serde_json.specs.Data.{Data}
 use Rattle.ovs_types.specs.Id.{id_text}
+use Rattle.ovs_types.specs.declared.schema.Table.{Table}
 use Rattle.ovs_rows.specs.declared.row_key.RowKey.{RowKey}
 use Rattle.ovs_rows.specs.declared.row.Row.{Row}
 use Rattle.ovs_rows.specs.Draft.{Overlay}
-use Rattle.ovs_rows.specs.Row.{Rows}
+use Rattle.ovs_rows.specs.Row.{Rows, columns_at}
 use Rattle.ovs_rows.specs.Writing.{rows_in}
 use Rattle.ovs_query.specs.declared.clauses.Clause.{Clause}
 use Rattle.ovs_query.specs.declared.monitor.Watched.{Watched}
 use Rattle.ovs_query.specs.Telling.{AreShown}
 use Rattle.ovs_query.specs.Turned.{condition_at, turned_row, with_clauses}
+use Rattle.ovs_query.specs.Updates.{IsRowOf}
 use Rattle.ovs_query.specs.UpdateWriting.{told_action_json}
 use Rattle.ovs_query.specs.View.{watched_at}
 
@@ -47,6 +49,10 @@ turned_members earlier rows number w later = filter_map (turned_member rows w la
 -- the same by what holds from now on
 abbrev pub turned_told : List (Option (List Clause)) → Overlay → Rows → ℕ → Watched → List (List ℕ × Data)
 turned_told conditions earlier rows number w = turned_members earlier rows number w (unwrap_or (condition_at conditions number) w.clauses)
+
+-- each row has a datum of each column of its table
+abbrev pub HaveColumnsOf : List Table → Rows → Type 0
+HaveColumnsOf tables rows = (p : RowKey) → IsRowOf (columns_at tables p.table) (get rows p)
 
 -- what is shown of a row before and after are data of the shown columns
 abbrev pub IsChangeable : Rows → Watched → RowKey × Option Row → Type 0

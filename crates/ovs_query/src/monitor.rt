@@ -15,6 +15,7 @@ ghost use Rattle.ovs_query.specs.Updates.{asks, updates, row_updates, first_upda
 ghost use Rattle.ovs_query.specs.UpdateWriting.{update1_json, update2_json, initial_json};
 ghost use Rattle.ovs_query.specs.View.{shown_by, shown_of, view as rows_shown, IsMonitorOf};
 ghost use Rattle.ovs_query.specs.Whole.{IsWhole};
+ghost use Rattle.ovs_query.specs.Changing.{HaveColumnsOf};
 ghost use Rattle.ovs_query.specs.Earlier.{rows_earlier};
 ghost use Rattle.ovs_query.specs.Turned.{turned, turned_monitor, with_clauses, with_conditions};
 
@@ -308,7 +309,7 @@ impl Monitor {
         earlier: EarlierRows,
         database: &Database,
     ) -> Result<Value, NoMemory>
-        requires same_tables { (tables : List Table) × IsMonitorOf tables self.now.watches × AreRowsOf tables (rows_earlier earlier database.now.rows) × AreRowsOf tables database.now.rows }
+        requires same_tables { (tables : List Table) × IsMonitorOf tables self.now.watches × HaveColumnsOf tables (rows_earlier earlier database.now.rows) × HaveColumnsOf tables database.now.rows }
         ensures value { IfOk result (λ v. view v ≡ update2_json self.now.watches (turned self.now.watches (with_conditions self.now.watches conditions.now) (rows_earlier earlier database.now.rows) database.now.rows)) }
         // Where all kinds are asked for, they lead a copy of what was shown to what is shown by the new conditions.
         ensures mirrored { (tables : List Table) → IsMonitorOf tables self.now.watches → AsksAll self.now.watches → AreRowsOf tables (rows_earlier earlier database.now.rows) → AreRowsOf tables database.now.rows

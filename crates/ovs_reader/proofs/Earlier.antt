@@ -7,14 +7,16 @@ use Rattle.ovs_types.specs.declared.schema.Table.{Table}
 use Rattle.ovs_rows.specs.declared.row_key.RowKey.{RowKey}
 use Rattle.ovs_rows.specs.declared.row.Row.{Row}
 use Rattle.ovs_rows.specs.After.{TouchedRow, put_at, applied_to, AreFrom}
-use Rattle.ovs_rows.specs.Row.{Rows, columns_at, no_rows}
+use Rattle.ovs_rows.specs.Row.{Rows, columns_at, no_rows, AreRowsOf}
 use Rattle.ovs_rows.specs.RowKey.{place_cmp, place_total, place_exact}
 use Rattle.ovs_rows.proofs.PlacingSteps.{get-put_at}
 use Rattle.ovs_links.specs.Steps.{FoldedValue}
 use Rattle.ovs_links.specs.StepChains.{StepsJoinUp, IsFoldedChain, rows_after_steps, rows_at, start_at}
 use Rattle.ovs_links.specs.declared.step.Step.{Step}
 use Rattle.ovs_query.specs.Earlier.{undone}
-use Rattle.ovs_query.specs.Updates.{IsRowOf, AreTouchedOf, HaveColumnsOf}
+use Rattle.ovs_query.specs.Changing.{HaveColumnsOf}
+use Rattle.ovs_query.specs.Updates.{IsRowOf, AreTouchedOf}
+use Rattle.ovs_query.proofs.ShownData.{if_some}
 use Rattle.ovs_query.proofs.Touching.{same_place}
 use Rattle.ovs_reader.specs.Changes.{rows_before}
 use Rattle.ovs_reader.specs.Session.{AreStepsOf}
@@ -37,7 +39,10 @@ module _ (tables : List Table) where
   before_have now [] of have = have
   before_have now (s ∷ ss) of have = undone_have (rows_before now ss) s.applied of.0 (before_have now ss of.1 have)
 
--- ---- they are the rows from which the steps lead
+  -- ---- they are the rows from which the steps lead
+
+  pub rows_have : (rows : Rows) → AreRowsOf tables rows → HaveColumnsOf tables rows
+  rows_have rows are p = if_some (get rows p) _ (λ r e. (are p r e).1)
 
 -- what the step touched is put back, and nothing else is other than it was
 undo_step : (a : Rows) (ts : List TouchedRow) → AreFrom a ts → (rows : Rows) → ((q : RowKey) → AllByRecursion (λ (t : TouchedRow). eq_by_cmp place_cmp q t.place ≡ false) ts → get rows q ≡ get a q) → (q : RowKey) → get (undone rows ts) q ≡ get a q

@@ -54,7 +54,8 @@ impl EarlierRows {
     pub fn undo(&mut self, applied: &Applied) -> Result<(), NoMemory>
         ensures rows { OnOk result ((now : Rows) → rows_earlier self.new now ≡ undone (rows_earlier self.old now) applied.now) }
     {
-        for touched in applied.rows() {
+        let rows = applied.rows();
+        for touched in rows {
             self.put(touched.place, touched.before.clone()?)?;
         }
         Ok(())

@@ -248,7 +248,9 @@ fn with_columns(
     ensures value { IfOk result (λ m. m ≡ columns ++ more) }
 {
     let mut items = columns.into_vec();
-    items.extend(more.into_vec())?;
+    for column in more.into_vec() {
+        items.push(column)?;
+    }
     Ok(MonitoredColumns::new(items))
 }
 
