@@ -169,10 +169,10 @@ kept_action None id before after =
 kept_action (Some w) id before after =
     let all = asking_of w in
     ap (option_and_then (as_asked w)) (sym (
-      actions_all (Some all) id before after (asking_asks w)
-      ∙ ap (λ ps. update_between (shown_columns ps) (shown_by (Some all) id before) (shown_by (Some all) id after)) (asking_parts w.columns)
-      ∙ ap (λ o. update_between (columns_of (Some w)) o (shown_by (Some all) id after)) (asking_shows w id before)
-      ∙ ap (update_between (columns_of (Some w)) (shown_by (Some w) id before)) (asking_shows w id after)
+    actions_all (Some all) id before after (asking_asks w)
+    ∙ ap (λ ps. update_between (shown_columns ps) (shown_by (Some all) id before) (shown_by (Some all) id after)) (asking_parts w.columns)
+    ∙ ap (λ o. update_between (columns_of (Some w)) o (shown_by (Some all) id after)) (asking_shows w id before)
+    ∙ ap (update_between (columns_of (Some w)) (shown_by (Some w) id before)) (asking_shows w id after)
     ))
 
 kept_row_update : (watched : Option Watched) (id : ℕ) (before after : Option Row) → row_update_told watched id before after ≡ option_and_then (asked row_as_asked watched) (row_update_told (option_map asking_of watched) id before after)
@@ -181,9 +181,9 @@ kept_row_update None id before after =
 kept_row_update (Some w) id before after =
     let all = asking_of w in
     ap (option_and_then (row_as_asked w)) (sym (
-      row_updates_all (Some all) id before after (asking_asks w)
-      ∙ ap (λ o. row_update_between o (shown_by (Some all) id after)) (asking_shows w id before)
-      ∙ ap (row_update_between (shown_by (Some w) id before)) (asking_shows w id after)
+    row_updates_all (Some all) id before after (asking_asks w)
+    ∙ ap (λ o. row_update_between o (shown_by (Some all) id after)) (asking_shows w id before)
+    ∙ ap (row_update_between (shown_by (Some w) id before)) (asking_shows w id after)
     ))
 
 pub updates_left_out : (watches : List (Option Watched)) (ts : List TouchedRow) (p : RowKey) → AscendByPlace ts

@@ -280,7 +280,7 @@ module _ (rows : Rows) where
           filter_kept (IsChangeable rows w) (λ e. e.0.table == number) (entries known)
           (All-entries place_total place_exact known (λ e. (e.0.table == number) ≡ true → IsChangeable rows w e) (λ p o stood at. (
             one_shown tables number w (m number w is) p.table p.id o (eqb-true p.table number at)
-            (subst (IsRowOf (columns_at tables p.table)) (get-earlier earlier p ∙ sym (tables_stand earlier (enumerate_from 0 conditions) p) ∙ ap (λ x. unwrap_or x (get rows p)) stood) (was p)),
+                (subst (IsRowOf (columns_at tables p.table)) (get-earlier earlier p ∙ sym (tables_stand earlier (enumerate_from 0 conditions) p) ∙ ap (λ x. unwrap_or x (get rows p)) stood) (was p)),
             one_shown tables number w (m number w is) p.table p.id (get rows p) (eqb-true p.table number at) (now p),
           )))
 

@@ -138,7 +138,6 @@ unless_only : (o : Option Watched) → IfSome o (λ w. repeats w.columns ≡ fal
 unless_only None once = refl
 unless_only (Some w) once = ap (λ b. cond b (Err BadSelect) (fine (Some w))) once
 
-
 module _ (notation : Notation) (table : Table) where
   pub request_found : (d : Data) (w : Watched) → read_request notation table d ≡ Ok w → SpellsRequest notation table d w
   request_found d w e =

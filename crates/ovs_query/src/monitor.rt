@@ -28,15 +28,14 @@ mod row_update2;
 mod tables;
 mod updates;
 
-pub use earlier::EarlierRows;
-pub use new_conditions::NewConditions;
-
 use crate::clauses::Clauses;
 use crate::monitor::changing::changed_json;
 use crate::monitor::initial::first_json;
 use crate::monitor::new_conditions::set_conditions;
 use crate::monitor::updates::step_json;
 use crate::projected::Projected;
+pub use earlier::EarlierRows;
+pub use new_conditions::NewConditions;
 use ovs_rows::{Applied, Database, Row};
 use ovs_types::{NoMemory, RowId, Text};
 use serde_json::Value;

@@ -162,7 +162,15 @@ fn written(
 {
     let mut members = Map::new(alloc);
     for (number, watched) in watches.iter().enumerate() {
-        put_turned(alloc, &mut members, number, watched, conditions, earlier, database)?;
+        put_turned(
+            alloc,
+            &mut members,
+            number,
+            watched,
+            conditions,
+            earlier,
+            database,
+        )?;
     }
     Ok(Value::Object(members))
 }

@@ -165,11 +165,7 @@ fn read_parts(
 }
 
 // Columns that are told of in updates of these kinds.
-fn monitored(
-    alloc: Global,
-    kinds: Kinds,
-    shown: ShownColumns,
-) -> Result<MonitoredColumns, NoMemory>
+fn monitored(alloc: Global, kinds: Kinds, shown: ShownColumns) -> Result<MonitoredColumns, NoMemory>
     ensures value { IfOk result (λ m. m ≡ monitored kinds shown) }
 {
     let parts = shown.into_vec().into_iter();
