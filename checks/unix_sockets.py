@@ -68,15 +68,20 @@ def source_at(lab, *more, path=None, schema=NET):
     return UnixNode(lab, words, "source", path).serving()
 
 
-def relay_at(lab, *upstreams, more=(), path=None, schema=NET, name="relay"):
-    """A relay of these upstreams, each an address or a node, or several of them."""
+def begun_relay(lab, *upstreams, more=(), path=None, schema=NET, name="relay"):
+    """A relay of these upstreams, each an address or a node, or several of them, which may not serve yet, or have ended."""
     path = path or lab.path(f"{name}-{free_port()}.sock")
     origin = ["--schema", lab.schema(schema)] if schema else ["--database", "net"]
     words = [lab.program, "relay", *origin, "--listen", f"unix:{path}", *more]
     for upstream in upstreams:
         addresses = upstream if isinstance(upstream, list) else [upstream]
         words += ["--upstream", ",".join(getattr(address, "address", address) for address in addresses)]
-    return UnixNode(lab, words, name, path).serving()
+    return UnixNode(lab, words, name, path)
+
+
+def relay_at(lab, *upstreams, **how):
+    """Such a relay, once it serves."""
+    return begun_relay(lab, *upstreams, **how).serving()
 
 
 def ovsdb_server(lab, schema):
@@ -207,7 +212,7 @@ def the_file_at_the_end(lab):
     equal(sorted(relay.child.complaints().splitlines(True)), [TAKEN, UNFED], "the lines of the relay's standard error")
     holds(not os.path.lexists(relay.path), "the relay's socket is left")
     other = source_at(lab, schema=OTHER)
-    refusing = relay_at(lab, other, more=["--end-on-refusal"])
+    refusing = begun_relay(lab, other, more=["--end-on-refusal"])
     equal(refusing.child.wait(END_SECONDS), 1, "the status of a relay whose upstream has another schema")
     holds(not os.path.lexists(refusing.path), "the socket of a relay that ended on a refusal is left")
 
