@@ -1,21 +1,12 @@
 //! What answers the requests that only the source can answer.
 
-ghost use Rattle.std.specs.Prelude.{◌≡◌, ◌≢◌, ℕ, List, Option, Some, map, IfOk, OnErr};
-ghost use Rattle.ovs_authority.specs.Owing.{Owing, AsksTo, CollectsTo, LeavesOthers, IsSame, silent, marked};
+ghost use Rattle.std.specs.Prelude.{◌≡◌, ◌≢◌, ℕ, List, Option, Some, IfOk, OnErr};
+ghost use Rattle.ovs_authority.specs.Owing.{Owing, AsksTo, CollectsTo, LeavesOthers, IsSame, silent};
 
 use crate::ask::Ask;
 use ovs_json::{NoMemory, SessionId};
 use ovs_wire::Message;
 use std::alloc::Global;
-
-/// One of the sessions that a worker serves.
-#[derive(Clone, Copy, Debug, PartialEq, Eq)]
-pub struct Member {
-    /// The session.
-    pub session: SessionId,
-    /// Whether `collect` has a message for it.
-    pub owed: bool,
-}
 
 /// What answers the requests that only the source can answer: the source's own desk, or that of a relay, which passes them on.
 ///
@@ -58,9 +49,4 @@ pub trait Authority {
         ensures silent { owing self.new session ≡ silent }
         ensures owns_none { (name : List ℕ) → owner self.new name ≢ Some session }
         ensures others { LeavesOthers session (owing self.old) (owing self.new) };
-
-    /// Notes for each of these sessions whether `collect` has a message for it: one call for all of a worker's sessions. No
-    /// memory is taken.
-    fn mark(&self, members: &mut [Member])
-        ensures marked { members.new ≡ map (marked (owing self.now)) members.old };
 }

@@ -3,7 +3,7 @@
 use crate::case::{add, list, text, word};
 use crate::case_error::CaseError;
 use crate::desks::{ended, session, verb};
-use ovs_authority::{Ask, Authority, Member, Verb};
+use ovs_authority::{Ask, Authority, Verb};
 use ovs_case_lines::list_in;
 use ovs_desk::RelayDesk;
 use ovs_json::SessionId;
@@ -50,21 +50,6 @@ fn collected<A: Authority>(
     word(alloc, kind(&authority.collect(alloc, session_id)?))
 }
 
-// Whether `collect` has something for a session.
-fn marked<A: Authority>(
-    alloc: Global,
-    authority: &A,
-    session_id: SessionId,
-) -> Result<String, CaseError> {
-    let mut members = [Member {
-        session: session_id,
-        owed: true,
-    }];
-    authority.mark(&mut members);
-    let owed = members.iter().all(|member| member.owed);
-    word(alloc, if owed { "owed" } else { "not owed" })
-}
-
 fn event<A: Authority>(
     alloc: Global,
     authority: &mut A,
@@ -72,7 +57,6 @@ fn event<A: Authority>(
 ) -> Result<String, CaseError> {
     match text(parts, 0)? {
         "told" => collected(alloc, authority, session(parts)?),
-        "marked" => marked(alloc, authority, session(parts)?),
         "end" => ended(alloc, authority, session(parts)?),
         what => asked(alloc, authority, session(parts)?, verb(alloc, what, parts)?),
     }
@@ -106,7 +90,7 @@ fn of_relay(alloc: Global, events: &[Value]) -> Result<String, CaseError> {
 }
 
 /// `["authorities", [EVENT, ..]]`, where an event is `["lock", SESSION, NAME]`, `["steal", SESSION, NAME]`, `["unlock", SESSION,
-/// NAME]`, `["told", SESSION]`, `["marked", SESSION]` or `["end", SESSION]`: what kind of answer each gets from the source's desk,
+/// NAME]`, `["told", SESSION]` or `["end", SESSION]`: what kind of answer each gets from the source's desk,
 /// and the same from a relay's.
 pub(crate) fn authorities(
     alloc: Global,

@@ -5,7 +5,6 @@ pub mod Indexes
 pub mod LedgerOrder
 pub mod LedgerRuns
 pub mod LedgerSteps
-pub mod Marks
 pub mod Numbers
 pub mod Owed
 pub mod Owners

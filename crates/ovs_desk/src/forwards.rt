@@ -344,13 +344,6 @@ impl Forwards {
         Some(self.pending[at].asker)
     }
 
-    /// Whether an answer is due to a session. No memory is taken.
-    pub fn owes(&self, session: SessionId) -> bool
-        ensures value { result ≡ list_any (passes (RequestFilter.Due session)) self.now.ledger.pending }
-    {
-        first_number(&self.due, session).is_some()
-    }
-
     /// Answers each request that waits for its answer that the source was lost. No memory is taken.
     pub fn source_lost(&mut self)
         ensures after { After calls.LosesSource self.old.ledger self.new.ledger }

@@ -2,7 +2,7 @@
 
 ghost use Rattle.std.specs.Prelude.{◌≡◌, ◌≢◌, ◌<◌, ◌^◌, ◌&&◌, ℕ, List, [], true, false, nat_lt, is_some, map, filter, Option, Some, None, Ok, Err, IfOk, IfNone, OnOk, OnErr, option_map, slice_get};
 ghost use Rattle.serde_json.specs.View.{view};
-ghost use Rattle.ovs_authority.specs.Owing.{AsksTo, CollectsTo, LeavesOthers, silent, marked};
+ghost use Rattle.ovs_authority.specs.Owing.{AsksTo, CollectsTo, LeavesOthers, silent};
 ghost use Rattle.ovs_locks.specs.Lock.{name_told};
 ghost use Rattle.ovs_lock_desk.specs.RelayLock.{enters};
 ghost use Rattle.ovs_lock_desk.specs.LockDesk.{IsDeskTable, first_due_up, is_sent_at, answers_to};
@@ -17,7 +17,7 @@ use crate::error::{BadReply, ForwardError, ForwardRefused};
 use crate::forwards::Forwards;
 use crate::source_message::SourceMessage;
 use crate::standing::StandingAnswer;
-use ovs_authority::{Ask, Authority, Member, Response, Verb, lock_request, refused, replied};
+use ovs_authority::{Ask, Authority, Response, Verb, lock_request, refused, replied};
 use ovs_data::TxnId;
 use ovs_json::{NoMemory, SessionId, Text, under_name};
 use ovs_lock_desk::{DeskError, LockDesk, LockReply, LockVerb, StealOutcome};
@@ -485,16 +485,6 @@ impl RelayDesk {
         self.forwards.end_session(session);
         self.locks.end_session(session);
     }
-
-    // The session, and whether anything is owed to it.
-    fn marked(&self, member: Member) -> Member
-        ensures value { result ≡ marked (owing_of self.now) member }
-    {
-        Member {
-            session: member.session,
-            owed: self.forwards.owes(member.session) || self.locks.owes(member.session),
-        }
-    }
 }
 
 impl Authority for RelayDesk {
@@ -548,13 +538,5 @@ impl Authority for RelayDesk {
         ensures after { EndsSession session self.old self.new }
     {
         self.drop_session(session);
-    }
-
-    fn mark(&self, members: &mut [Member])
-        ensures marked { members.new ≡ map (marked (owing_of self.now)) members.old }
-    {
-        for member in members.iter_mut() {
-            *member = self.marked(*member);
-        }
     }
 }

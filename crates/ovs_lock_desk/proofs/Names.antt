@@ -1,5 +1,5 @@
 -- The names of the sessions after each call on a desk, and what they tell.
-use Rattle.std.proofs.Common.{◌≡◌, ℕ, List, [], ◌∷◌, ◌++◌, Bool, true, false, cond, ◌||◌, Option, Some, None, refl, sym, ap, subst, ◌∙◌, length, ◌≤◌, arith}
+use Rattle.std.proofs.Common.{◌≡◌, ℕ, List, [], ◌∷◌, ◌++◌, Bool, true, false, cond, Option, Some, None, refl, sym, ap, subst, ◌∙◌, length, ◌≤◌, arith}
 use Rattle.std.specs.Prelude.{◌==◌, not, ◌&&◌, is_some, slice_get}
 use Rattle.std.specs.List.{list_any}
 use Rattle.std.proofs.lemmas.Bool.{eqb-true, eqb-false}
@@ -20,7 +20,7 @@ use Rattle.ovs_lock_desk.specs.declared.lock_state.LockVerb.{LockVerb}
 use Rattle.ovs_lock_desk.specs.declared.pending_steal.PendingSteal.{PendingSteal}
 use Rattle.ovs_lock_desk.specs.PendingSteal.{is_of, is_open, is_due_late}
 use Rattle.ovs_lock_desk.specs.RelayLock.{RelayLockValue, no_relay_lock, is_desk_idle, concerns, asked_here, step}
-use Rattle.ovs_lock_desk.specs.LockDesk.{RelayLocks, ChangesAt, SendsFirst, SendsOf, AreListed, AreNamed, relay_lock_at, stepped, first_due_up, locks_of, owes_here, owes_at}
+use Rattle.ovs_lock_desk.specs.LockDesk.{RelayLocks, ChangesAt, SendsFirst, SendsOf, AreListed, AreNamed, relay_lock_at, stepped, first_due_up, locks_of, owes_here}
 use Rattle.ovs_lock_desk.proofs.Concerned.{none_stepped, none_asked, none_ended, neither}
 use Rattle.ovs_lock_desk.proofs.Named.{after_change, after_changes, names_tell}
 
@@ -142,18 +142,6 @@ module _ (session : ℕ) where
     where
       by : (b : Bool) → gathered stood es ≡ locks_of session es → cond b ((e.0, e.1) ∷ []) [] ++ gathered stood es ≡ cond b (e ∷ locks_of session es) (locks_of session es)
       by true rest = ap (λ (xs : RelayLocks). e ∷ xs) rest
-      by false rest = rest
-
-  -- those that owe it something
-  abbrev pub owing : List ℕ → RelayLockValue → List (List ℕ)
-  owing name l = cond (owes_here session l) (name ∷ []) []
-
-  pub owing_all : (es : RelayLocks) → is_some (slice_get (gathered owing es) 0) ≡ owes_at session es
-  owing_all [] = refl
-  owing_all (e ∷ es) = by (owes_here session e.1) (owing_all es)
-    where
-      by : (b : Bool) → is_some (slice_get (gathered owing es) 0) ≡ owes_at session es → is_some (slice_get (cond b (e.0 ∷ []) [] ++ gathered owing es) 0) ≡ (b || owes_at session es)
-      by true rest = refl
       by false rest = rest
 
 module _ (session : ℕ) (locks : RelayLocks) (s : Sessions) (ascend : Ascends locks) (names : Ascends (names_at session s)) (named : AreNamed locks s) where

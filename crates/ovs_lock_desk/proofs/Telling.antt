@@ -1,6 +1,6 @@
 -- What the marked names of a session tell: all that it is owed.
 use Rattle.std.proofs.Common.{◌≡◌, ℕ, List, [], ◌∷◌, ◌++◌, Bool, true, false, cond, Some, None, refl, sym, ap, ◌∙◌}
-use Rattle.std.specs.Prelude.{map, filter, is_some, slice_get}
+use Rattle.std.specs.Prelude.{map, filter}
 use Rattle.std.specs.List.{list_any, AllByRecursion}
 use Rattle.ovs_locks.specs.ByName.{Ascends, gathered}
 use Rattle.ovs_locks.specs.BySession.{Names, Sessions, names_at, mark_in, is_some_owed, owed_names}
@@ -10,9 +10,9 @@ use Rattle.ovs_locks.proofs.NextNotice.{lock_owes, nothing_first}
 use Rattle.ovs_lock_desk.specs.declared.pending_steal.PendingSteal.{PendingSteal}
 use Rattle.ovs_lock_desk.specs.PendingSteal.{is_due_late}
 use Rattle.ovs_lock_desk.specs.RelayLock.{RelayLockValue}
-use Rattle.ovs_lock_desk.specs.LockDesk.{RelayLocks, AreNamed, AreMarked, relay_lock_at, owes_here, owes_at, answers_here, answers_to, notices_here, notices_to}
+use Rattle.ovs_lock_desk.specs.LockDesk.{RelayLocks, AreNamed, AreMarked, relay_lock_at, owes_here, answers_here, answers_to, notices_here, notices_to}
 use Rattle.ovs_lock_desk.proofs.Concerned.{neither}
-use Rattle.ovs_lock_desk.proofs.Names.{owing, owing_all, tells, nothing_owed}
+use Rattle.ovs_lock_desk.proofs.Names.{tells, nothing_owed}
 
 -- what a name tells, where it is marked
 abbrev pub marked : {X : Type 0} → (List ℕ → RelayLockValue → List X) → RelayLocks → List ℕ → Bool → List X
@@ -76,9 +76,6 @@ module _ (session : ℕ) (locks : RelayLocks) (s : Sessions) (ascend : Ascends l
   no_notices : (name : List ℕ) (l : RelayLockValue) → owes_here session l ≡ false → notices_here session name l ≡ []
   no_notices name l none = nothing_first (notices_here session name l) (lock_owes session name l.lock ∙ (neither (list_any (is_due_late session) l.late) (is_owed session l.lock) none).1)
 
-  no_owing : (name : List ℕ) (l : RelayLockValue) → owes_here session l ≡ false → owing session name l ≡ []
-  no_owing name l none = ap (λ (b : Bool). cond b (name ∷ []) []) none
-
   pub answers_told : (ns : Names) → Some ns ≡ owed_names session s → gathered (marked (answers_here session) locks) ns ≡ answers_to session locks
   answers_told ns is = tell_all (answers_here session) no_answers ns is
 
@@ -90,9 +87,3 @@ module _ (session : ℕ) (locks : RelayLocks) (s : Sessions) (ascend : Ascends l
 
   pub notices_none : None ≡ owed_names session s → [] ≡ notices_to session locks
   notices_none is = tell_nothing (notices_here session) no_notices is
-
-  pub owing_told : (ns : Names) → Some ns ≡ owed_names session s → is_some (slice_get (gathered (marked (owing session) locks) ns) 0) ≡ owes_at session locks
-  owing_told ns is = ap (λ (xs : List (List ℕ)). is_some (slice_get xs 0)) (tell_all (owing session) no_owing ns is) ∙ owing_all session locks
-
-  pub owing_none : None ≡ owed_names session s → false ≡ owes_at session locks
-  owing_none is = ap (λ (xs : List (List ℕ)). is_some (slice_get xs 0)) (tell_nothing (owing session) no_owing is) ∙ owing_all session locks

@@ -130,11 +130,6 @@ stands_at session locks = list_any (λ (e : List ℕ × RelayLockValue). stands 
 abbrev pub owes_here : ℕ → RelayLockValue → Bool
 owes_here session l = list_any (is_due_late session) l.late || is_owed session l.lock
 
--- whether a session is owed an answer or a notice
-abbrev pub owes_at : ℕ → RelayLocks → Bool
-owes_at session [] = false
-owes_at session (e ∷ es) = owes_here session e.1 || owes_at session es
-
 -- each number has the names of the locks that pass this test of the number
 abbrev pub AreListed : (ℕ → RelayLockValue → Bool) → RelayLocks → Sessions → Type 0
 AreListed test locks lists = (number : ℕ) (name : List ℕ) → mark_at number name lists ≡ None → test number (relay_lock_at name locks) ≡ false

@@ -3,7 +3,7 @@
 ghost use Rattle.std.specs.Prelude.{◌≡◌, [], true, false, OnOk, OnErr, IfOk, slice_get, option_map, if◌then◌else◌};
 ghost use Rattle.ovs_locks.specs.LockTable.{is_lock};
 ghost use Rattle.ovs_lock_desk.specs.RelayLock.{step, enters, asked_here, desk_owner, AnswersBy, MayHappen};
-ghost use Rattle.ovs_lock_desk.specs.LockDesk.{IsDeskTable, IsGone, is_full, relay_lock_at, ChangesAt, SendsFirst, refusal_at, stepped, first_due_up, answers_to, notices_to, owed_to, is_sent_at, owes_at};
+ghost use Rattle.ovs_lock_desk.specs.LockDesk.{IsDeskTable, IsGone, is_full, relay_lock_at, ChangesAt, SendsFirst, refusal_at, stepped, first_due_up, answers_to, notices_to, owed_to, is_sent_at};
 
 use crate::desk_notice::DeskNotice;
 use crate::error::DeskError;
@@ -284,21 +284,6 @@ impl LockDesk {
         if let Some(names) = self.sessions.take(session) {
             mark_owners(self.table.locks(), &mut self.sessions, &names);
         }
-    }
-
-    /// Whether a session is owed an answer or a notice. No memory is taken.
-    pub fn owes(&self, session: SessionId) -> bool
-        ensures value { result ≡ owes_at session self.now.locks }
-    {
-        let Some(names) = self.sessions.owed(session) else {
-            return false;
-        };
-        for (name, mark) in names.iter() {
-            if *mark && self.table.locks().owes(session, name) {
-                return true;
-            }
-        }
-        false
     }
 
     /// What a session is owed and wasn't told, in this order: the answers to its steals, and then what became of its locks,

@@ -215,17 +215,6 @@ impl BySession {
         }
     }
 
-    /// Whether something may be owed to a session.
-    pub fn is_owed(&self, session: SessionId) -> bool
-        ensures value { result ≡ is_some_owed (names_at session self.now) }
-        ensures ascend { Ascends (names_at session self.now) }
-    {
-        match self.sessions.get(&session) {
-            Some(names) => names.is_owed,
-            None => false,
-        }
-    }
-
     /// The names of a session.
     pub fn names(&self, session: SessionId) -> Option<&BTreeMap<Text, bool>>
         ensures value { unwrap_or (option_map (λ m. m.now.entries) result) [] ≡ names_at session self.now }

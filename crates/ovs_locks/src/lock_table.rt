@@ -302,13 +302,6 @@ impl LockTable {
         Ok(None)
     }
 
-    /// Whether a session is owed a notice, so that `first_notice` has one. No memory is taken.
-    pub fn owes(&self, session: SessionId) -> bool
-        ensures value { result ≡ is_some (slice_get (owed_to session self.now) 0) }
-    {
-        self.sessions.is_owed(session)
-    }
-
     // Notes that a session was told the first notice that it was owed for a lock.
     fn note_one_told(&mut self, session: SessionId, name: &Text)
         ensures after { ChangesAt name.now (after_one session) self.old self.new }

@@ -8,7 +8,6 @@ mod case;
 mod client;
 mod engine;
 mod fold;
-mod hosts;
 mod jobs;
 mod many;
 mod memory_threads;

@@ -4,7 +4,6 @@ ghost use Rattle.std.specs.Prelude.{◌≡◌, ◌≤◌, []};
 ghost use Rattle.ovs_node.specs.Nodes.{OpenNodeInStep};
 ghost use Rattle.ovs_node.specs.Ledger.{IsFresh};
 
-use crate::hosts::WorkerHost;
 use crate::node_case_error::NodeCaseError;
 use crate::poller::MemoryPoller;
 use crate::sessions::{ReaderScript, read_scripts};
@@ -97,12 +96,8 @@ fn served<K: NodeName, R: Wait>(
     let desk = Unshared::new(RelayDesk::new(alloc, Text::new(alloc, "net")?));
     let have_all_come = AtomicBool::new(false);
     let poller = MemoryPoller::new(scripts.as_slice(), scene.piece, &have_all_come);
-    let mut host = WorkerHost {
-        service: NodeService::new(alloc, view, desk),
-        next: 0,
-    };
-    let (totals, _poller, _served) = serve_many(rt, alloc, &mut host, poller, LIMITS);
-    let WorkerHost { service, next: _ } = host;
+    let mut service = NodeService::new(alloc, view, desk, 0);
+    let (totals, _poller, _served) = serve_many(rt, alloc, &mut service, poller, LIMITS);
     let (_view, desk) = service.into_parts();
     let _desk = desk.into_inner();
     told(alloc, totals, scripts.as_slice())

@@ -16,7 +16,7 @@ mod unshared;
 
 pub use client::Client;
 pub use laws::{answers_come_behind_what_they_stand_for, reader_laws};
-pub use service::NodeService;
+pub use service::{NodeService, worker_of};
 pub use service_authority::ServiceAuthority;
 pub use session_token::{AuthorityCall, SessionToken};
 pub use unshared::{Unshared, copy_ask};

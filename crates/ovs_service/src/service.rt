@@ -1,5 +1,5 @@
 //! A node serves its readers.
-ghost use Rattle.std.specs.Prelude.{◌≡◌, ◌++◌, ◌∷◌, [], ℕ, List, Contains, Ok, Err, true, false, IfOk, OnOk, OnErr};
+ghost use Rattle.std.specs.Prelude.{◌≡◌, ◌++◌, ◌∷◌, ◌+◌, ◌*◌, [], ℕ, List, Contains, Ok, Err, true, false, IfOk, IfSome, OnOk, OnErr};
 ghost use mathlib.Core.List.{IsPrefix};
 ghost use Rattle.ovs_wire.specs.Message.{Says};
 ghost use Rattle.ovs_links.specs.declared.step.Step.{Step};
@@ -13,7 +13,7 @@ use ovs_json::SessionId;
 use ovs_session::{Outbox, Service, ServiceError, TurnProgress};
 use ovs_views::{NodeName, Told, View};
 use ovs_wire::{Message, MessageError};
-use ovs_worker::SessionHost;
+use ovs_worker::{AcceptingHost, SessionHost};
 use std::alloc::Global;
 
 // The message that a text says.
@@ -41,7 +41,15 @@ fn progress_of<K: NodeName>(is_all: bool, client: &Client<K>) -> TurnProgress
     }
 }
 
-/// A node's service of its readers: each message is answered from a view of what is published, or by the authority where only
+// So many workers can be told apart by the numbers of their sessions.
+const WORKERS: u64 = 64;
+
+/// The worker whose service gave a session this number.
+pub fn worker_of(session_id: SessionId) -> usize {
+    (session_id % WORKERS) as usize
+}
+
+/// The service of a worker's readers: each message is answered from a view of what is published, or by the authority where only
 /// the source can answer, and each reader is told what its monitors show and what the authority owes it.
 pub struct NodeService<K: NodeName, D: ServiceAuthority<K>> {
     alloc: Global,
@@ -49,20 +57,27 @@ pub struct NodeService<K: NodeName, D: ServiceAuthority<K>> {
     desk: D,
     // The view said that what is published can't be read any more.
     is_gone: bool,
+    // The number of the worker, below that of workers that can be told apart.
+    worker: u64,
+    // How many sessions it has begun.
+    begun: u64,
 }
 
 impl<K: NodeName, D: ServiceAuthority<K>> NodeService<K, D> {
-    /// The service by this view and this authority.
-    pub fn new(alloc: Global, view: View<K>, desk: D) -> NodeService<K, D>
+    /// The service by this view and this authority, of the worker of this number. Workers of one node have numbers below 64.
+    pub fn new(alloc: Global, view: View<K>, desk: D, worker: usize) -> NodeService<K, D>
         ensures view { result.view ≡ view }
         ensures desk { result.desk ≡ desk }
         ensures here { result.is_gone ≡ false }
+        ensures begun { result.begun ≡ 0 }
     {
         NodeService {
             alloc,
             view,
             desk,
             is_gone: false,
+            worker: worker as u64 % WORKERS,
+            begun: 0,
         }
     }
 
@@ -76,16 +91,10 @@ impl<K: NodeName, D: ServiceAuthority<K>> NodeService<K, D> {
             view,
             desk,
             is_gone: _,
+            worker: _,
+            begun: _,
         } = self;
         (view, desk)
-    }
-
-    /// A reader of which nothing was heard yet, which is shown no less than what the view knows. The authority knows it by this
-    /// number, which is to be one that no other reader has or had.
-    pub fn client(&self, session_id: SessionId) -> Client<K>
-        ensures value { result ≡ new_client session_id self.now.view }
-    {
-        Client::new(self.alloc, SessionToken::new(session_id), self.view.known())
     }
 
     /// From now on readers are shown no less than this.
@@ -94,6 +103,7 @@ impl<K: NodeName, D: ServiceAuthority<K>> NodeService<K, D> {
         ensures told { IsPrefix told.now self.new.view }
         ensures desk { self.new.desk ≡ self.old.desk }
         ensures gone { self.new.is_gone ≡ self.old.is_gone }
+        ensures begun { self.new.begun ≡ self.old.begun }
     {
         self.view.learn(told);
     }
@@ -106,6 +116,7 @@ impl<K: NodeName, D: ServiceAuthority<K>> NodeService<K, D> {
         ensures gone { result ≡ Err ServiceError.Gone → self.new.is_gone ≡ true }
         ensures epoch { result ≡ Err ServiceError.Epoch → HasBegunAnew K.schema self.new.view client.new }
         ensures desk { self.new.desk ≡ self.old.desk }
+        ensures begun { (self.new.begun ≡ self.old.begun) × (self.new.worker ≡ self.old.worker) }
     {
         let heard = client.hear(self.alloc, &mut self.view, message);
         self.is_gone = matches!(heard, Err(ServiceError::Gone));
@@ -122,6 +133,7 @@ impl<K: NodeName, D: ServiceAuthority<K>> NodeService<K, D> {
         ensures gone { result ≡ Err ServiceError.Gone → self.new.is_gone ≡ true }
         ensures epoch { result ≡ Err ServiceError.Epoch → HasBegunAnew K.schema self.new.view client.new }
         ensures desk { self.new.desk ≡ self.old.desk }
+        ensures begun { (self.new.begun ≡ self.old.begun) × (self.new.worker ≡ self.old.worker) }
     {
         let is_all_told = client.pump(self.alloc, &mut self.view);
         self.is_gone = matches!(is_all_told, Err(ServiceError::Gone));
@@ -143,6 +155,7 @@ impl<K: NodeName, D: ServiceAuthority<K>> NodeService<K, D> {
         ensures gone { result ≡ Err ServiceError.Gone → self.new.is_gone ≡ true }
         ensures epoch { result ≡ Err ServiceError.Epoch → HasBegunAnew K.schema self.new.view client.new }
         ensures none_ended { D.ended self.new.desk ≡ D.ended self.old.desk }
+        ensures begun { (self.new.begun ≡ self.old.begun) × (self.new.worker ≡ self.old.worker) }
     {
         let is_all_told = self.pump(client)?;
         let is_all = client.collect(self.alloc, is_all_told, &mut self.view, &mut self.desk);
@@ -200,6 +213,7 @@ impl<K: NodeName, D: ServiceAuthority<K>> Service for NodeService<K, D> {
         ensures shown { OnOk result ((said : List ℕ) × AnswersFrom K.schema D.replies D.owes self.new.view client.old text.now said client.new × (out.new ≡ out.old ++ said)) }
         ensures still_gone { self.old.is_gone ≡ true → result ≡ Err ServiceError.Gone }
         ensures none_ended { D.ended self.new.desk ≡ D.ended self.old.desk }
+        ensures begun { (self.new.begun ≡ self.old.begun) × (self.new.worker ≡ self.old.worker) }
     {
         if self.is_gone {
             return Err(ServiceError::Gone);
@@ -229,6 +243,7 @@ impl<K: NodeName, D: ServiceAuthority<K>> Service for NodeService<K, D> {
         ensures shown { OnOk result ((said : List ℕ) × TellsOf K.schema D.replies D.owes self.new.view client.old said client.new × (out.new ≡ out.old ++ said)) }
         ensures still_gone { self.old.is_gone ≡ true → result ≡ Err ServiceError.Gone }
         ensures none_ended { D.ended self.new.desk ≡ D.ended self.old.desk }
+        ensures begun { (self.new.begun ≡ self.old.begun) × (self.new.worker ≡ self.old.worker) }
     {
         if self.is_gone {
             return Err(ServiceError::Gone);
@@ -258,7 +273,27 @@ impl<K: NodeName, D: ServiceAuthority<K>> SessionHost for NodeService<K, D> {
         ensures silent { Contains (D.ended self.new.desk) client.now.session_id }
         ensures stays { (other : ClientValue) → Contains (D.ended self.old.desk) other.session_id → Contains (D.ended self.new.desk) other.session_id }
         ensures ended { D.ended self.new.desk ≡ D.ended self.old.desk ++ client.now.session_id ∷ [] }
+        ensures begun { (self.new.begun ≡ self.old.begun) × (self.new.worker ≡ self.old.worker) }
     {
         self.desk.end_session(client.token());
     }
+}
+
+impl<K: NodeName, D: ServiceAuthority<K>> AcceptingHost for NodeService<K, D> {
+    /// A reader of which nothing was heard yet, and which is shown no less than what the view knows. Its number is the worker's, and
+    /// how many sessions began before: so no two sessions of a worker have one. `None` where numbers have run out.
+    fn begin(&mut self) -> Option<Client<K>>
+        ensures begins { IfSome result (λ client. client ≡ new_client (self.old.begun * 64 + self.old.worker) self.old.view) }
+        ensures next { IfSome result (λ _. self.new.begun ≡ self.old.begun + 1) }
+        ensures worker { self.new.worker ≡ self.old.worker }
+    {
+        let begun = self.begun.checked_add(1)?;
+        let session_id = self.begun.checked_mul(WORKERS)?.checked_add(self.worker)?;
+        self.begun = begun;
+        let token = SessionToken::new(session_id);
+        Some(Client::new(self.alloc, token, self.view.known()))
+    }
+
+    // What is published is seen at the next entry, so that there is nothing to note.
+    fn woken(&mut self) {}
 }

@@ -14,7 +14,7 @@ use ovs_node::{NodeName, View};
 use ovs_service::{Client, NodeService, Unshared};
 use ovs_session::{Ended, Limits, Session, TurnProgress, turn};
 use ovs_wire::Counted;
-use ovs_worker::SessionHost;
+use ovs_worker::{AcceptingHost, SessionHost};
 use serde_json::Value;
 use std::alloc::Global;
 use std::io::ErrorKind;
@@ -94,7 +94,7 @@ impl<K: NodeName> Relay<K> {
         alloc: Global,
     ) -> Result<NodeService<K, Unshared<RelayDesk>>, SessionCaseError> {
         let AtRest { view, desk } = self.rest.take().ok_or(SessionCaseError::NoView)?;
-        Ok(NodeService::new(alloc, view, Unshared::new(desk)))
+        Ok(NodeService::new(alloc, view, Unshared::new(desk), WHO as usize))
     }
 
     fn lay(&mut self, service: NodeService<K, Unshared<RelayDesk>>) {
@@ -105,10 +105,10 @@ impl<K: NodeName> Relay<K> {
 
     // A new reader.
     fn client(&mut self, alloc: Global) -> Result<Client<K>, SessionCaseError> {
-        let service = self.serve(alloc)?;
-        let client = service.client(WHO);
+        let mut service = self.serve(alloc)?;
+        let client = service.begin();
         self.lay(service);
-        Ok(client)
+        client.ok_or(SessionCaseError::NoView)
     }
 
     // A turn of its session.

@@ -1,7 +1,7 @@
 //! What stands in for the source at a relay's desk, and what is looked at there once a session has ended.
 
 use crate::session_case_error::SessionCaseError;
-use ovs_authority::{Ask, Authority, Member, Response, Verb};
+use ovs_authority::{Ask, Authority, Response, Verb};
 use ovs_desk::{RelayDesk, SourceMessage, StandingAnswer};
 use ovs_json::{Json, SessionId, Text};
 use ovs_types::TxnId;
@@ -107,13 +107,7 @@ fn owes_nothing(
     desk: &mut RelayDesk,
     session_id: SessionId,
 ) -> Result<bool, SessionCaseError> {
-    let mut members = [Member {
-        session: session_id,
-        owed: true,
-    }];
-    desk.mark(&mut members);
-    let is_owed = members.iter().any(|member| member.owed);
-    Ok(!is_owed && desk.collect(alloc, session_id)?.is_none())
+    Ok(desk.collect(alloc, session_id)?.is_none())
 }
 
 // Whether nothing goes up but that locks are left.
