@@ -12,7 +12,7 @@ use Rattle.ovs_wire.specs.Reading.{list_of}
 use Rattle.ovs_wire.specs.declared.message.Message.{Message}
 use Rattle.ovs_wire.specs.declared.message.Message.TheVariants.{Request, Reply, Notice}
 use Rattle.ovs_wire.proofs.Lists.{items_again}
-use Rattle.ovs_follow.specs.UpstreamState.{SaysNone}
+use Rattle.ovs_session.specs.Messages.{SaysNothing}
 
 null_or_not : (d : Data) → (d ≡ null) ⊎ (d ≢ null)
 null_or_not null = inl refl
@@ -104,10 +104,10 @@ spells_or_none d = by (get (codes "method") d) refl
     by (Some (array ds)) e = other_method d (array ds) e (λ s no. cc)
     by (Some (object ms)) e = other_method d (object ms) e (λ s no. cc)
 
-pub says_or_none : (text : List ℕ) → ((m : Message) × Says text m) ⊎ SaysNone text
+pub says_or_none : (text : List ℕ) → ((m : Message) × Says text m) ⊎ SaysNothing text
 says_or_none text = by (is_utf8 text) (read text) refl refl
   where
-    by : (b : Bool) (o : Option Data) → is_utf8 text ≡ b → read text ≡ o → ((m : Message) × Says text m) ⊎ SaysNone text
+    by : (b : Bool) (o : Option Data) → is_utf8 text ≡ b → read text ≡ o → ((m : Message) × Says text m) ⊎ SaysNothing text
     by false o utf8 is = inr (λ m says. absurd (let no : false ≡ true = sym utf8 ∙ is_utf8-from_IsUtf8 text says.1.0 in cc))
     by true None utf8 is = inr (λ m says. absurd (let no : None ≡ Some says.0 = sym is ∙ says.1.1 in cc))
     by true (Some d) utf8 is = elim (spells_or_none d) [

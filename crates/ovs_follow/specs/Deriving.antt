@@ -6,12 +6,12 @@ use Rattle.ovs_wire.specs.Message.{Says}
 use Rattle.ovs_wire.specs.declared.message.Message.{Message}
 use Rattle.ovs_upstream.specs.Hearing.{derived}
 use Rattle.ovs_upstream.specs.declared.up_session.UpSession.{UpSession}
-use Rattle.ovs_follow.specs.UpstreamState.{SaysNone}
+use Rattle.ovs_session.specs.Messages.{SaysNothing}
 
 -- the messages that the texts say, up to the first that says none
 abbrev pub AreRead : List (List ℕ) → List Message → Type 0
 AreRead [] ms = ms ≡ []
-AreRead (t ∷ ts) [] = SaysNone t
+AreRead (t ∷ ts) [] = SaysNothing t
 AreRead (t ∷ ts) (m ∷ ms) = Says t m × AreRead ts ms
 
 -- the links that a session makes of a stream of bytes, of which a message may have `most`: of the messages that are framed in it, up to the first text that says

@@ -9,7 +9,8 @@ use Rattle.ovs_upstream.specs.declared.error.UpError.{UpError}
 use Rattle.ovs_upstream.specs.declared.error.UpError.TheVariants as errors
 use Rattle.ovs_upstream.specs.declared.up_session.Heard.{Heard}
 use Rattle.ovs_upstream.specs.declared.up_session.UpSession.{UpSession}
-use Rattle.ovs_follow.specs.UpstreamState.{UpstreamStateValue, IsHeard, SaysNone}
+use Rattle.ovs_follow.specs.UpstreamState.{UpstreamStateValue, IsHeard}
+use Rattle.ovs_session.specs.Messages.{SaysNothing}
 use Rattle.ovs_follow.specs.declared.input_fault.InputFault.{InputFault}
 use Rattle.ovs_follow.specs.declared.input_fault.InputFault.TheVariants.{Stream, NoMessage, Message, Reply}
 
@@ -25,7 +26,7 @@ fault_of_heard (Err (errors.Change e)) = Some (Message (errors.Change e))
 
 -- the text says no message, or one that the session refuses so, or one that it hears, so that what the message says was refused
 abbrev pub IsFaultOf : UpSession → List ℕ → InputFault → Type 0
-IsFaultOf up text NoMessage = SaysNone text
+IsFaultOf up text NoMessage = SaysNothing text
 IsFaultOf up text (Message e) = (m : message.Message) × Says text m × (hears up m ≡ Err e)
 IsFaultOf up text Reply = (h : Heard) × IsHeard up text h
 IsFaultOf up text (Stream fault) = ⊥

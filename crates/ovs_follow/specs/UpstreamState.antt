@@ -5,6 +5,7 @@ use Rattle.std.specs.Option.{option_to_list}
 use Rattle.ovs_types.specs.Schema.{SchemaValue}
 use Rattle.ovs_links.specs.contracts.link.Link as link_row
 use Rattle.ovs_links.specs.declared.link.Link.{Link}
+use Rattle.ovs_session.specs.Messages.{SaysNothing}
 use Rattle.ovs_wire.specs.Message.{Says, IsWritten}
 use Rattle.ovs_wire.specs.contracts.message.Message as message_row
 use Rattle.ovs_wire.specs.declared.message.Message.{Message}
@@ -52,10 +53,6 @@ begun schema asked sent = record { up = opening schema asked; has_begun = false;
 
 -- ---- what is heard
 
--- the text says no message
-abbrev pub SaysNone : List ℕ → Type 0
-SaysNone text = (m : Message) → Says text m → ⊥
-
 -- the text says a message that comes to this
 pub record IsHeard (up : UpSession) (text : List ℕ) (heard : Heard) : Type 0 where
   pub message : Message
@@ -64,7 +61,7 @@ pub record IsHeard (up : UpSession) (text : List ℕ) (heard : Heard) : Type 0 w
 
 -- the text says no message, or one that the session refuses
 abbrev pub IsUnheard : UpSession → List ℕ → Type 0
-IsUnheard up text = SaysNone text ⊎ ((m : Message) × Says text m × ((e : UpError) × (hears up m ≡ Err e)))
+IsUnheard up text = SaysNothing text ⊎ ((m : Message) × Says text m × ((e : UpError) × (hears up m ≡ Err e)))
 
 -- the message that is to be sent back is written, and else nothing
 abbrev pub IsSaid : UpEvent → List ℕ → Type 0

@@ -5,31 +5,14 @@ ghost use Rattle.ovs_wire.specs.Message.{Says};
 ghost use Rattle.ovs_links.specs.Sets.{AllOf, IsOfTables};
 ghost use Rattle.ovs_upstream.specs.Hearing.{hears, links_in};
 ghost use Rattle.ovs_upstream.specs.declared.error.UpError.{UpError};
-ghost use Rattle.ovs_follow.specs.UpstreamState.{IsHeard, IsUnheard, SaysNone};
+ghost use Rattle.ovs_follow.specs.UpstreamState.{IsHeard, IsUnheard};
 ghost use Rattle.ovs_follow.specs.Faults.{IsFaultOf, fault_of_heard};
 
 use crate::input_fault::InputFault;
-use ovs_session::ServiceError;
+use ovs_session::{ServiceError, read_message};
 use ovs_upstream::{Heard, UpError, UpSession};
-use ovs_wire::{Message, MessageError};
+use ovs_wire::Message;
 use std::alloc::Global;
-
-/// The message that a text says.
-///
-/// - `BadInput`: it says none.
-/// - `NoMemory`.
-pub(crate) fn read(alloc: Global, text: &[u8]) -> Result<Message, ServiceError>
-    ensures says { IfOk result (λ m. Says text.now m) }
-    ensures none { result ≡ Err ServiceError.BadInput → SaysNone text.now }
-    ensures never_gone { result ≡ Err ServiceError.Gone → ⊥ }
-    ensures never_epoch { result ≡ Err ServiceError.Epoch → ⊥ }
-{
-    match Message::read(alloc, text) {
-        Ok(message) => Ok(message),
-        Err(MessageError::NoMemory) => Err(ServiceError::NoMemory),
-        Err(_) => Err(ServiceError::BadInput),
-    }
-}
 
 // What a message comes to.
 fn hear_message(alloc: Global, up: &UpSession, message: Message) -> Result<Heard, ServiceError>
@@ -57,7 +40,7 @@ pub(crate) fn hear(alloc: Global, up: &UpSession, text: &[u8]) -> Result<Heard, 
     ensures never_gone { result ≡ Err ServiceError.Gone → ⊥ }
     ensures never_epoch { result ≡ Err ServiceError.Epoch → ⊥ }
 {
-    match read(alloc, text) {
+    match read_message(alloc, text) {
         Ok(message) => hear_message(alloc, up, message),
         Err(refusal) => Err(refusal),
     }
@@ -86,7 +69,7 @@ fn fault_of_message(alloc: Global, up: &UpSession, message: Message) -> Option<I
 pub(crate) fn fault_of_text(alloc: Global, up: &UpSession, text: &[u8]) -> Option<InputFault>
     ensures fault { IfSome result (IsFaultOf up.now text.now) }
 {
-    match read(alloc, text) {
+    match read_message(alloc, text) {
         Ok(message) => fault_of_message(alloc, up, message),
         Err(ServiceError::BadInput) => Some(InputFault::NoMessage),
         Err(_) => None,

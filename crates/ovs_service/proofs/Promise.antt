@@ -18,7 +18,8 @@ use Rattle.ovs_service.specs.Texts.{AreTextsOf}
 use Rattle.ovs_service.specs.Deeds.{Task, ToSay, task_of, tasks, Settles}
 use Rattle.ovs_views.specs.Published.{ViewSessionValue}
 use Rattle.ovs_service.specs.Calls.{Call, Give, heard}
-use Rattle.ovs_service.specs.Client.{ClientValue, AnswersTo, TellsNew, SaysNothing, new_client, new_view}
+use Rattle.ovs_service.specs.Client.{ClientValue, AnswersTo, TellsNew, new_client, new_view}
+use Rattle.ovs_session.specs.Messages.{SaysNothing}
 use Rattle.ovs_service.specs.Kept.{IsBadInput, WritesBeginning, WritesAll, Kept}
 use Rattle.ovs_service.proofs.Settled.{append_nil}
 use Rattle.ovs_service.proofs.Runs.{run_of}

@@ -4,7 +4,6 @@ use Rattle.ovs_types.specs.Schema.{SchemaValue}
 use Rattle.ovs_links.specs.Absorbing.{folded_by}
 use Rattle.ovs_links.specs.declared.step.Step.{Step}
 use Rattle.ovs_authority.specs.declared.ask.Ask.{Ask}
-use Rattle.ovs_wire.specs.Message.{Says}
 use Rattle.ovs_wire.specs.declared.message.Message.{Message}
 use Rattle.ovs_reader.specs.Session.{is_over, new_session}
 use Rattle.ovs_reader.specs.Turns.{turn, after_turn}
@@ -74,10 +73,6 @@ pub record IsTold (schema : SchemaValue) (shown : List Step) (old new : ClientVa
     calls = old.calls;
     due = old.due ++ added;
   }
-
--- the text says no message
-abbrev pub SaysNothing : List ℕ → Type 0
-SaysNothing text = (m : Message) → Says text m → ⊥
 
 module _ (schema : SchemaValue) (replies : ℕ → Ask → Option Message → Type 0) (owes : Bool → ℕ → List Step → Message → Type 0) where
   -- Calls are made for a client. What comes of them is to be done behind what was due; the first of it is done, by these calls of the

@@ -17,7 +17,8 @@ use Rattle.ovs_session.specs.declared.ended.Ended.{Ended}
 use Rattle.ovs_session.specs.declared.ended.Ended.TheVariants.{Closed, BadInput}
 use Rattle.ovs_views.specs.Published.{ViewSessionValue}
 use Rattle.ovs_service.specs.Calls.{Call, Give, heard}
-use Rattle.ovs_service.specs.Client.{ClientValue, SaysNothing}
+use Rattle.ovs_service.specs.Client.{ClientValue}
+use Rattle.ovs_session.specs.Messages.{SaysNothing}
 use Rattle.ovs_service.specs.Deeds.{Task, Deed, task_of, messages_of, calls_of, tasks, IsReplied, Settles}
 use Rattle.ovs_service.specs.Texts.{AreTextsOf}
 

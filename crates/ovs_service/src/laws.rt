@@ -9,7 +9,8 @@ ghost use Rattle.ovs_links.specs.declared.step.Step.{Step};
 ghost use Rattle.ovs_session.specs.Moving.{Moved, IsBad};
 ghost use Rattle.ovs_session.specs.Serving.{SessionValue, IsDone, fresh};
 ghost use Rattle.ovs_session.specs.declared.ended.Ended.{Ended};
-ghost use Rattle.ovs_service.specs.Client.{ClientValue, AnswersTo, TellsNew, SaysNothing, new_client, new_view};
+ghost use Rattle.ovs_service.specs.Client.{ClientValue, AnswersTo, TellsNew, new_client, new_view};
+ghost use Rattle.ovs_session.specs.Messages.{SaysNothing};
 ghost use Rattle.ovs_service.specs.Kept.{Kept};
 
 use crate::service_authority::ServiceAuthority;

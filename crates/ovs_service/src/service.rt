@@ -1,34 +1,20 @@
 //! A node serves its readers.
 ghost use Rattle.std.specs.Prelude.{◌≡◌, ◌++◌, ◌∷◌, ◌+◌, ◌*◌, [], ℕ, List, Contains, Ok, Err, true, false, IfOk, IfSome, OnOk, OnErr};
 ghost use mathlib.Core.List.{IsPrefix};
-ghost use Rattle.ovs_wire.specs.Message.{Says};
+ghost use Rattle.ovs_session.specs.Messages.{SaysNothing};
 ghost use Rattle.ovs_links.specs.declared.step.Step.{Step};
 ghost use Rattle.ovs_service.specs.Calls.{IsAllTold};
-ghost use Rattle.ovs_service.specs.Client.{new_client, SaysNothing, AnswersFrom, AnswersTo, TellsOf, TellsNew, MayAsk, IsAnswered, HasAll, HasBegunAnew, Hears, IsTold, ClientValue};
+ghost use Rattle.ovs_service.specs.Client.{new_client, AnswersFrom, AnswersTo, TellsOf, TellsNew, MayAsk, IsAnswered, HasAll, HasBegunAnew, Hears, IsTold, ClientValue};
 
 use crate::client::Client;
 use crate::service_authority::ServiceAuthority;
 use crate::session_token::SessionToken;
 use ovs_json::SessionId;
-use ovs_session::{Outbox, Service, ServiceError, TurnProgress};
+use ovs_session::{Outbox, Service, ServiceError, TurnProgress, read_message};
 use ovs_views::{NodeName, Told, View};
-use ovs_wire::{Message, MessageError};
+use ovs_wire::Message;
 use ovs_worker::{AcceptingHost, SessionHost};
 use std::alloc::Global;
-
-// The message that a text says.
-fn read(alloc: Global, text: &[u8]) -> Result<Message, ServiceError>
-    ensures says { IfOk result (Says text.now) }
-    ensures bad { result ≡ Err ServiceError.BadInput → SaysNothing text.now }
-    ensures never_gone { result ≡ Err ServiceError.Gone → ⊥ }
-    ensures never_epoch { result ≡ Err ServiceError.Epoch → ⊥ }
-{
-    match Message::read(alloc, text) {
-        Ok(message) => Ok(message),
-        Err(MessageError::NoMemory) => Err(ServiceError::NoMemory),
-        Err(_) => Err(ServiceError::BadInput),
-    }
-}
 
 // Whether a session is to be told more, where this was all that is new, or wasn't.
 fn progress_of<K: NodeName>(is_all: bool, client: &Client<K>) -> TurnProgress
@@ -218,7 +204,7 @@ impl<K: NodeName, D: ServiceAuthority<K>> Service for NodeService<K, D> {
         if self.is_gone {
             return Err(ServiceError::Gone);
         }
-        let message = read(self.alloc, text)?;
+        let message = read_message(self.alloc, text)?;
         self.hear(client, message)?;
         client.flush(self.alloc, &mut self.desk, out);
         Ok(())

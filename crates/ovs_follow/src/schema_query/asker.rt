@@ -2,7 +2,7 @@
 
 ghost use Rattle.std.specs.Prelude.{◌≡◌, true, None};
 ghost use Rattle.ovs_follow.specs.SchemaQuery.{Hears, Asks};
-ghost use Rattle.ovs_follow.specs.UpstreamState.{SaysNone};
+ghost use Rattle.ovs_session.specs.Messages.{SaysNothing};
 
 use crate::schema_query::hearing::hear;
 use crate::schema_query::reply::SchemaReply;
@@ -34,7 +34,7 @@ impl Service for SchemaAsker {
 
     ghost tells = { λ old said new. Asks old said new };
 
-    ghost refuses = { λ _ text. SaysNone text };
+    ghost refuses = { λ _ text. SaysNothing text };
 
     ghost may_answer = { λ _. Unit {0} };
 

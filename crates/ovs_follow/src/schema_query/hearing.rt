@@ -2,13 +2,12 @@
 
 ghost use Rattle.std.specs.Prelude.{◌≡◌, IfOk, Err};
 ghost use Rattle.ovs_follow.specs.SchemaQuery.{IsHeard, IsSaid};
-ghost use Rattle.ovs_follow.specs.UpstreamState.{SaysNone};
+ghost use Rattle.ovs_session.specs.Messages.{SaysNothing};
 
-use crate::hearing::read;
 use crate::schema_query::reply::{SchemaReply, reply_of};
 use crate::schema_query::request::REQUEST_ID;
 use ovs_json::{NoMemory, is_word};
-use ovs_session::ServiceError;
+use ovs_session::{ServiceError, read_message};
 use ovs_wire::Message;
 use std::alloc::Global;
 
@@ -30,11 +29,11 @@ fn reply_in(alloc: Global, message: &Message) -> Result<Option<SchemaReply>, NoM
 /// - `NoMemory`.
 pub(crate) fn hear(alloc: Global, text: &[u8]) -> Result<Option<SchemaReply>, ServiceError>
     ensures heard { IfOk result (IsHeard text.now) }
-    ensures none { result ≡ Err ServiceError.BadInput → SaysNone text.now }
+    ensures none { result ≡ Err ServiceError.BadInput → SaysNothing text.now }
     ensures never_gone { result ≡ Err ServiceError.Gone → ⊥ }
     ensures never_epoch { result ≡ Err ServiceError.Epoch → ⊥ }
 {
-    match read(alloc, text) {
+    match read_message(alloc, text) {
         Ok(message) => Ok(reply_in(alloc, &message)?),
         Err(refusal) => Err(refusal),
     }
