@@ -1,5 +1,5 @@
 -- What the text of a message says.
-use Rattle.std.specs.Prelude.{ℕ, List, ⊥}
+use Rattle.std.specs.Prelude.{ℕ, List}
 use Rattle.ovs_wire.specs.declared.message.Message.{Message}
 use Rattle.ovs_wire.specs.Message.{Says}
 
