@@ -7,4 +7,4 @@ returns-in-Ok c = record { fault = c.fault_of_message.ensures.fault c.args.text.
 
 pub returns-in-Err-BadInput : goal.returns-in-Err-BadInput
 returns-in-Err-BadInput c =
-    record { fault = c.in-Err-BadInput.ensures.none (let same : c.in-Err-BadInput.field-0 ≡ BadInput = cc in ap (λ r. Err r) same) }
+    record { fault = c.in-Err-BadInput.ensures.bad (let same : c.in-Err-BadInput.field-0 ≡ BadInput = cc in ap (λ r. Err r) same) }

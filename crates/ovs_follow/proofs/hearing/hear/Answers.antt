@@ -3,4 +3,4 @@ use Rattle.ovs_session.specs.declared.ended.ServiceError.TheVariants.{BadInput}
 use Rattle.ovs_follow.proofs.hearing.hear.Goals as goal
 
 pub returns-in-Err-clause-bad : goal.returns-in-Err-clause-bad
-returns-in-Err-clause-bad c = λ bad. inl (c.in-Err.ensures.none (let same : c.in-Err.refusal ≡ BadInput = cc in ap (λ r. Err r) same))
+returns-in-Err-clause-bad c = λ bad. inl (c.in-Err.ensures.bad (let same : c.in-Err.refusal ≡ BadInput = cc in ap (λ r. Err r) same))
