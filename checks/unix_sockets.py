@@ -194,8 +194,9 @@ def what_nodes_say(lab):
     """With `--verbose` a node says `unix` of a client at its Unix socket, and gives the path of an upstream."""
     source = source_at(lab, "--verbose")
     relay = relay_at(lab, source, more=["--verbose"]).with_source()
-    holds(any(re.fullmatch(r"worker \d session \d+ opened by unix", line) for line in lines(source.child)), f"the source says {lines(source.child)!r}")
-    holds(f"upstream {source.address} found" in lines(relay.child), f"the relay says {lines(relay.child)!r}")
+    opened = re.compile(r"worker \d session \d+ opened by unix")
+    wait_until(lambda: any(opened.fullmatch(line) for line in lines(source.child)), 15, "the source says that a session was opened")
+    wait_until(lambda: f"upstream {source.address} found" in lines(relay.child), 15, "the relay says that its upstream was found")
 
 
 @check(240)
