@@ -21,7 +21,8 @@ use Rattle.ovs_desk.specs.declared.forwarded.ForwardedState.{ForwardedState}
 use Rattle.ovs_desk.specs.declared.forwarded.ForwardedState.TheVariants.{Waiting, Taken, Answered, Lost}
 use Rattle.ovs_desk.specs.declared.forwarded.RequestFilter.TheVariants.{Due}
 use Rattle.ovs_desk.specs.Ledger.{Forwarding, Ledger, is_open, passes, without_first, going_back, reply_of as back_of, next_back}
-use Rattle.ovs_desk.specs.RelayDesk.{RelayValue, owing_of, owner_of, is_open_of, ids_of, late_id, message_of}
+use Rattle.ovs_locks.specs.Notices.{message_of}
+use Rattle.ovs_desk.specs.RelayDesk.{RelayValue, owing_of, owner_of, is_open_of, ids_of, late_id}
 use Rattle.ovs_desk.specs.Relaying.{late_answer, CollectsSent, CollectsLate, CollectsNotice, CollectsOfLock, CollectsFirst, Collects, GivesLate, GivesNotice}
 use Rattle.ovs_desk.proofs.Owed.{stands_idle}
 use Rattle.ovs_desk.proofs.Owners.{answer_told_owner, notice_told_owner}

@@ -24,7 +24,8 @@ use Rattle.ovs_desk.specs.declared.error.ForwardRefused.{ForwardRefused}
 use Rattle.ovs_desk.specs.Asserts.{rewritten}
 use Rattle.ovs_desk.specs.Calls.{SendsTo, sent_by, with_one_more}
 use Rattle.ovs_desk.specs.Ledger.{Forwarding, Ledger, is_open, passes}
-use Rattle.ovs_desk.specs.RelayDesk.{RelayValue, owing_of, is_open_of, ids_of, late_id, message_of, with_forwards}
+use Rattle.ovs_locks.specs.Notices.{message_of}
+use Rattle.ovs_desk.specs.RelayDesk.{RelayValue, owing_of, is_open_of, ids_of, late_id, with_forwards}
 use Rattle.ovs_desk.specs.Relaying.{AsksByName, IsAnsweredBy, LocksAfter, Transacts, IsSendReply, EndsSession}
 
 -- ---- a session that keeps what it waits for

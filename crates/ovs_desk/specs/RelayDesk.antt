@@ -1,11 +1,8 @@
 -- A relay's desk, and what it owes.
-use Rattle.std.specs.Prelude.{ℕ, List, [], ◌∷◌, ◌++◌, ◌==◌, ◌&&◌, Bool, false, map, filter, Option, codes}
-use Rattle.serde_json.specs.Data.{Data, string}
-use Rattle.ovs_wire.specs.declared.message.Message.{Message}
-use Rattle.ovs_wire.specs.declared.message.Message.TheVariants as messages
+use Rattle.std.specs.Prelude.{ℕ, List, [], ◌++◌, ◌==◌, ◌&&◌, Bool, false, map, filter, Option}
+use Rattle.serde_json.specs.Data.{Data}
 use Rattle.ovs_authority.specs.Owing.{Owing}
-use Rattle.ovs_locks.specs.declared.notice.LockNotice.{LockNotice}
-use Rattle.ovs_locks.specs.declared.notice.LockNotice.TheVariants.{Locked, Stolen}
+use Rattle.ovs_locks.specs.Notices.{message_of}
 use Rattle.ovs_lock_desk.specs.RelayLock.{desk_owner}
 use Rattle.ovs_lock_desk.specs.LockDesk.{DeskValue, relay_lock_at, answers_to, notices_to, open_steals, stands_at}
 use Rattle.ovs_lock_desk.specs.declared.pending_steal.PendingSteal.{PendingSteal}
@@ -46,11 +43,6 @@ ids_of es = map (λ (e : Forwarded). e.id) es
 
 abbrev pub late_id : List ℕ × PendingSteal → Data
 late_id a = a.1.id
-
--- a notice as a message: `locked` or `stolen`, with the name of the lock
-abbrev pub message_of : LockNotice → Message
-message_of (Locked name) = messages.Notice (codes "locked") (string name ∷ [])
-message_of (Stolen name) = messages.Notice (codes "stolen") (string name ∷ [])
 
 -- transactions, and then steals; the notices go after the answers to both
 abbrev pub owing_of : RelayValue → ℕ → Owing

@@ -37,7 +37,8 @@ use Rattle.ovs_desk.specs.Asserts.{rewritten}
 use Rattle.ovs_desk.specs.Calls.{After, SendsTo}
 use Rattle.ovs_desk.specs.Calls as calls
 use Rattle.ovs_desk.specs.Ledger.{to_go, due_to, next_up, next_back}
-use Rattle.ovs_desk.specs.RelayDesk.{RelayValue, with_forwards, with_locks, message_of}
+use Rattle.ovs_locks.specs.Notices.{message_of}
+use Rattle.ovs_desk.specs.RelayDesk.{RelayValue, with_forwards, with_locks}
 
 -- the requests alone change, as by this call on them
 abbrev pub ChangesRequests : calls.Call → RelayValue → RelayValue → Type 0

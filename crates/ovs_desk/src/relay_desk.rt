@@ -3,12 +3,11 @@
 ghost use Rattle.std.specs.Prelude.{◌≡◌, ◌≢◌, ◌<◌, ◌^◌, ◌&&◌, ℕ, List, [], true, false, nat_lt, is_some, map, filter, Option, Some, None, Ok, Err, IfOk, IfNone, OnOk, OnErr, option_map, slice_get};
 ghost use Rattle.serde_json.specs.View.{view};
 ghost use Rattle.ovs_authority.specs.Owing.{AsksTo, CollectsTo, LeavesOthers, silent};
-ghost use Rattle.ovs_locks.specs.Lock.{name_told};
 ghost use Rattle.ovs_lock_desk.specs.RelayLock.{enters};
 ghost use Rattle.ovs_lock_desk.specs.LockDesk.{IsDeskTable, first_due_up, is_sent_at, answers_to};
 ghost use Rattle.ovs_desk.specs.Calls as calls;
 ghost use Rattle.ovs_desk.specs.Ledger.{passes, lost_to, next_standing, asker_of};
-ghost use Rattle.ovs_desk.specs.RelayDesk.{new_desk, owing_of, owner_of, message_of};
+ghost use Rattle.ovs_desk.specs.RelayDesk.{new_desk, owing_of, owner_of};
 ghost use Rattle.ovs_desk.specs.Relaying.{ChangesRequests, locked_reply, immediate_reply, text_of, late_answer, IsRefusalOf, IsSendReply, AsksForLock, AsksByName, Asks, lock_takes_memory, takes_memory, Transacts, is_lock_next, TakesUp, TakesUpLock, TakesUpDue, method_of, given_so, lock_reply, Hears, HearsReply, HearsOfLock, LosesSource, FindsSource, CollectsSent, CollectsLate, CollectsNotice, CollectsOfLock, Collects, EndsSession};
 ghost use Rattle.ovs_desk.specs.declared.forwarded.RequestFilter.{RequestFilter};
 
@@ -21,7 +20,6 @@ use ovs_authority::{Ask, Authority, Response, Verb, lock_request, refused, repli
 use ovs_data::TxnId;
 use ovs_json::{NoMemory, SessionId, Text, under_name};
 use ovs_lock_desk::{DeskError, LockDesk, LockReply, LockVerb, StealOutcome};
-use ovs_locks::LockNotice;
 use ovs_wire::{Id, Message};
 use serde_json::{Map, Value};
 use std::alloc::Global;
@@ -136,30 +134,6 @@ fn told_of_unsent(alloc: Global, unsent: ForwardRefused) -> Result<Option<Messag
         }
         ForwardError::NoMemory => Err(NoMemory),
     }
-}
-
-// The lock of which a notice tells.
-fn lock_of(notice: &LockNotice) -> &Text
-    ensures value { result.now ≡ name_told notice.now }
-{
-    match notice {
-        LockNotice::Locked(name) | LockNotice::Stolen(name) => name,
-    }
-}
-
-// `locked` or `stolen`, with the name of the lock.
-fn message_of(alloc: Global, notice: &LockNotice) -> Result<Message, NoMemory>
-    ensures value { IfOk result (λ m. m ≡ message_of notice.now) }
-{
-    let (method, name) = match notice {
-        LockNotice::Locked(name) => ("locked", name),
-        LockNotice::Stolen(name) => ("stolen", name),
-    };
-    let request = lock_request(alloc, method, name)?;
-    Ok(Message::Notice {
-        method: request.method,
-        params: request.params,
-    })
 }
 
 // The method of a lock request.
@@ -454,8 +428,8 @@ impl RelayDesk {
         let Some(notice) = self.locks.first_notice(session)? else {
             return Ok(None);
         };
-        let message = message_of(alloc, &notice)?;
-        self.locks.notice_told(session, lock_of(&notice));
+        let message = notice.to_message(alloc)?;
+        self.locks.notice_told(session, notice.name());
         Ok(Some(message))
     }
 

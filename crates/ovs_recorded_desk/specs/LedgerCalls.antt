@@ -16,7 +16,7 @@ use Rattle.ovs_desk.specs.Asserts.{rewritten}
 use Rattle.ovs_desk.specs.Calls.{Call, Sends, TakesUp, Replies, LosesSource, Collects, Ends}
 use Rattle.ovs_desk.specs.Ledger as ledger
 use Rattle.ovs_desk.specs.Ledger.{Ledger}
-use Rattle.ovs_desk.specs.RelayDesk.{message_of}
+use Rattle.ovs_locks.specs.Notices.{message_of}
 use Rattle.ovs_desk.specs.Relaying.{first_lock, late_answer, method_of, under_number}
 use Rattle.ovs_desk.specs.Runs.{Runs, no_request, sent, taken_up, collected, numbers, RiseFrom, IsPartOf, EachOnce, AllGiveOwn, StaysAway, GivesNothing}
 use Rattle.ovs_desk.specs.declared.forwarded.Forwarded.{Forwarded}
