@@ -8,9 +8,11 @@ use Rattle.ovs_types.specs.declared.schema.NamedColumn.{NamedColumn}
 use Rattle.ovs_types.specs.Equality.{datum_eq}
 use Rattle.ovs_rows.specs.declared.row_key.RowKey.{RowKey}
 use Rattle.ovs_rows.specs.declared.row.Row.{Row}
-use Rattle.ovs_rows.specs.Row.{Rows}
+use Rattle.ovs_rows.specs.Row.{Rows, columns_at}
 use Rattle.ovs_rows.specs.After.{put_at}
-use Rattle.ovs_rows.specs.Scanning.{rows_past}
+use Rattle.ovs_rows.specs.DatabaseDifference.{IsCommit}
+use Rattle.ovs_rows.specs.Draft.{DraftValue}
+use Rattle.ovs_rows.specs.Scanning.{row_in, rows_past}
 use Rattle.ovs_query.specs.declared.conditions.Condition.{Condition}
 use Rattle.ovs_query.specs.Conditions.{all_hold}
 use Rattle.ovs_operations.specs.declared.operation.Alteration.{Alteration}
@@ -93,3 +95,24 @@ module _ (id : ℕ) (before : Rows) (columns : List NamedColumn) (matches : RowK
   -- rows of other tables stay
   abbrev pub after_all : ℕ → RowKey → Option Row → Option Row
   after_all table p row = if p.table == table then altered_at p row else row
+
+-- ---- in a draft
+
+-- the columns of a table
+abbrev pub columns_in : DraftValue → ℕ → List NamedColumn
+columns_in work table = columns_at work.before.schema.description.tables table
+
+-- what a commit's alteration of the rows of a table comes to, of which these conditions hold
+abbrev pub rows_altered : ℕ → DraftValue → ℕ → List Condition → Alteration → Read RunResult
+rows_altered commit work table conditions alteration =
+    alter_all commit work.before.rows (columns_in work table) (matches conditions) alteration table work.rows
+
+-- what it comes to for one row alone, where so many have matched before
+abbrev pub row_altered : ℕ → DraftValue → RowKey → List Condition → Alteration → ℕ → Read RunResult
+row_altered commit work p conditions alteration count =
+    alter_at commit work.before.rows (columns_in work p.table) (matches conditions) alteration
+    (record { rows = work.rows; count = count }) p (row_in p.table p.id work.rows)
+
+-- these rows are those before the draft with a commit's changes
+abbrev pub AreOfCommit : ℕ → DraftValue → Rows → Type 0
+AreOfCommit commit work rows = IsCommit work.before.schema.description.tables work.before.rows rows commit

@@ -3,9 +3,7 @@
 ghost use Rattle.std.specs.Prelude.{◌≡◌, ◌≤◌, ◌+◌, ℕ, IfOk, IfErr, IfSome, Ok, Err, option_map};
 ghost use Rattle.std.specs.Option.{option_copied};
 ghost use Rattle.ovs_rows.specs.Row.{AreDataOf, columns_at};
-ghost use Rattle.ovs_rows.specs.DatabaseDifference.{IsCommit};
-ghost use Rattle.ovs_rows.specs.Scanning.{row_in};
-ghost use Rattle.ovs_operations.specs.Altering.{IsAlterationOf, RunResult, row_of, altered, matches, alter_at, alter_all};
+ghost use Rattle.ovs_operations.specs.Altering.{IsAlterationOf, AreOfCommit, row_of, altered, columns_in, row_altered, rows_altered};
 
 use crate::mutating::write_all;
 use crate::operation::Alteration;
@@ -95,18 +93,15 @@ fn alter_row(
     conditions: &Conditions,
     alteration: &Alteration,
 ) -> Result<Result<usize, OperationError>, NoMemory>
-    requires alteration { IsAlterationOf (columns_at work.old.before.schema.description.tables table) alteration.now }
+    requires alteration { IsAlterationOf (columns_in work.old table) alteration.now }
     ensures done { IfOk result (λ r. IfOk r (λ n. (count : ℕ) →
-        alter_at commit work.old.before.rows (columns_at work.old.before.schema.description.tables table) (matches conditions.now) alteration.now
-        (record { rows = work.old.rows; count = count }) (record { table = table; id = id }) (row_in table id work.old.rows)
+        row_altered commit work.old (record { table = table; id = id }) conditions.now alteration.now count
         ≡ Ok (record { rows = work.new.rows; count = count + n }))) }
     ensures fault { IfOk result (λ r. IfErr r (λ e. (count : ℕ) →
-        alter_at commit work.old.before.rows (columns_at work.old.before.schema.description.tables table) (matches conditions.now) alteration.now
-        (record { rows = work.old.rows; count = count }) (record { table = table; id = id }) (row_in table id work.old.rows) ≡ Err e)) }
+        row_altered commit work.old (record { table = table; id = id }) conditions.now alteration.now count ≡ Err e)) }
     ensures most { IfOk result (λ r. IfOk r (λ n. n ≤ 1)) }
     ensures before { work.new.before ≡ work.old.before }
-    ensures commit { IsCommit work.old.before.schema.description.tables work.old.before.rows work.old.rows commit
-        → IfOk result (λ r. IfOk r (λ n. IsCommit work.old.before.schema.description.tables work.old.before.rows work.new.rows commit)) }
+    ensures commit { AreOfCommit commit work.old work.old.rows → IfOk result (λ r. IfOk r (λ n. AreOfCommit commit work.old work.new.rows)) }
 {
     let schema = work.schema();
     let Some(row) = work.row(RowKey { table, id }) else {
@@ -136,15 +131,13 @@ fn alter_rows(
     conditions: &Conditions,
     alteration: &Alteration,
 ) -> Result<Result<usize, OperationError>, NoMemory>
-    requires alteration { IsAlterationOf (columns_at work.old.before.schema.description.tables table) alteration.now }
+    requires alteration { IsAlterationOf (columns_in work.old table) alteration.now }
     ensures done { IfOk result (λ r. IfOk r (λ count.
-        alter_all commit work.old.before.rows (columns_at work.old.before.schema.description.tables table) (matches conditions.now) alteration.now table work.old.rows
-        ≡ Ok (record { rows = work.new.rows; count = count }))) }
+        rows_altered commit work.old table conditions.now alteration.now ≡ Ok (record { rows = work.new.rows; count = count }))) }
     ensures fault { IfOk result (λ r. IfErr r (λ e.
-        alter_all commit work.old.before.rows (columns_at work.old.before.schema.description.tables table) (matches conditions.now) alteration.now table work.old.rows ≡ Err e)) }
+        rows_altered commit work.old table conditions.now alteration.now ≡ Err e)) }
     ensures before { work.new.before ≡ work.old.before }
-    ensures commit { IsCommit work.old.before.schema.description.tables work.old.before.rows work.old.rows commit
-        → IfOk result (λ r. IfOk r (λ count. IsCommit work.old.before.schema.description.tables work.old.before.rows work.new.rows commit)) }
+    ensures commit { AreOfCommit commit work.old work.old.rows → IfOk result (λ r. IfOk r (λ count. AreOfCommit commit work.old work.new.rows)) }
 {
     let most = work.len_bound();
     let mut count = 0;
@@ -173,15 +166,13 @@ pub(crate) fn alter(
     conditions: &Conditions,
     alteration: &Alteration,
 ) -> Result<Result<usize, OperationError>, NoMemory>
-    requires alteration { IsAlterationOf (columns_at work.old.before.schema.description.tables table) alteration.now }
+    requires alteration { IsAlterationOf (columns_in work.old table) alteration.now }
     ensures done { IfOk result (λ r. IfOk r (λ count.
-        alter_all commit work.old.before.rows (columns_at work.old.before.schema.description.tables table) (matches conditions.now) alteration.now table work.old.rows
-        ≡ Ok (record { rows = work.new.rows; count = count }))) }
+        rows_altered commit work.old table conditions.now alteration.now ≡ Ok (record { rows = work.new.rows; count = count }))) }
     ensures fault { IfOk result (λ r. IfErr r (λ e.
-        alter_all commit work.old.before.rows (columns_at work.old.before.schema.description.tables table) (matches conditions.now) alteration.now table work.old.rows ≡ Err e)) }
+        rows_altered commit work.old table conditions.now alteration.now ≡ Err e)) }
     ensures before { work.new.before ≡ work.old.before }
-    ensures commit { IsCommit work.old.before.schema.description.tables work.old.before.rows work.old.rows commit
-        → IfOk result (λ r. IfOk r (λ count. IsCommit work.old.before.schema.description.tables work.old.before.rows work.new.rows commit)) }
+    ensures commit { AreOfCommit commit work.old work.old.rows → IfOk result (λ r. IfOk r (λ count. AreOfCommit commit work.old work.new.rows)) }
 {
     match conditions.row_id() {
         Some(id) => alter_row(alloc, work, commit, table, id, conditions, alteration),
