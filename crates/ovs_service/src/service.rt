@@ -1,5 +1,5 @@
 //! A node serves its readers.
-ghost use Rattle.std.specs.Prelude.{◌≡◌, ◌++◌, ◌∷◌, ◌+◌, ◌*◌, [], ℕ, List, Contains, Ok, Err, true, false, IfOk, IfSome, OnOk, OnErr};
+ghost use Rattle.std.specs.Prelude.{◌≡◌, ◌<◌, ◌++◌, ◌∷◌, ◌+◌, ◌*◌, [], ℕ, List, Contains, Ok, Err, true, false, IfOk, IfSome, OnOk, OnErr};
 ghost use mathlib.Core.List.{IsPrefix};
 ghost use Rattle.ovs_session.specs.Messages.{SaysNothing};
 ghost use Rattle.ovs_links.specs.declared.step.Step.{Step};
@@ -31,7 +31,9 @@ fn progress_of<K: NodeName>(is_all: bool, client: &Client<K>) -> TurnProgress
 const WORKERS: u64 = 64;
 
 /// The worker whose service gave a session this number.
-pub fn worker_of(session_id: SessionId) -> usize {
+pub fn worker_of(session_id: SessionId) -> usize
+    ensures worker { (worker begun : ℕ) → worker < 64 → session_id ≡ begun * 64 + worker → result ≡ worker }
+{
     (session_id % WORKERS) as usize
 }
 
@@ -56,6 +58,7 @@ impl<K: NodeName, D: ServiceAuthority<K>> NodeService<K, D> {
         ensures desk { result.desk ≡ desk }
         ensures here { result.is_gone ≡ false }
         ensures begun { result.begun ≡ 0 }
+        ensures number { (result.worker < 64) × (worker < 64 → result.worker ≡ worker) }
     {
         NodeService {
             alloc,
