@@ -118,12 +118,12 @@ impl UpstreamHandler for DeskSide {
 
 // A desk at which a session asked for a transaction and for the lock.
 fn asked_desk(alloc: Global, operations: &Value) -> Result<RelayDesk, SessionCaseError> {
-    let mut desk = RelayDesk::new(alloc, Text::new(alloc, "net")?);
     let operations = operations.as_array().ok_or(SessionCaseError::Malformed)?;
     let ask = Ask {
         id: Id::from_number(1),
         verb: Verb::Transact(operations.clone()?),
     };
+    let mut desk = RelayDesk::new(alloc, Text::new(alloc, "net")?);
     desk.ask(alloc, WHO, ask)?;
     ask_for_lock(alloc, &mut desk, WHO)?;
     Ok(desk)
