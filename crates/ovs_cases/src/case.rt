@@ -75,6 +75,7 @@ fn of_schema(
         "desk" => desks::desk(alloc, schema, parts),
         "authorities" => authorities::authorities(alloc, schema, parts),
         "upstream" => upstreams::upstream(alloc, schema, parts),
+        "resumed" => upstreams::resumed(alloc, schema, parts),
         "reader" => readers::reader(alloc, schema, parts),
         _ => Err(CaseError::Malformed),
     }

@@ -72,8 +72,9 @@ fn relay_told(alloc: Global, given: &RelayOptions) -> Result<String, CaseError> 
     let verbose = flag(given.verbose, ", tells");
     let ends = flag(given.end_on_refusal, ", ends on refusal");
     let prunes = flag(given.prunes, ", prunes");
+    let resyncs = flag(given.resyncs, ", resyncs");
     let rest = format!(in alloc;
-        ", accepts {accepts}, tries {tries}{most}{verbose}{ends}{prunes}"
+        ", accepts {accepts}, tries {tries}{most}{verbose}{ends}{prunes}{resyncs}"
     )?;
     told.push_str(rest.as_str())?;
     Ok(told)

@@ -7,6 +7,7 @@ ghost use Rattle.ovs_upstream.specs.Hearing.{links_in};
 
 use crate::case::{list, text, word};
 use crate::case_error::{CaseError, is_refused, is_so};
+use crate::changes::after;
 use crate::folds::{shortened, spelled_out};
 use crate::messages::text_of;
 use crate::sources::link_text;
@@ -175,4 +176,35 @@ pub(crate) fn upstream(
 ) -> Result<String, CaseError> {
     let mut session = UpSession::open(alloc, schema, commit(text(parts, 1)?)?)?;
     all(alloc, schema, &mut session, list(parts, 2)?)
+}
+
+fn taken(
+    alloc: Global,
+    schema: &Schema,
+    session: &mut UpSession,
+    messages: &[Value],
+) -> Result<String, CaseError>
+    requires schema { session.old.schema ≡ schema.now }
+{
+    let mut answers = first(alloc, session)?;
+    for message in messages {
+        let message = message_of(alloc, message)?;
+        let answer = heard(alloc, schema, session, message)?;
+        answers.push_str(" | ")?;
+        answers.push_str(answer.as_str().trim())?;
+    }
+    shortened(alloc, answers.as_str())
+}
+
+/// `["resumed", ASKED, [CHANGE, ..], [MESSAGE, ..]]`: the same of a session that knows the database at that id, which is the one after these changes.
+/// Each message is taken at once.
+pub(crate) fn resumed(
+    alloc: Global,
+    schema: &Schema,
+    parts: &[Value],
+) -> Result<String, CaseError> {
+    let database = after(alloc, schema, list(parts, 2)?)?;
+    let asked = commit(text(parts, 1)?)?;
+    let mut session = UpSession::resume(alloc, database.copy(alloc)?, asked)?;
+    taken(alloc, schema, &mut session, list(parts, 3)?)
 }

@@ -10,7 +10,7 @@ use Rattle.std.proofs.lemmas.Slice.Zip.{AllZip-long}
 use Rattle.clap.specs.Words.{Row, Text, all_of}
 use Rattle.ovs_command_line.specs.declared.command_option.CommandOption.TheVariants.{Upstream}
 use Rattle.ovs_command_line.specs.declared.command_fault.CommandFault.{CommandFault}
-use Rattle.ovs_command_line.specs.declared.command_fault.CommandFault.TheVariants.{Usage, Missing, TwoOrigins, BadValue, OneTooMany, OwnAddress, NoMemory}
+use Rattle.ovs_command_line.specs.declared.command_fault.CommandFault.TheVariants.{Usage, Missing, TwoOrigins, BadValue, OneTooMany, OwnAddress, ResyncOfSeveral, NoMemory}
 use Rattle.ovs_command_line.specs.Values.{parts_of}
 use Rattle.ovs_command_line.specs.Options.{Addresses, word_of, words_of, goes_beyond, SpellsUpstream, AreUpstreams}
 use Rattle.ovs_command_line.specs.Faults.{IsFaultOf, IsOneTooMany, IsFaultAmong, IsFaultInside}
@@ -64,6 +64,7 @@ fifth_fault rows word at TwoOrigins made = absurd (let no : TwoOrigins ≡ NoMem
 fifth_fault rows word at (Missing o) made = absurd (let no : Missing o ≡ NoMemory = made in cc)
 fifth_fault rows word at (BadValue o w) made = absurd (let no : BadValue o w ≡ NoMemory = made in cc)
 fifth_fault rows word at (OwnAddress a) made = absurd (let no : OwnAddress a ≡ NoMemory = made in cc)
+fifth_fault rows word at ResyncOfSeveral made = absurd (let no : ResyncOfSeveral ≡ NoMemory = made in cc)
 
 -- a part of one of them is no address
 pub address_fault : (rows : List Row) (fault : CommandFault) → IsFaultInside (goes_beyond rows) (words_of Upstream rows) fault → IsFaultOf Upstream rows fault
@@ -71,6 +72,7 @@ address_fault rows (BadValue o w) made = made
 address_fault rows NoMemory made = tt
 address_fault rows (OneTooMany w) made = absurd (let no : OneTooMany w ≡ NoMemory = made in cc)
 address_fault rows (OwnAddress a) made = absurd (let no : OwnAddress a ≡ NoMemory = made in cc)
+address_fault rows ResyncOfSeveral made = absurd (let no : ResyncOfSeveral ≡ NoMemory = made in cc)
 address_fault rows (Usage line) made = absurd (let no : Usage line ≡ NoMemory = made in cc)
 address_fault rows TwoOrigins made = absurd (let no : TwoOrigins ≡ NoMemory = made in cc)
 address_fault rows (Missing o) made = absurd (let no : Missing o ≡ NoMemory = made in cc)
@@ -118,6 +120,7 @@ fault_inside beyond words word among (BadValue o w) made = (made.0, (word, among
 fault_inside beyond words word among NoMemory made = refl
 fault_inside beyond words word among (OneTooMany w) made = made
 fault_inside beyond words word among (OwnAddress a) made = made
+fault_inside beyond words word among ResyncOfSeveral made = made
 fault_inside beyond words word among (Usage line) made = made
 fault_inside beyond words word among TwoOrigins made = made
 fault_inside beyond words word among (Missing o) made = made

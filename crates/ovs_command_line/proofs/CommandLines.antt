@@ -7,7 +7,7 @@ use Rattle.clap.specs.declared.error.kind.ErrorKind.TheVariants.{DisplayHelp, Di
 use Rattle.ovs_command_line.specs.declared.command_line.Task.{Task}
 use Rattle.ovs_command_line.specs.declared.command_line.Task.TheVariants.{Fold, World, Source, Relay, Help, Version}
 use Rattle.ovs_command_line.specs.declared.command_fault.CommandFault.{CommandFault}
-use Rattle.ovs_command_line.specs.declared.command_fault.CommandFault.TheVariants.{Usage, Missing, TwoOrigins, BadValue, OneTooMany, OwnAddress, NoMemory}
+use Rattle.ovs_command_line.specs.declared.command_fault.CommandFault.TheVariants.{Usage, Missing, TwoOrigins, BadValue, OneTooMany, OwnAddress, ResyncOfSeveral, NoMemory}
 use Rattle.ovs_command_line.specs.CommandLine.{AskForText, found_for, is_task, program}
 use Rattle.ovs_command_line.specs.Faults.{HaveFault, IsRefusal}
 use Rattle.ovs_command_line.proofs.CommandFaults.{help_is_all, version_is_all}
@@ -59,6 +59,7 @@ module _ (e : Error) (a : App) (words : List Text) (is : a ≡ program) (has : H
   fault_of_error (Err (BadValue o word)) refusal = absurd refusal
   fault_of_error (Err (OneTooMany word)) refusal = absurd refusal
   fault_of_error (Err (OwnAddress a)) refusal = absurd refusal
+  fault_of_error (Err ResyncOfSeveral) refusal = absurd refusal
   fault_of_error (Err (Usage line)) refusal = elim found [
     | inl none ↦ absurd (refusal.2 none)
     | inr among ↦ (
@@ -84,6 +85,7 @@ module _ (e : Error) (a : App) (words : List Text) (is : a ≡ program) (has : H
   asked_of_error asks (Err (BadValue o word)) refusal = absurd refusal
   asked_of_error asks (Err (OneTooMany word)) refusal = absurd refusal
   asked_of_error asks (Err (OwnAddress a)) refusal = absurd refusal
+  asked_of_error asks (Err ResyncOfSeveral) refusal = absurd refusal
   asked_of_error asks (Err (Usage line)) refusal = absurd ((fault_of_error (Err (Usage line)) refusal).1 asks)
 
   -- where the words are taken, memory ran out
@@ -101,4 +103,5 @@ module _ (e : Error) (a : App) (words : List Text) (is : a ≡ program) (has : H
   memory_of_error none P (Err (BadValue o word)) refusal = absurd refusal
   memory_of_error none P (Err (OneTooMany word)) refusal = absurd refusal
   memory_of_error none P (Err (OwnAddress a)) refusal = absurd refusal
+  memory_of_error none P (Err ResyncOfSeveral) refusal = absurd refusal
   memory_of_error none P (Err (Usage line)) refusal = absurd (refusal.2 none)

@@ -13,12 +13,12 @@ use Rattle.ovs_command_line.specs.declared.options.SchemaOrigin.TheVariants as o
 use Rattle.ovs_command_line.specs.declared.command_option.CommandOption.{CommandOption}
 use Rattle.ovs_command_line.specs.declared.command_option.CommandOption.TheVariants.{Schema, Database, Listen, Upstream, FirstId, FirstRow, TrimEvery, Accepts, Tries, MostBytes}
 use Rattle.ovs_command_line.specs.declared.command_fault.CommandFault.{CommandFault}
-use Rattle.ovs_command_line.specs.declared.command_fault.CommandFault.TheVariants.{Usage, Missing, TwoOrigins, BadValue, OneTooMany, OwnAddress, NoMemory}
+use Rattle.ovs_command_line.specs.declared.command_fault.CommandFault.TheVariants.{Usage, Missing, TwoOrigins, BadValue, OneTooMany, OwnAddress, ResyncOfSeveral, NoMemory}
 use Rattle.ovs_command_line.specs.Values.{SpellsCommit, SpellsRow, parts_of}
 use Rattle.ovs_command_line.specs.Options.{Addresses, is_count, word_of, words_of, Gives, SpellsCount, SpellsIfGiven, SpellsAllowed, SpellsUpstream, GivesOrigin}
 use Rattle.ovs_command_line.specs.declared.command_line.Task.{Task}
 use Rattle.ovs_command_line.specs.CommandLine.{Found, HasCommand}
-use Rattle.ovs_command_line.specs.Faults.{is_of_source, is_of_relay, IsReadable, IsPartOf, IsNoValue, StandsBehind, HasOwnAddress, IsFaultOf, IsFaultOfOrigin, IsFaultOfSource, IsFaultOfRelay, IsFoundReadable, IsNoValueOf, HasOptionFault}
+use Rattle.ovs_command_line.specs.Faults.{is_of_source, is_of_relay, IsReadable, IsPartOf, IsNoValue, StandsBehind, HasOwnAddress, ResyncsSeveral, IsFaultOf, IsFaultOfOrigin, IsFaultOfSource, IsFaultOfRelay, IsFoundReadable, IsNoValueOf, HasOptionFault}
 
 -- the fault of a number
 pub count_fault : (option : CommandOption) (rows : List Row) (word : Text) → is_count option ≡ true → word_of option rows ≡ Some word → SpellsNone (SpellsCount option) word
@@ -27,6 +27,7 @@ count_fault option rows word is at none (Usage line) made = absurd (let no : Usa
 count_fault option rows word is at none (Missing o) made = absurd (let no : Missing o ≡ NoMemory = made in cc)
 count_fault option rows word is at none (OneTooMany w) made = absurd (let no : OneTooMany w ≡ NoMemory = made in cc)
 count_fault option rows word is at none (OwnAddress a) made = absurd (let no : OwnAddress a ≡ NoMemory = made in cc)
+count_fault option rows word is at none ResyncOfSeveral made = absurd (let no : ResyncOfSeveral ≡ NoMemory = made in cc)
 count_fault option rows word is at none TwoOrigins made = absurd (let no : TwoOrigins ≡ NoMemory = made in cc)
 count_fault option rows word is at none NoMemory made = tt
 count_fault TrimEvery rows word is at none (BadValue o w) made = (made.0, at ∙ ap Some (sym made.1), subst (SpellsNone (SpellsCount TrimEvery)) (sym made.1) none)
@@ -139,16 +140,17 @@ no_fifth rows readable word fifth =
     let within = slice_get_within (words_of Upstream rows) 4 word fifth in
     absurd (omega arith)
 
--- so nothing is off with it, where no upstream is the relay's own address
+-- so nothing is off with it, where no upstream is the relay's own address, and none of several is to go on from a whole copy
 pub no_fault : (option : CommandOption) (rows : List Row) (fault : CommandFault) → ((a : Address) → ¬ (IsFaultOf option rows (OwnAddress a)))
-    → IsReadable option rows → IsFaultOf option rows fault → fault ≡ NoMemory
-no_fault option rows (Usage line) apart readable off = absurd off
-no_fault option rows TwoOrigins apart readable off = absurd off
-no_fault option rows (Missing o) apart readable off = absurd (is_there option rows off.1 readable off.2)
-no_fault option rows (BadValue o word) apart readable off = absurd (is_value option rows readable (string_bytes word) off.1 off.2)
-no_fault option rows (OneTooMany word) apart readable off = absurd (no_fifth rows (subst (λ o. IsReadable o rows) off.0 readable) (string_bytes word) off.1)
-no_fault option rows (OwnAddress a) apart readable off = absurd (apart a off)
-no_fault option rows NoMemory apart readable off = refl
+    → ¬ (IsFaultOf option rows ResyncOfSeveral) → IsReadable option rows → IsFaultOf option rows fault → fault ≡ NoMemory
+no_fault option rows (Usage line) apart alone readable off = absurd off
+no_fault option rows TwoOrigins apart alone readable off = absurd off
+no_fault option rows (Missing o) apart alone readable off = absurd (is_there option rows off.1 readable off.2)
+no_fault option rows (BadValue o word) apart alone readable off = absurd (is_value option rows readable (string_bytes word) off.1 off.2)
+no_fault option rows (OneTooMany word) apart alone readable off = absurd (no_fifth rows (subst (λ o. IsReadable o rows) off.0 readable) (string_bytes word) off.1)
+no_fault option rows (OwnAddress a) apart alone readable off = absurd (apart a off)
+no_fault option rows ResyncOfSeveral apart alone readable off = absurd (alone off)
+no_fault option rows NoMemory apart alone readable off = refl
 
 -- a source has no upstream
 no_upstream : (option : CommandOption) → is_of_source option ≡ true → option ≢ Upstream
@@ -164,20 +166,22 @@ origin_fault rows origin (Usage line) gives off = off
 origin_fault rows origin (BadValue o word) gives off = off
 origin_fault rows origin (OneTooMany word) gives off = off
 origin_fault rows origin (OwnAddress a) gives off = off
+origin_fault rows origin ResyncOfSeveral gives off = off
 origin_fault rows origin NoMemory gives off = refl
 
-of_relay : (rows : List Row) (fault : CommandFault) → ((a : Address) → ¬ (HasOwnAddress rows a))
+of_relay : (rows : List Row) (fault : CommandFault) → ((a : Address) → ¬ (HasOwnAddress rows a)) → ¬ (ResyncsSeveral rows)
     → ((option : CommandOption) → IsTrue (is_of_relay option) → IsReadable option rows) → (origin : SchemaOrigin) → GivesOrigin rows origin
     → IsFaultOfRelay rows fault → fault ≡ NoMemory
-of_relay rows fault apart readable origin gives (inl off) = origin_fault rows origin fault gives off
-of_relay rows fault apart readable origin gives (inr off) = no_fault off.0 rows fault (λ a own. apart a own.1) (readable off.0 off.1) off.2
+of_relay rows fault apart alone readable origin gives (inl off) = origin_fault rows origin fault gives off
+of_relay rows fault apart alone readable origin gives (inr off) = no_fault off.0 rows fault (λ a own. apart a own.1) (λ several. alone several.1) (readable off.0 off.1) off.2
 
 of_command : (found : Found) (fault : CommandFault) → IsFoundReadable found
     → HasCommand (codes "source") (λ rows. IsFaultOfSource rows fault) found ⊎ HasCommand (codes "relay") (λ rows. IsFaultOfRelay rows fault) found → fault ≡ NoMemory
 of_command found fault readable (inl off) =
-    no_fault off.2.0 off.0 fault (λ a own. no_upstream off.2.0 off.2.1 own.0) (readable.0 off.0 off.1 off.2.0 off.2.1) off.2.2
+    no_fault off.2.0 off.0 fault (λ a own. no_upstream off.2.0 off.2.1 own.0) (λ several. no_upstream off.2.0 off.2.1 several.0) (readable.0 off.0 off.1 off.2.0 off.2.1) off.2.2
 of_command found fault readable (inr off) =
-    let origin = readable.3 off.0 off.1 in of_relay off.0 fault (readable.2 off.0 off.1) (readable.1 off.0 off.1) origin.0 origin.1 off.2
+    let origin = readable.4 off.0 off.1 in
+    of_relay off.0 fault (readable.2 off.0 off.1) (readable.3 off.0 off.1) (readable.1 off.0 off.1) origin.0 origin.1 off.2
 
 -- what is off with `relay` is off with what is found
 pub relay_fault : (found : Found) (rows : List Row) (fault : CommandFault) → found ≡ Some (codes "relay", rows) → IsFaultOfRelay rows fault → HasOptionFault found fault
@@ -188,6 +192,7 @@ relay_fault found rows TwoOrigins is off = inr (rows, is, off)
 relay_fault found rows (BadValue o word) is off = inr (rows, is, off)
 relay_fault found rows (OneTooMany word) is off = inr (rows, is, off)
 relay_fault found rows (OwnAddress a) is off = inr (rows, is, off)
+relay_fault found rows ResyncOfSeveral is off = inr (rows, is, off)
 
 -- an answer that bears this fault
 pub with_fault : (Q : CommandFault → Type 0) (r : Result Task CommandFault) (fault : CommandFault) → IsErrAnd r (λ e. e ≡ fault) → Q fault → IfErr r Q
@@ -203,3 +208,4 @@ no_option_fault found TwoOrigins readable off = of_command found TwoOrigins read
 no_option_fault found (BadValue o word) readable off = of_command found (BadValue o word) readable off
 no_option_fault found (OneTooMany word) readable off = of_command found (OneTooMany word) readable off
 no_option_fault found (OwnAddress a) readable off = of_command found (OwnAddress a) readable off
+no_option_fault found ResyncOfSeveral readable off = of_command found ResyncOfSeveral readable off

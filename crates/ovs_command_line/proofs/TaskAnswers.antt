@@ -5,7 +5,7 @@ use Rattle.clap.specs.Words.{Row, Text, fault_of, subcommand_of}
 use Rattle.ovs_command_line.specs.declared.command_line.Task.{Task}
 use Rattle.ovs_command_line.specs.declared.command_line.Task.TheVariants.{Fold, World, Source, Relay, Help, Version}
 use Rattle.ovs_command_line.specs.declared.command_fault.CommandFault.{CommandFault}
-use Rattle.ovs_command_line.specs.declared.command_fault.CommandFault.TheVariants.{Usage, Missing, TwoOrigins, BadValue, OneTooMany, OwnAddress, NoMemory}
+use Rattle.ovs_command_line.specs.declared.command_fault.CommandFault.TheVariants.{Usage, Missing, TwoOrigins, BadValue, OneTooMany, OwnAddress, ResyncOfSeveral, NoMemory}
 use Rattle.ovs_command_line.specs.CommandLine.{Found, Asks, AskToRun, found_for, is_task, program}
 use Rattle.ovs_command_line.specs.Faults.{CanBeRead, HasOptionFault, HaveFault, IsFaultOfRelay}
 use Rattle.ovs_command_line.proofs.OptionFaults.{no_option_fault}
@@ -29,6 +29,7 @@ option_fault words TwoOrigins nothing off = (nothing, off)
 option_fault words (BadValue o word) nothing off = (nothing, off)
 option_fault words (OneTooMany word) nothing off = (nothing, off)
 option_fault words (OwnAddress a) nothing off = (nothing, off)
+option_fault words ResyncOfSeveral nothing off = (nothing, off)
 option_fault words (Usage line) nothing (inl off) = absurd off.2.2
 option_fault words (Usage line) nothing (inr off) = absurd (no_usage off.0 line off.2)
 

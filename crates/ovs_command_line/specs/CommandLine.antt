@@ -46,8 +46,8 @@ relay_words = with_rule (with_rule (with_rule (with_rule (with_rule (with_rule (
     (word_rule (codes "most-bytes"))
 
 abbrev pub relay_app : App
-relay_app = with_rule (with_rule (with_rule (with_rule relay_words (flag_rule (codes "verbose"))) (flag_rule (codes "end-on-refusal"))) (flag_rule (codes "prune")))
-    (flag_rule (codes "beyond-loopback"))
+relay_app = with_rule (with_rule (with_rule (with_rule (with_rule relay_words (flag_rule (codes "verbose"))) (flag_rule (codes "end-on-refusal"))) (flag_rule (codes "resync")))
+    (flag_rule (codes "prune"))) (flag_rule (codes "beyond-loopback"))
 
 abbrev pub with_commands : App
 with_commands = with_subcommand (with_subcommand (with_subcommand (with_subcommand (new_app (codes "ovs_relay")) fold_app.top) world_app.top)

@@ -1,5 +1,5 @@
 -- What is off in words that ask for nothing.
-use Rattle.std.specs.Prelude.{◌≡◌, ◌≢◌, ◌⊎◌, ℕ, List, [], Option, Some, None, Bool, true, false, Result, Ok, Err, codes, slice_get, Contains, IsTrue, string_bytes}
+use Rattle.std.specs.Prelude.{◌≡◌, ◌≢◌, ◌≤◌, ◌⊎◌, ℕ, List, length, [], Option, Some, None, Bool, true, false, Result, Ok, Err, codes, slice_get, Contains, IsTrue, string_bytes}
 use Rattle.ovs_address.specs.declared.address.Address.{Address}
 use Rattle.ovs_address.specs.Address.{AreSame, SpellsAddress, SpellsNone}
 use Rattle.clap.specs.Words.{Row, Text, fault_of, subcommand_of}
@@ -8,12 +8,12 @@ use Rattle.clap.specs.declared.error.kind.ErrorKind.TheVariants.{DisplayHelp, Di
 use Rattle.ovs_command_line.specs.declared.command_option.CommandOption.{CommandOption}
 use Rattle.ovs_command_line.specs.declared.command_option.CommandOption.TheVariants.{Schema, Database, Listen, Upstream, FirstId, FirstRow, TrimEvery, Accepts, Tries, MostBytes}
 use Rattle.ovs_command_line.specs.declared.command_fault.CommandFault.{CommandFault}
-use Rattle.ovs_command_line.specs.declared.command_fault.CommandFault.TheVariants.{Usage, Missing, TwoOrigins, BadValue, OneTooMany, OwnAddress, NoMemory}
+use Rattle.ovs_command_line.specs.declared.command_fault.CommandFault.TheVariants.{Usage, Missing, TwoOrigins, BadValue, OneTooMany, OwnAddress, ResyncOfSeveral, NoMemory}
 use Rattle.ovs_command_line.specs.declared.options.SchemaOrigin.{SchemaOrigin}
 use Rattle.ovs_command_line.specs.declared.command_line.Task.{Task}
 use Rattle.ovs_command_line.specs.declared.command_line.Task.TheVariants.{Help, Version}
 use Rattle.ovs_command_line.specs.Values.{SpellsCommit, SpellsRow, parts_of}
-use Rattle.ovs_command_line.specs.Options.{is_count, word_of, words_of, Gives, SpellsCount, CountsIfGiven, Addresses, SpellsAllowed, GivesOrigin, AreUpstreams}
+use Rattle.ovs_command_line.specs.Options.{is_count, word_of, words_of, resyncs, Gives, SpellsCount, CountsIfGiven, Addresses, SpellsAllowed, GivesOrigin, AreUpstreams}
 use Rattle.ovs_command_line.specs.CommandLine.{Found, HasCommand, AskForText, program}
 
 -- the exit status beside a fault: 2 a fault of the command line, 3 memory gave out
@@ -63,12 +63,17 @@ abbrev pub HasOwnAddress : List Row → Address → Type 0
 HasOwnAddress rows address = Gives (SpellsAllowed rows) Listen rows address
     × ((part : Text) × (other : Address) × IsPartOf (words_of Upstream rows) part × SpellsAllowed rows part other × AreSame other address)
 
--- the options of `source`, or of `relay`, give values, where that is the command, and of the latter no upstream is its own address, and it
--- is said where its schema comes from; the other commands have words that give any
+-- the relay is to go on from a whole copy, and has several upstreams
+abbrev pub ResyncsSeveral : List Row → Type 0
+ResyncsSeveral rows = IsTrue (resyncs rows) × (2 ≤ length (words_of Upstream rows))
+
+-- the options of `source`, or of `relay`, give values, where that is the command, and of the latter no upstream is its own address, and none of
+-- several is one from whose whole copies it goes on, and it is said where its schema comes from; the other commands have words that give any
 abbrev pub IsFoundReadable : Found → Type 0
 IsFoundReadable found = ((rows : List Row) → found ≡ Some (codes "source", rows) → (option : CommandOption) → IsTrue (is_of_source option) → IsReadable option rows)
     × ((rows : List Row) → found ≡ Some (codes "relay", rows) → (option : CommandOption) → IsTrue (is_of_relay option) → IsReadable option rows)
     × ((rows : List Row) → found ≡ Some (codes "relay", rows) → (address : Address) → ¬ (HasOwnAddress rows address))
+    × ((rows : List Row) → found ≡ Some (codes "relay", rows) → ¬ (ResyncsSeveral rows))
     × ((rows : List Row) → found ≡ Some (codes "relay", rows) → (origin : SchemaOrigin) × GivesOrigin rows origin)
 
 -- the words behind the options can be read
@@ -95,7 +100,8 @@ abbrev pub StandsBehind : CommandOption → List Row → Text → Type 0
 StandsBehind Upstream rows word = IsPartOf (words_of Upstream rows) word
 StandsBehind option rows word = word_of option rows ≡ Some word
 
--- what is off with an option: it isn't there and has to be, a word behind it is no value, there is a fifth, or it is the relay's own
+-- what is off with an option: it isn't there and has to be, a word behind it is no value, there is a fifth, it is the relay's own, or one of
+-- several where there may be one
 abbrev pub IsFaultOf : CommandOption → List Row → CommandFault → Type 0
 IsFaultOf option rows (Usage line) = ⊥
 IsFaultOf option rows (Missing o) = (o ≡ option) × (is_count option ≡ false) × (word_of option rows ≡ None)
@@ -103,6 +109,7 @@ IsFaultOf option rows TwoOrigins = ⊥
 IsFaultOf option rows (BadValue o word) = (o ≡ option) × StandsBehind option rows (string_bytes word) × IsNoValue option rows (string_bytes word)
 IsFaultOf option rows (OneTooMany word) = (option ≡ Upstream) × (slice_get (words_of Upstream rows) 4 ≡ Some (string_bytes word))
 IsFaultOf option rows (OwnAddress address) = (option ≡ Upstream) × HasOwnAddress rows address
+IsFaultOf option rows ResyncOfSeveral = (option ≡ Upstream) × ResyncsSeveral rows
 IsFaultOf option rows NoMemory = Unit {0}
 
 -- an option of `source` is off, or memory ran out

@@ -67,6 +67,10 @@ has_flag flag rows = option_map_or (λ word. bytes_eq word (codes "true")) (firs
 abbrev pub goes_beyond : List Row → Bool
 goes_beyond rows = has_flag (codes "beyond-loopback") rows
 
+-- the relay is to go on from a whole copy
+abbrev pub resyncs : List Row → Bool
+resyncs rows = has_flag (codes "resync") rows
+
 -- an address as these options allow it
 abbrev pub SpellsAllowed : List Row → Text → Address → Type 0
 SpellsAllowed rows = SpellsAddress (goes_beyond rows)
@@ -124,3 +128,5 @@ pub record GiveRelay (rows : List Row) (o : RelayOptions) : Type 0 where
   pub verbose : o.verbose ≡ has_flag (codes "verbose") rows
   pub end_on_refusal : o.end_on_refusal ≡ has_flag (codes "end-on-refusal") rows
   pub prunes : o.prunes ≡ has_flag (codes "prune") rows
+  pub resyncs : o.resyncs ≡ resyncs rows
+  pub alone : o.resyncs ≡ true → length o.upstreams.items ≡ 1

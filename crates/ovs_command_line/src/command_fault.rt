@@ -29,6 +29,9 @@ pub enum CommandFault {
     /// An upstream of the relay is the address at which it listens.
     #[error("{0} is the relay's own address: wanted an upstream")]
     OwnAddress(Address),
+    /// A relay that goes on from a whole copy has several upstreams, whose copies would contradict each other.
+    #[error("'--resync' goes with one '{}' alone", CommandOption::Upstream)]
+    ResyncOfSeveral,
     /// Memory ran out.
     #[error("out of memory")]
     NoMemory,

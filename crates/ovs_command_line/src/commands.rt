@@ -37,6 +37,9 @@ const ACCEPTS_HELP: &str =
 const TRIES_HELP: &str =
     "How many connections each thread of an upstream tries, 1 to 1000000; any number where this isn't given";
 
+const RESYNC_HELP: &str =
+    "Goes on by the difference where the upstream, of which there may be one alone, tells a whole copy in the place of what comes after an id";
+
 const MOST_BYTES_HELP: &str =
     "How many bytes a message from an upstream may have, 16777216 to 4294967295; 16777216 where this isn't given";
 
@@ -159,6 +162,7 @@ fn relay_command<'a>(alloc: Global) -> Result<Command<'a>, AllocError>
     let command = with_word(alloc, command, "most-bytes", "N", MOST_BYTES_HELP)?;
     let command = with_flag(alloc, command, "verbose", VERBOSE_HELP)?;
     let command = with_flag(alloc, command, "end-on-refusal", END_ON_REFUSAL_HELP)?;
+    let command = with_flag(alloc, command, "resync", RESYNC_HELP)?;
     let command = with_flag(alloc, command, "prune", PRUNE_HELP)?;
     with_flag(alloc, command, "beyond-loopback", BEYOND_LOOPBACK_HELP)
 }

@@ -1,9 +1,9 @@
 //! What the commands `source` and `relay` are given.
 
-ghost use Rattle.std.specs.Prelude.{◌≡◌, false, Some, option_map, IfOk, IfErr, IsTrue, string_bytes};
+ghost use Rattle.std.specs.Prelude.{◌≡◌, true, false, Some, length, option_map, IfOk, IfErr, IsTrue, string_bytes};
 ghost use Rattle.clap.specs.Words.{found_of, rows_of};
 ghost use Rattle.ovs_command_line.specs.declared.command_option.CommandOption.TheVariants as options;
-ghost use Rattle.ovs_command_line.specs.Options.{is_count, word_of, has_flag, goes_beyond, Gives, CountsIfGiven, SpellsAllowed, GivesOrigin, GiveSource, GiveRelay};
+ghost use Rattle.ovs_command_line.specs.Options.{is_count, word_of, has_flag, goes_beyond, resyncs, AreUpstreams, Gives, CountsIfGiven, SpellsAllowed, GivesOrigin, GiveSource, GiveRelay};
 ghost use Rattle.ovs_command_line.specs.Values.{SpellsCommit, SpellsRow};
 ghost use Rattle.ovs_command_line.specs.Faults.{IsFaultOf, IsFaultOfOrigin, IsFaultOfSource, IsFaultOfRelay, IsNoValueOf};
 
@@ -66,6 +66,8 @@ pub struct RelayOptions {
     pub end_on_refusal: bool,
     /// Whether links of older epochs are dropped once a newer one is shown.
     pub prunes: bool,
+    /// Whether it goes on from a whole copy that its upstream, the only one, tells in the place of what comes after an id.
+    pub resyncs: bool,
 }
 
 // The word behind an option, if it is there.
@@ -193,6 +195,20 @@ pub(crate) fn goes_beyond(found: &ArgMatches<'_>) -> bool
     has_flag(found, "beyond-loopback")
 }
 
+// Whether a relay with these upstreams goes on from a whole copy.
+fn resyncs_of(found: &ArgMatches<'_>, upstreams: &[Vec<Address>]) -> Result<bool, CommandFault>
+    requires upstreams { AreUpstreams (rows_of (found_of found.now)) upstreams.now }
+    ensures value { IfOk result (λ r. r ≡ resyncs (rows_of (found_of found.now))) }
+    ensures alone { IfOk result (λ r. r ≡ true → length upstreams.now ≡ 1) }
+    ensures fault { IfErr result (IsFaultOf options.Upstream (rows_of (found_of found.now))) }
+{
+    let resyncs = has_flag(found, "resync");
+    if resyncs && upstreams.len() > 1 {
+        return Err(CommandFault::ResyncOfSeveral);
+    }
+    Ok(resyncs)
+}
+
 /// What `source` is given, by what clap finds of it.
 pub(crate) fn source_options(
     alloc: Global,
@@ -222,15 +238,18 @@ pub(crate) fn relay_options(
 {
     let schema = origin_of(alloc, found)?;
     let listen = listen_of(alloc, found)?;
+    let upstreams = other_upstreams_of(alloc, found, &listen)?;
+    let resyncs = resyncs_of(found, upstreams.as_slice())?;
     Ok(RelayOptions {
         schema,
         listen,
-        upstreams: other_upstreams_of(alloc, found, &listen)?,
+        upstreams,
         accepts: count_of(alloc, found, CommandOption::Accepts)?,
         tries: count_of(alloc, found, CommandOption::Tries)?,
         most_bytes: count_of(alloc, found, CommandOption::MostBytes)?,
         verbose: has_flag(found, "verbose"),
         end_on_refusal: has_flag(found, "end-on-refusal"),
         prunes: has_flag(found, "prune"),
+        resyncs,
     })
 }

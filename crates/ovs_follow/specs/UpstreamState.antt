@@ -2,7 +2,6 @@
 use Rattle.std.specs.Prelude.{◌≡◌, ◌⊎◌, ◌++◌, ℕ, List, [], ◌∷◌, Bool, true, false, Option, Some, None, Ok, Err, map, refl}
 use Rattle.std.specs.Coded.{Coded, code_by, coded×, coded_bool, coded_list, coded_option}
 use Rattle.std.specs.Option.{option_to_list}
-use Rattle.ovs_types.specs.Schema.{SchemaValue}
 use Rattle.ovs_links.specs.contracts.link.Link as link_row
 use Rattle.ovs_links.specs.declared.link.Link.{Link}
 use Rattle.ovs_session.specs.Messages.{SaysNothing}
@@ -11,7 +10,7 @@ use Rattle.ovs_wire.specs.contracts.message.Message as message_row
 use Rattle.ovs_wire.specs.declared.message.Message.{Message}
 use Rattle.ovs_desk.specs.declared.source_message.SourceMessage.{SourceMessage}
 use Rattle.ovs_desk.specs.declared.source_message.SourceMessage.TheVariants as said
-use Rattle.ovs_upstream.specs.Hearing.{hears, links_in, at_stage, opening}
+use Rattle.ovs_upstream.specs.Hearing.{hears, links_in, at_stage}
 use Rattle.ovs_upstream.specs.Requests.{schema_request}
 use Rattle.ovs_upstream.specs.contracts.up_session.UpSession as up_row
 use Rattle.ovs_upstream.specs.declared.error.UpError.{UpError}
@@ -47,9 +46,9 @@ following_code =
     (λ f. (f.up, (f.has_begun, (f.sent, (f.waiting, f.made)))))
     (λ p. record { up = p.0; has_begun = p.1.0; sent = p.1.1.0; waiting = p.1.1.1.0; made = p.1.1.1.1 }) (λ _. refl)
 
--- a new one that asks for an id, to whose sink these links were sent before
-abbrev pub begun : SchemaValue → ℕ → List Link → UpstreamStateValue
-begun schema asked sent = record { up = opening schema asked; has_begun = false; sent = sent; waiting = None; made = [] }
+-- a new one, to whose sink these links were sent before
+abbrev pub begun : UpSession → List Link → UpstreamStateValue
+begun up sent = record { up = up; has_begun = false; sent = sent; waiting = None; made = [] }
 
 -- ---- what is heard
 

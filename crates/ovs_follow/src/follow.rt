@@ -1,10 +1,9 @@
 //! A session with an upstream from one end to the other.
 
-ghost use Rattle.std.specs.Prelude.{◌≡◌, ◌≤◌, [], IfSome, None};
+ghost use Rattle.std.specs.Prelude.{◌≡◌, ◌≤◌, IfSome};
 ghost use Rattle.std.specs.Io.KnownBytes.{IsAtEnd};
 ghost use Rattle.ovs_links.specs.Sets.{IsOfTables};
 ghost use Rattle.ovs_links.specs.declared.link.Link.{Link};
-ghost use Rattle.ovs_upstream.specs.Hearing.{opening};
 ghost use Rattle.ovs_follow.specs.UpstreamState.{begun};
 ghost use Rattle.ovs_follow.specs.Deriving.{SendsFirst, SendsAll};
 ghost use Rattle.ovs_follow.specs.Faults.{IsFaultIn};
@@ -20,7 +19,7 @@ use crate::upstream_service::UpstreamService;
 use crate::upstream_state::UpstreamState;
 use ovs_session::{Counts, Ended, Limits, Session, serve};
 use ovs_sync::history::GhostList;
-use ovs_types::{Schema, TxnId};
+use ovs_upstream::UpSession;
 use ovs_wire::Counted;
 use std::alloc::Global;
 use std::io::{Read, Write};
@@ -74,7 +73,8 @@ fn fault_of<S: LinkSink>(
 // Serves a session that hasn't begun.
 fn serve_new<S: LinkSink, D: UpstreamHandler + Drop, R: Read, W: Write>(
     alloc: Global,
-    state: UpstreamState<S>,
+    up: UpSession,
+    sink: S,
     service: &mut UpstreamService<S, D>,
     reader: &mut Counted<R>,
     writer: &mut Counted<W>,
@@ -82,11 +82,13 @@ fn serve_new<S: LinkSink, D: UpstreamHandler + Drop, R: Read, W: Write>(
     limits: Limits,
     most_turns: u32,
 ) -> UpstreamResult<S>
-    ensures followed { HasFollowed D.refuses state most_bytes limits.most_unsent (R.remaining reader.old.device) (R.remaining reader.new.device)
+    requires takes { (l : Link) → IsOfTables up.schema.description.tables l → S.takes l }
+    ensures followed { HasFollowed D.refuses (begun up (S.sent sink)) most_bytes limits.most_unsent (R.remaining reader.old.device) (R.remaining reader.new.device)
         (W.contents writer.old.device) (W.contents writer.new.device) result.ended result.counts (S.sent result.sink) result.made result.fault }
     ensures faults { FaultsOnly result.ended reader.old.failures reader.new.failures writer.old.failures writer.new.failures }
     ensures spent { result.counts.turns ≤ most_turns }
 {
+    let state = UpstreamState::new(up, sink);
     let mut session = Session::with_limit(alloc, most_bytes, state);
     let ended = serve(&mut session, service, reader, writer, limits, most_turns);
     let counts = session.counts();
@@ -101,63 +103,14 @@ fn serve_new<S: LinkSink, D: UpstreamHandler + Drop, R: Read, W: Write>(
     }
 }
 
-// The session didn't begin.
-fn unserved<S: LinkSink>(sink: S) -> UpstreamResult<S>
-    ensures sink { result.sink ≡ sink }
-    ensures made { result.made ≡ [] }
-    ensures counts { result.counts ≡ record { turns = 0; messages = 0; bytes_out = 0 } }
-    ensures ended { result.ended ≡ Ended.NoMemory }
-    ensures fault { result.fault ≡ None }
-{
-    UpstreamResult {
-        sink,
-        made: GhostList::new(),
-        counts: Counts {
-            turns: 0,
-            messages: 0,
-            bytes_out: 0,
-        },
-        ended: Ended::NoMemory,
-        fault: None,
-    }
-}
-
-// Opens a session and serves it.
-fn serve_one<S: LinkSink, D: UpstreamHandler + Drop, R: Read, W: Write>(
-    alloc: Global,
-    schema: &Schema,
-    asked: TxnId,
-    sink: S,
-    service: &mut UpstreamService<S, D>,
-    reader: &mut Counted<R>,
-    writer: &mut Counted<W>,
-    most_bytes: usize,
-    limits: Limits,
-    most_turns: u32,
-) -> UpstreamResult<S>
-    requires takes { (l : Link) → IsOfTables schema.now.description.tables l → S.takes l }
-    ensures followed { HasFollowed D.refuses (begun schema.now asked (S.sent sink)) most_bytes limits.most_unsent (R.remaining reader.old.device) (R.remaining reader.new.device)
-        (W.contents writer.old.device) (W.contents writer.new.device) result.ended result.counts (S.sent result.sink) result.made result.fault }
-    ensures faults { FaultsOnly result.ended reader.old.failures reader.new.failures writer.old.failures writer.new.failures }
-    ensures spent { result.counts.turns ≤ most_turns }
-{
-    match UpstreamState::new(alloc, schema, asked, sink) {
-        Ok(state) => serve_new(
-            alloc, state, service, reader, writer, most_bytes, limits, most_turns,
-        ),
-        Err(sink) => unserved(sink),
-    }
-}
-
 /// Follows an upstream for one session, by at most so many turns of one call of a device each: asks it for the schema (RFC 7047 section 4.1.2), then for
-/// all that comes after an id, sends the links that it makes of what the upstream says to a sink, and passes on what is asked
-/// of the source. A message of the upstream may have `most_bytes`. At its end the source is lost.
+/// all that comes after the id with which the session was opened, sends the links that it makes of what the upstream says to a sink, and passes on
+/// what is asked of the source. A message of the upstream may have `most_bytes`. At its end the source is lost.
 ///
 /// Over a reader that tells its bytes, the links that it sends are the first of those that are derived from these bytes, and
 /// all of them where it ended `Closed`, which it does only at its reader's end; and of what these bytes tell the handler the first
 /// was told it, in order, each once. The requests that the handler gave it were said, each once and in order, but for one that may have
-/// waited for memory (`following_laws`). Where memory ran out before the session could
-/// be opened, it ends with `NoMemory`, and nothing was read, written or sent.
+/// waited for memory (`following_laws`).
 ///
 /// - `Closed`: the reader is at its end, all that was read is heard, and all that was said is written.
 /// - `BadInput`: the upstream's bytes have a fault, or a message is none, or is refused by the session (`UpError` of
@@ -166,8 +119,7 @@ fn serve_one<S: LinkSink, D: UpstreamHandler + Drop, R: Read, W: Write>(
 /// - `TurnsSpent`, `NoMemory`.
 pub fn follow_upstream<S: LinkSink, D: UpstreamHandler + Drop, R: Read, W: Write>(
     alloc: Global,
-    schema: &Schema,
-    asked: TxnId,
+    up: UpSession,
     sink: S,
     source: D,
     reader: &mut Counted<R>,
@@ -176,22 +128,21 @@ pub fn follow_upstream<S: LinkSink, D: UpstreamHandler + Drop, R: Read, W: Write
     limits: Limits,
     most_turns: u32,
 ) -> UpstreamEnd<S, D>
-    requires takes { (l : Link) → IsOfTables schema.now.description.tables l → S.takes l }
-    ensures followed { HasFollowed D.refuses (begun schema.now asked (S.sent sink)) most_bytes limits.most_unsent (R.remaining reader.old.device) (R.remaining reader.new.device)
+    requires takes { (l : Link) → IsOfTables up.schema.description.tables l → S.takes l }
+    ensures followed { HasFollowed D.refuses (begun up (S.sent sink)) most_bytes limits.most_unsent (R.remaining reader.old.device) (R.remaining reader.new.device)
         (W.contents writer.old.device) (W.contents writer.new.device) result.ended result.counts (S.sent result.sink) result.made result.fault }
-    ensures sent { IfSome (R.remaining reader.old.device) (λ bytes. SendsFirst most_bytes (opening schema.now asked) bytes (S.sent sink) (S.sent result.sink)) }
+    ensures sent { IfSome (R.remaining reader.old.device) (λ bytes. SendsFirst most_bytes up bytes (S.sent sink) (S.sent result.sink)) }
     ensures closed { result.ended ≡ Ended.Closed → IsAtEnd (R.remaining reader.new.device)
-        × IfSome (R.remaining reader.old.device) (λ bytes. SendsAll most_bytes (opening schema.now asked) bytes (S.sent sink) (S.sent result.sink)) }
-    ensures told { IfSome (R.remaining reader.old.device) (λ bytes. TellsFirst most_bytes (opening schema.now asked) bytes result.made) }
+        × IfSome (R.remaining reader.old.device) (λ bytes. SendsAll most_bytes up bytes (S.sent sink) (S.sent result.sink)) }
+    ensures told { IfSome (R.remaining reader.old.device) (λ bytes. TellsFirst most_bytes up bytes result.made) }
     ensures lost { (before : D) × D.loses before result.source }
     ensures faults { FaultsOnly result.ended reader.old.failures reader.new.failures writer.old.failures writer.new.failures }
     ensures spent { result.counts.turns ≤ most_turns }
 {
     let mut service = UpstreamService::new(alloc, source);
-    let served = serve_one(
+    let served = serve_new(
         alloc,
-        schema,
-        asked,
+        up,
         sink,
         &mut service,
         reader,

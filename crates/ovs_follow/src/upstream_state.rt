@@ -1,6 +1,6 @@
 //! What is known of one session with an upstream.
 
-ghost use Rattle.std.specs.Prelude.{◌≡◌, ◌≤◌, ◌++◌, ◌∷◌, [], ℕ, List, None, true, IfOk, IfErr, OnOk, OnErr, length, is_some};
+ghost use Rattle.std.specs.Prelude.{◌≡◌, ◌≤◌, ◌++◌, ◌∷◌, [], ℕ, List, None, true, OnOk, OnErr, length, is_some};
 ghost use Rattle.std.specs.Option.{option_to_list};
 ghost use Rattle.ovs_links.specs.Sets.{AllOf, IsOfTables};
 ghost use Rattle.ovs_links.specs.declared.link.Link.{Link};
@@ -19,7 +19,7 @@ use ovs_json::NoMemory;
 use ovs_links::Link;
 use ovs_session::Outbox;
 use ovs_sync::history::GhostList;
-use ovs_types::{Schema, TxnId};
+use ovs_types::TxnId;
 use ovs_upstream::{Links, SyncState, UpSession};
 use ovs_wire::Message;
 use std::alloc::Global;
@@ -52,24 +52,17 @@ impl<S: LinkSink> Model for UpstreamState<S> {
 }
 
 impl<S: LinkSink> UpstreamState<S> {
-    /// A session that asks for what comes after an id, of a database with this schema, and sends the links to this sink.
-    ///
-    /// # Errors
-    /// Memory ran out. The sink is handed back.
-    pub fn new(alloc: Global, schema: &Schema, asked: TxnId, sink: S) -> Result<UpstreamState<S>, S>
-        requires takes { (l : Link) → IsOfTables schema.now.description.tables l → S.takes l }
-        ensures begun { IfOk result (λ f. f ≡ begun schema.now asked (S.sent sink)) }
-        ensures back { IfErr result (λ s. s ≡ sink) }
+    /// What is known of a session that has said nothing yet, and sends the links to this sink.
+    pub fn new(up: UpSession, sink: S) -> UpstreamState<S>
+        requires takes { (l : Link) → IsOfTables up.schema.description.tables l → S.takes l }
+        ensures begun { result ≡ begun up (S.sent sink) }
     {
-        match UpSession::open(alloc, schema, asked) {
-            Ok(up) => Ok(UpstreamState {
-                up,
-                has_begun: false,
-                sink,
-                waiting: None,
-                made: GhostList::new(),
-            }),
-            Err(_) => Err(sink),
+        UpstreamState {
+            up,
+            has_begun: false,
+            sink,
+            waiting: None,
+            made: GhostList::new(),
         }
     }
 

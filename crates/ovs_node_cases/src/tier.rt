@@ -97,6 +97,7 @@ fn relay<R: NodeRuntime + Log>(
         accepts: Some(MOST_CONNECTIONS),
         tries: Some(MOST_CONNECTIONS),
         most_bytes: MAX_MESSAGE_BYTES,
+        resyncs: false,
         ends_on_refusal: false,
         prunes: false,
     };

@@ -167,6 +167,12 @@ impl Connector for ScriptedUpstream {
 
     ghost admits = { λ _ _. Unit {0} };
 
+    ghost resyncs = { λ _. false };
+
+    fn resyncs(&self) -> bool {
+        false
+    }
+
     fn most_bytes(&self) -> usize {
         MAX_MESSAGE_BYTES
     }

@@ -88,7 +88,7 @@ module _ (schema : SchemaValue) (h : EpochHistory) (most asked : ℕ) (said : Li
       let front = front_lawful schema.description ls asked (map talk_of d.messages) (map talk_of later.0)
       (subst (λ (ts : List Talk). LawfulTalk schema.description ls asked ts) (map_append d.messages later.0)
       (subst (λ (ms : List Message). LawfulTalk schema.description ls asked (map talk_of ms)) later.1 lawful.2)) in
-      let part = derived_lawful (opening schema asked) ls (map talk_of d.messages) (history_line schema.description.tables lawful.0.start lawful.0.commits good.below good.history)
+      let part = derived_lawful (opening schema asked) ls (map talk_of d.messages) refl (history_line schema.description.tables lawful.0.start lawful.0.commits good.below good.history)
       (all_quiet d.messages) front in
       let first : AllOf (Among ls) (take part.1 (drop part.0 ls)) = all_taken (Among ls) part.1 (drop part.0 ls) (all_dropped (Among ls) part.0 ls (all_among ls)) in
       subst (AllOf (Among ls)) (sym (d.are ∙ part.2)) first

@@ -1,7 +1,9 @@
 //! The threads of a node's upstreams.
 
-ghost use Rattle.std.specs.Prelude.{◌≡◌};
-ghost use Rattle.ovs_node_threads.specs.Lines.{AdmitsBytes};
+ghost use Rattle.std.specs.Prelude.{◌≡◌, true, IfOk};
+ghost use Rattle.ovs_links.specs.Absorbing.{folded_by};
+ghost use Rattle.ovs_links.specs.StepChains.{head_after_steps};
+ghost use Rattle.ovs_node_threads.specs.Lines.{AdmitsIn, session_at};
 
 use crate::connector::Connector;
 use crate::epoch_handler::EpochHandler;
@@ -11,10 +13,12 @@ use crate::serving::Feeds;
 use crate::upstream_sender::UpstreamSender;
 use ovs_follow::{InputFault, UpstreamEnd, UpstreamHandler, follow_upstream};
 use ovs_node::NodeLink;
+use ovs_rows::Database;
 use ovs_session::{Ended, Limits};
 use ovs_sync::feed::{FeedName, FeedQueue};
-use ovs_types::{Schema, TxnId};
-use ovs_views::{Board, NodeName, View, teach};
+use ovs_types::{NoMemory, Schema, TxnId};
+use ovs_upstream::UpSession;
+use ovs_views::{Board, NodeName, View, ViewError, teach};
 use ovs_wire::Counted;
 use std::alloc::Global;
 use std::sync::{Mutex, Wait};
@@ -57,25 +61,62 @@ struct SessionEnd<K: NodeName, Q: FeedName, C: Connector, D: UpstreamHandler + D
     source: D,
 }
 
+// A session that is to be had over the next connection: where the node's chain begins, the id that is asked, and the session.
+#[derive(Drop)]
+struct NextSession {
+    start: TxnId,
+    asked: TxnId,
+    up: UpSession,
+}
+
 impl<'a, K: NodeName, Q: FeedName, R: Wait> UpstreamFeeds<'a, K, Q, R> {
-    // Follows one connection, which was asked for what comes after this id, and of which a message may have so many bytes.
+    // A session that asks for what comes after an id, at which the node's database is this, and goes on from a whole copy, unless nothing was
+    // folded yet.
+    fn resumed(&self, database: Database, asked: TxnId) -> Result<UpSession, NoMemory>
+        requires schema { database.schema ≡ K.schema }
+        ensures value { IfOk result (λ up. up ≡ session_at true database asked) }
+    {
+        if asked == TxnId::zero() {
+            UpSession::open(self.alloc, self.schema, asked)
+        } else {
+            UpSession::resume(self.alloc, database, asked)
+        }
+    }
+
+    // The session to be had over the next connection: it asks for what comes after what the view shows.
+    fn next_session(&self, resyncs: bool, view: &mut View<K>) -> Result<NextSession, ViewError>
+        ensures asked { IfOk result (λ next. next.asked ≡ head_after_steps 0 (folded_by K.schema view.new).steps) }
+        ensures session { IfOk result (λ next. next.up ≡ session_at resyncs (folded_by K.schema view.new).database next.asked) }
+    {
+        if resyncs {
+            let shown = view.copied(self.alloc)?;
+            let (start, asked) = (shown.start, shown.head);
+            let up = self.resumed(shown.database, asked)?;
+            return Ok(NextSession { start, asked, up });
+        }
+        let (start, asked) = view.ends()?;
+        let up = UpSession::open(self.alloc, self.schema, asked)?;
+        Ok(NextSession { start, asked, up })
+    }
+
+    // Follows one connection in this session. A message may have so many bytes.
     fn follow<C: Connector, D: UpstreamHandler + Drop>(
         &self,
-        asked: TxnId,
+        up: UpSession,
         most_bytes: usize,
         connection: (C::In, C::Out),
         sender: UpstreamSender<K, Q, C>,
         source: EpochHandler<'_, K, D>,
     ) -> SessionEnd<K, Q, C, D>
-        requires lawful { AdmitsBytes C.admits asked (C.In.remaining connection.0) }
+        requires schema { up.schema ≡ K.schema }
+        requires lawful { AdmitsIn C.admits up (C.In.remaining connection.0) }
     {
         let (reader, writer) = connection;
         let (mut reader, mut writer) = (Counted::new(reader), Counted::new(writer));
         let sink = FeedSink::new(self.rt, self.queue, self.counts, sender.into_end());
         let followed = follow_upstream(
             self.alloc,
-            self.schema,
-            asked,
+            up,
             sink,
             source,
             &mut reader,
@@ -109,15 +150,16 @@ impl<'a, K: NodeName, Q: FeedName, R: Wait> UpstreamFeeds<'a, K, Q, R> {
     ) -> SessionEnd<K, Q, C, D> {
         self.counts.wait_for_sent(self.rt);
         teach(self.rt, self.board, view);
-        let Ok((start, asked)) = view.ends() else {
+        let Ok(next) = self.next_session(connector.resyncs(), view) else {
             return back;
         };
+        let NextSession { start, asked, up } = next;
         let Some(connection) = connector.open(asked) else {
             return back;
         };
         let side = EpochHandler::new(back.source, view, start);
         let most_bytes = connector.most_bytes();
-        let back = self.follow(asked, most_bytes, connection, back.sender, side);
+        let back = self.follow(up, most_bytes, connection, back.sender, side);
         if let Some((ended, fault)) = back.ended {
             connector.lost(ended, fault);
         }

@@ -174,6 +174,7 @@ fn relay<R: NodeRuntime + Print + Eprint + Clock + Files + 'static>(
         accepts: options.accepts,
         tries: options.tries,
         most_bytes: most_bytes_of(options),
+        resyncs: options.resyncs,
         ends_on_refusal: options.end_on_refusal,
         prunes: options.prunes,
     };

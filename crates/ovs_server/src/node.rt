@@ -94,6 +94,7 @@ impl<R: NodeRuntime + Log> NodeServer<R> {
             plan.upstreams,
             plan.tries,
             plan.most_bytes,
+            plan.resyncs,
             &shutdown_flag,
         )?;
         let mut shutdown = Shutdown::new(alloc, shutdown_flag);

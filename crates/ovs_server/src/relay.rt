@@ -46,6 +46,9 @@ pub struct RelayPlan<'a> {
     pub tries: Option<u32>,
     /// How many bytes a message of an upstream may have.
     pub most_bytes: usize,
+    /// Whether it goes on from a whole copy that an upstream tells in the place of what comes after an id. With several upstreams their
+    /// copies would contradict each other.
+    pub resyncs: bool,
     /// Whether it comes to its end once a link was refused, an upstream can't be followed, or none is tried any more.
     pub ends_on_refusal: bool,
     /// Whether it drops the links of older epochs once a newer one is published.

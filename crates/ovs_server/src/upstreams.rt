@@ -21,6 +21,8 @@ pub(crate) struct UpstreamSockets<R: Net + Log + Drop> {
     rt: R,
     // How many bytes a message of it may have.
     most_bytes: usize,
+    // Whether a session with it goes on from a whole copy.
+    resyncs: bool,
     uplink: Uplink<R>,
     // What was wrong with what it said in the session before, if anything was.
     fault: Option<InputFault>,
@@ -72,6 +74,12 @@ impl<R: Net + Log + Drop> Connector for UpstreamSockets<R> {
 
     ghost admits = { λ _ _. Unit {0} };
 
+    ghost resyncs = { λ c. c.resyncs };
+
+    fn resyncs(&self) -> bool {
+        self.resyncs
+    }
+
     fn most_bytes(&self) -> usize {
         self.most_bytes
     }
@@ -105,13 +113,15 @@ pub(crate) struct Upstreams<R: Net + Log + Drop> {
 }
 
 impl<R: Net + Log + Copy + Drop> Upstreams<R> {
-    /// Each at its addresses, so many connections with each, or any number. A message of theirs may have `most_bytes`.
+    /// Each at its addresses, so many connections with each, or any number. A message of theirs may have `most_bytes`. A session with one of
+    /// them goes on from a whole copy where it `resyncs`.
     pub(crate) fn new(
         rt: R,
         alloc: Global,
         upstreams: &[Vec<Address>],
         tries: Option<u32>,
         most_bytes: usize,
+        resyncs: bool,
         shutdown_flag: &ShutdownFlag,
     ) -> Result<Upstreams<R>, ServerError> {
         let mut connectors = Vec::new(alloc);
@@ -129,6 +139,7 @@ impl<R: Net + Log + Copy + Drop> Upstreams<R> {
             connectors.push(UpstreamSockets {
                 rt,
                 most_bytes,
+                resyncs,
                 uplink,
                 fault: None,
                 refusals: None,

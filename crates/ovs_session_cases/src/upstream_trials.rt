@@ -19,6 +19,7 @@ use ovs_links::Link;
 use ovs_session::Limits;
 use ovs_sync::history::GhostList;
 use ovs_types::{Schema, TxnId};
+use ovs_upstream::UpSession;
 use ovs_wire::{Counted, Id, MAX_MESSAGE_BYTES, Message};
 use serde_json::Value;
 use std::alloc::Global;
@@ -182,8 +183,7 @@ fn run_session(
     };
     let followed = follow_upstream(
         alloc,
-        schema,
-        asked,
+        UpSession::open(alloc, schema, asked)?,
         Keeping::new(alloc, exchange),
         side,
         &mut reader,

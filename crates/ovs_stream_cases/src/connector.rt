@@ -1,6 +1,6 @@
 //! Connections over memory with a source that has a history.
 
-ghost use Rattle.std.specs.Prelude.{◌≡◌};
+ghost use Rattle.std.specs.Prelude.{◌≡◌, false};
 ghost use Rattle.ovs_node_threads.specs.Lines.{AmongHistory};
 ghost use Rattle.ovs_stream_cases.specs.Made.{one_epoch};
 
@@ -51,6 +51,12 @@ impl<'a, K: NodeName, J: HistoryName> Connector for HistoryConnector<'a, K, J> {
 
     // The links of the history alone.
     ghost admits = { λ read l. AmongHistory K.schema (one_epoch J.commits) read l };
+
+    ghost resyncs = { λ _. false };
+
+    fn resyncs(&self) -> bool {
+        false
+    }
 
     fn most_bytes(&self) -> usize {
         MAX_MESSAGE_BYTES

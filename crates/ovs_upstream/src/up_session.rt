@@ -1,14 +1,20 @@
 //! A session with an upstream: its messages in, links out.
 
-ghost use Rattle.std.specs.Prelude.{◌≡◌, ◌≢◌, ◌≤◌, true, [], ◌∷◌, Ok, Err, IfOk, OnOk, OnErr, length, map};
+ghost use Rattle.std.specs.Prelude.{◌≡◌, ◌≢◌, ◌≤◌, ◌^◌, true, false, [], ◌∷◌, None, Some, Ok, Err, IfOk, IfErr, OnOk, OnErr, length, map, nat_le};
 ghost use Rattle.serde_json.specs.View.{view};
 ghost use Rattle.ovs_json.specs.Gives.{Gives};
+ghost use Rattle.ovs_json.specs.Results.{◌>>=◌};
 ghost use Rattle.ovs_types.specs.SchemaReading.{read_description};
 ghost use Rattle.ovs_rows.specs.ChangeReading.{read_change};
 ghost use Rattle.ovs_links.specs.Sets.{AllOf, IsOfTables};
 ghost use Rattle.ovs_upstream.specs.Talk.{answer_in, schema_said, answer_said, number_said, reply_said, update_in, update_said, notice_said};
 ghost use Rattle.ovs_upstream.specs.Requests.{schema_request, CanBeAsked};
-ghost use Rattle.ovs_upstream.specs.Hearing.{says, change_in, heard, opened, linked, placed, reached, hears_at, hears, opening, at_stage, links_in, takes_memory};
+ghost use Rattle.ovs_rows.specs.After.{after, fits};
+ghost use Rattle.ovs_rows.specs.Change.{IsChangeOf};
+ghost use Rattle.ovs_rows.specs.Row.{no_rows};
+ghost use Rattle.ovs_upstream.specs.Hearing.{says, change_in, heard, opened, are_ends, made, linked, placed, led, resynced, copied, reached, hears_at, hears, opening, resuming, known_at, at_stage, links_in, takes_memory, needs_memory, needs_memory_at};
+ghost use Rattle.ovs_upstream.specs.Talk.{Reached};
+ghost use Rattle.ovs_upstream.specs.declared.up_session.SyncState.TheVariants as stage;
 
 use crate::error::UpError;
 use crate::requests::{monitor_request, schema_request};
@@ -17,11 +23,12 @@ use crate::up_event::{Links, UpEvent};
 use ovs_authority::Response;
 use ovs_json::{NoMemory, is_empty_object, is_word};
 use ovs_links::Link;
-use ovs_rows::Change;
+use ovs_rows::{ApplyError, Change, Database};
 use ovs_types::{Schema, SchemaError, TxnId};
 use ovs_wire::{Id, Message};
 use serde_json::Value;
 use std::alloc::Global;
+use std::marker::Model;
 
 // Numbers of requests that were passed on are below it.
 const NUMBERS_END: u64 = 1 << 63;
@@ -48,6 +55,7 @@ pub struct Heard {
 
 fn change_in(alloc: Global, updates: &Value, schema: &Schema) -> Result<Change, UpError>
     ensures exact { Gives UpError.NoMemory (λ c. c) result (change_in (read_change schema.now.description.tables (view updates.now))) }
+    ensures tables { IfOk result (IsChangeOf schema.now.description.tables) }
 {
     match Change::read(alloc, updates, schema) {
         Ok(change) => Ok(change),
@@ -70,12 +78,73 @@ fn linked(
         return Err(UpError::BadId);
     }
     let change = change_in(alloc, updates, schema)?;
+    made(alloc, prev, id, change)
+}
+
+// The link to the id of another commit, after which the session stands there.
+fn made(alloc: Global, prev: TxnId, id: TxnId, change: Change) -> Result<Heard, UpError>
+    requires ends { are_ends prev id ≡ true }
+    ensures exact { Gives UpError.NoMemory (λ h. h) result (made prev id change) }
+{
     match Link::new(prev, id, change) {
         Ok(link) => Ok(Heard {
             stage: SyncState::At(id),
             event: UpEvent::Links(Links::one(alloc, link)?),
         }),
         Err(_) => Err(UpError::BadId),
+    }
+}
+
+// Where a whole copy leads that differs so from the database at the id that was asked.
+fn led(alloc: Global, asked: TxnId, id: TxnId, difference: Change) -> Result<Heard, UpError>
+    requires commit { nat_le (2 ^ 64) id ≡ true }
+    ensures exact { Gives UpError.NoMemory (λ h. h) result (led asked id difference) }
+{
+    if id != asked {
+        made(alloc, asked, id, difference)
+    } else if difference.is_empty() {
+        Ok(Heard {
+            stage: SyncState::At(id),
+            event: UpEvent::Nothing,
+        })
+    } else {
+        Err(UpError::BadId)
+    }
+}
+
+// The database that these rows alone are, at the commit of this id.
+fn whole_copy(
+    alloc: Global,
+    schema: &Schema,
+    rows: &Change,
+    id: TxnId,
+) -> Result<Database, ApplyError>
+    requires tables { IsChangeOf schema.now.description.tables rows.now }
+    ensures value { IfOk result (λ d. d ≡ record { schema = schema.now; rows = after schema.now.description.tables no_rows rows.now id }) }
+    ensures fit { OnOk result (fits no_rows rows.now ≡ true) }
+    ensures unfit { IfErr result (λ e. e ≢ ApplyError.NoMemory → fits no_rows rows.now ≡ false) }
+{
+    let mut copy = Database::empty(alloc, schema)?;
+    let _applied = copy.apply(alloc, rows, id)?;
+    Ok(copy)
+}
+
+// What a whole copy comes to, where the database at the id that was asked is known.
+fn resynced(
+    alloc: Global,
+    known: &Database,
+    asked: TxnId,
+    id: TxnId,
+    updates: &Value,
+) -> Result<Heard, UpError>
+    requires commit { nat_le (2 ^ 64) id ≡ true }
+    ensures exact { Gives UpError.NoMemory (λ h. h) result (change_in (read_change known.now.schema.description.tables (view updates.now)) >>= resynced known.now asked id) }
+{
+    let change = change_in(alloc, updates, known.schema())?;
+    match whole_copy(alloc, known.schema(), &change, id) {
+        Ok(copy) => led(alloc, asked, id, Database::diff(alloc, known, &copy)?),
+        Err(ApplyError::NoMemory) => Err(UpError::NoMemory),
+        Err(ApplyError::RowThere | ApplyError::NoRow) => made(alloc, TxnId::zero(), id, change),
     }
 }
 
@@ -96,9 +165,24 @@ fn placed(fits: bool, id: TxnId) -> Result<Heard, UpError>
 /// it is told.
 #[derive(Drop)]
 pub struct UpSession {
-    pub(crate) schema: Schema,
-    pub(crate) asked: TxnId,
-    pub(crate) stage: SyncState,
+    schema: Schema,
+    asked: TxnId,
+    stage: SyncState,
+    // The database at that id, where the session goes on from a whole copy, until the answer has come.
+    known: Option<Database>,
+}
+
+impl Model for UpSession {
+    ghost use Rattle.std.specs.Prelude.{IfSome};
+    ghost use Rattle.ovs_upstream.specs.Session.{UpSessionValue, IsDatabaseOf, session_code};
+
+    ghost Value = { UpSessionValue };
+
+    ghost coded = { session_code };
+
+    ghost view = { λ s. record { schema = s.schema; asked = s.asked; stage = s.stage; known = s.known } };
+
+    ghost invariant = { λ s. IfSome s.known (IsDatabaseOf s.schema) };
 }
 
 impl UpSession {
@@ -115,7 +199,24 @@ impl UpSession {
             schema: schema.copy(alloc)?,
             asked,
             stage: SyncState::Opening,
+            known: None,
         })
+    }
+
+    /// A session that asks for what comes after an id at which its side has this database. Where the upstream doesn't know the id,
+    /// and tells a whole copy of its database at another, the session makes one link of the difference between the two, and goes on
+    /// from there.
+    ///
+    /// # Errors
+    /// `NoMemory` alone.
+    pub fn resume(alloc: Global, database: Database, asked: TxnId) -> Result<UpSession, NoMemory>
+        ensures value { IfOk result (λ s. s ≡ resuming database asked) }
+        // The schema's JSON says what the schema says.
+        ensures says { IfOk result (λ s. read_description s.schema.json ≡ Ok s.schema.description) }
+    {
+        let mut session = UpSession::open(alloc, database.schema(), asked)?;
+        session.known = Some(database);
+        Ok(session)
     }
 
     /// What is sent first: the request for the schema (RFC 7047 section 4.1.2).
@@ -143,7 +244,7 @@ impl UpSession {
         ensures heard { IfOk result (λ e. hears self.old message ≡ heard self.new.stage e) }
         ensures refused { (e : UpError) → result ≡ Err e → e ≢ UpError.NoMemory → hears self.old message ≡ Err e }
         // What is found without memory is told without it.
-        ensures memory { result ≡ Err UpError.NoMemory → takes_memory (hears self.old message) ≡ true }
+        ensures memory { result ≡ Err UpError.NoMemory → needs_memory self.old message ≡ true }
         // Its links are changes of the schema's tables.
         ensures tables { IfOk result (λ e. AllOf (IsOfTables self.old.schema.description.tables) (links_in e)) }
         ensures same { self.new ≡ at_stage self.old self.new.stage }
@@ -172,7 +273,7 @@ impl UpSession {
     pub fn hear(&self, alloc: Global, message: Message) -> Result<Heard, UpError>
         ensures exact { Gives UpError.NoMemory (λ h. h) result (hears self.now message) }
         // What is found without memory is told without it.
-        ensures memory { result ≡ Err UpError.NoMemory → takes_memory (hears self.now message) ≡ true }
+        ensures memory { result ≡ Err UpError.NoMemory → needs_memory self.now message ≡ true }
         // It makes one link at most, which is a change of the schema's tables.
         ensures tables { IfOk result (λ h. AllOf (IsOfTables self.now.schema.description.tables) (links_in h.event) × (length (links_in h.event) ≤ 1)) }
         // Where it sends the request for the monitor, each name stands in it once, and the id can be read.
@@ -189,6 +290,9 @@ impl UpSession {
     pub fn go_on(&mut self, stage: SyncState)
         ensures value { self.new ≡ at_stage self.old stage }
     {
+        if let SyncState::At(_) = stage {
+            self.known = None;
+        }
         self.stage = stage;
     }
 
@@ -202,7 +306,7 @@ impl UpSession {
     fn hear_open(&self, alloc: Global, message: Message) -> Result<Heard, UpError>
         requires open { self.now.stage ≢ SyncState.Ended }
         ensures exact { Gives UpError.NoMemory (λ h. h) result (hears self.now message) }
-        ensures memory { result ≡ Err UpError.NoMemory → takes_memory (hears self.now message) ≡ true }
+        ensures memory { result ≡ Err UpError.NoMemory → needs_memory self.now message ≡ true }
         ensures asked { IfOk result (λ h. self.now.stage ≡ SyncState.Opening → h.stage ≡ SyncState.Asking → CanBeAsked self.now.schema self.now.asked) }
     {
         match message {
@@ -259,7 +363,7 @@ impl UpSession {
     fn hear_reply(&self, alloc: Global, answer: Response, id: &Id) -> Result<Heard, UpError>
         requires open { self.now.stage ≢ SyncState.Ended }
         ensures exact { Gives UpError.NoMemory (λ h. h) result (hears_at self.now.stage self.now (reply_said answer id.now)) }
-        ensures memory { result ≡ Err UpError.NoMemory → takes_memory (hears_at self.now.stage self.now (reply_said answer id.now)) ≡ true }
+        ensures memory { result ≡ Err UpError.NoMemory → needs_memory_at self.now.stage self.now (reply_said answer id.now) ≡ true }
         ensures asked { IfOk result (λ h. self.now.stage ≡ SyncState.Opening → h.stage ≡ SyncState.Asking → CanBeAsked self.now.schema self.now.asked) }
     {
         if is_word("schema", id.as_value()) {
@@ -327,7 +431,7 @@ impl UpSession {
     fn hear_answer(&self, alloc: Global, answer: &Response) -> Result<Heard, UpError>
         requires open { self.now.stage ≢ SyncState.Ended }
         ensures exact { Gives UpError.NoMemory (λ h. h) result (hears_at self.now.stage self.now (answer_said (answer_in answer.now))) }
-        ensures memory { result ≡ Err UpError.NoMemory → takes_memory (hears_at self.now.stage self.now (answer_said (answer_in answer.now))) ≡ true }
+        ensures memory { result ≡ Err UpError.NoMemory → needs_memory_at self.now.stage self.now (answer_said (answer_in answer.now)) ≡ true }
     {
         let Some((known, id, updates)) = answer_in(answer) else {
             return Err(UpError::BadReply);
@@ -347,7 +451,7 @@ impl UpSession {
         updates: &Value,
     ) -> Result<Heard, UpError>
         ensures exact { Gives UpError.NoMemory (λ h. h) result (reached self.now known id (view updates.now)) }
-        ensures memory { result ≡ Err UpError.NoMemory → takes_memory (reached self.now known id (view updates.now)) ≡ true }
+        ensures memory { result ≡ Err UpError.NoMemory → needs_memory_at stage.Asking self.now (Reached known id (view updates.now)) ≡ true }
     {
         let nothing = is_empty_object(updates);
         if known && id == self.asked {
@@ -357,7 +461,19 @@ impl UpSession {
         } else if id.is_start() {
             placed(nothing, id)
         } else {
-            linked(alloc, &self.schema, TxnId::zero(), id, updates)
+            self.copied(alloc, id, updates)
+        }
+    }
+
+    // What the whole copy at a commit's id comes to.
+    fn copied(&self, alloc: Global, id: TxnId, updates: &Value) -> Result<Heard, UpError>
+        requires commit { nat_le (2 ^ 64) id ≡ true }
+        ensures exact { Gives UpError.NoMemory (λ h. h) result (copied self.now.known self.now id (view updates.now)) }
+        ensures memory { result ≡ Err UpError.NoMemory → self.now.known ≡ None → takes_memory (copied self.now.known self.now id (view updates.now)) ≡ true }
+    {
+        match &self.known {
+            Some(known) => resynced(alloc, known, self.asked, id, updates),
+            None => linked(alloc, &self.schema, TxnId::zero(), id, updates),
         }
     }
 }

@@ -15,6 +15,6 @@ pub use chain_front::ChainFront;
 pub use name::{NodeName, StepHistory, StepPrefix, Told};
 pub use published_copy::{NextStep, PublishedCopy};
 pub use publisher::{Handle, Publisher};
-pub use view::View;
+pub use view::{ShownDatabase, View};
 pub use view_error::{Gone, NoPlace, ViewError};
 pub use view_session::ViewSession;

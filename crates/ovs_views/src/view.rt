@@ -19,14 +19,26 @@ use crate::published_copy::PublishedCopy;
 use crate::view_error::{Gone, ViewError};
 use crate::view_session::ViewSession;
 use left_right::ReadHandle;
-use ovs_links::Step;
+use ovs_links::{Folded, Step};
 use ovs_query::{Select, transact_read};
 use ovs_reader::Turn;
+use ovs_rows::Database;
 use ovs_types::{NoMemory, TxnId};
 use ovs_wire::Message;
 use serde_json::Value;
 use std::alloc::Global;
 use std::marker::Model;
+
+/// A database that a view showed.
+#[derive(Drop)]
+pub struct ShownDatabase {
+    /// Where its chain begins, 0 where there is none.
+    pub start: TxnId,
+    /// The id after the chain's last step, 0 where there is none.
+    pub head: TxnId,
+    /// The rows after that step.
+    pub database: Database,
+}
 
 /// What one reader sees of a node. A contract sees the steps that it has seen or was told of.
 #[derive(Drop)]
@@ -118,6 +130,28 @@ impl<K: NodeName> View<K> {
         };
         self.known = front;
         Ok((start, head))
+    }
+
+    /// Where the chain begins and the id after its last step, as `ends`, with a copy of the database there. Its rows are shared.
+    ///
+    /// # Errors
+    /// `Gone` or `NoMemory`; then nothing is changed.
+    pub fn copied(&mut self, alloc: Global) -> Result<ShownDatabase, ViewError>
+        ensures later { OnOk result (GoesOn K.schema self.old self.new) }
+        ensures start { IfOk result (λ s. s.start ≡ start_at (folded_by K.schema self.new)) }
+        ensures head { IfOk result (λ s. s.head ≡ head_after_steps 0 (folded_by K.schema self.new).steps) }
+        ensures database { IfOk result (λ s. s.database ≡ (folded_by K.schema self.new).database) }
+        ensures unchanged { OnErr result (self.new ≡ self.old) }
+    {
+        let (front, copied) = match self.handle.enter() {
+            None => return Err(ViewError::Gone),
+            Some(shown) => {
+                let front = shown.since(&self.known).ok_or(Gone)?;
+                (front, copied(alloc, shown.folded())?)
+            }
+        };
+        self.known = front;
+        Ok(copied)
     }
 
     /// Whether the id is that of a step, or where the chain begins.
@@ -297,6 +331,17 @@ impl<K: NodeName> View<K> {
         self.known = front;
         messages
     }
+}
+
+// A copy of the database, with the ends of its chain.
+fn copied(alloc: Global, folded: &Folded) -> Result<ShownDatabase, NoMemory>
+    ensures value { IfOk result (λ s. s ≡ record { start = start_at folded.now; head = head_after_steps 0 folded.now.steps; database = folded.now.database }) }
+{
+    Ok(ShownDatabase {
+        start: folded.start(),
+        head: folded.head(),
+        database: folded.database().copy(alloc)?,
+    })
 }
 
 // Copies of the steps after the first n.

@@ -1,12 +1,12 @@
 use Rattle.std.proofs.Common.{◌∙◌, subst, ap}
-use Rattle.ovs_session.specs.Serving.{SessionValue}
+use Rattle.ovs_session.specs.Serving.{SessionValue, fresh_within}
 use Rattle.ovs_session.specs.Moving.{Moved}
 use Rattle.ovs_follow.specs.UpstreamState.{UpstreamStateValue, Hears, Asks}
 use Rattle.ovs_follow.proofs.follow.serve_new.Goals as goal
 
 pub returns-clause-followed : goal.returns-clause-followed
 returns-clause-followed g c =
-    let began = c.with_limit-session.ensures.fresh in
+    let began = c.with_limit-session.ensures.fresh ∙ ap (fresh_within c.args.most_bytes) c.new-state.ensures.begun in
     let serve = c.serve-ended.ensures in
     record {
       now = c.serve-ended.new.session;
