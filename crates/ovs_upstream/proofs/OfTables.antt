@@ -23,7 +23,7 @@ use Rattle.ovs_links.specs.declared.link.Link.{Link}
 use Rattle.ovs_upstream.specs.Requests.{monitor_request}
 use Rattle.ovs_json.specs.Parts.{is_empty_object}
 use Rattle.ovs_upstream.specs.Talk.{Talk, Schema, Reached, Update, Aside, Improper}
-use Rattle.ovs_upstream.specs.Hearing.{Hearing, heard, says, opened, are_ends, change_in, made, linked, placed, unmoved, led, resynced, copied, reached, hears_at, links_in}
+use Rattle.ovs_upstream.specs.Hearing.{Hearing, heard, says, opened, are_ends, change_in, made, linked, placed, unmoved, led, compared, copied, reached, hears_at, links_in}
 use Rattle.ovs_upstream.specs.Session.{IsDatabaseOf, IsOfSchema}
 use Rattle.ovs_upstream.specs.declared.error.UpError.{UpError}
 use Rattle.ovs_upstream.specs.declared.error.UpError.TheVariants.{OtherSchema, BadId, NoMemory}
@@ -76,9 +76,9 @@ led_of : (tables : List Table) (asked id : ℕ) (difference : Actions) (h : Hear
 led_of tables asked id difference h of = either tables (id == asked) (unmoved id difference) (made asked id difference) h
     (unmoved_of tables id difference h) (made_of tables asked id difference h of)
 
-resynced_of : (k : DatabaseValue) (asked id : ℕ) (c : Actions) (h : Heard) → AreRowsOf k.schema.description.tables k.rows → IsChangeOf k.schema.description.tables c
-    → resynced k asked id c ≡ Ok h → AreOf k.schema.description.tables h
-resynced_of k asked id c h rows of =
+compared_of : (k : DatabaseValue) (asked id : ℕ) (c : Actions) (h : Heard) → AreRowsOf k.schema.description.tables k.rows → IsChangeOf k.schema.description.tables c
+    → compared k asked id c ≡ Ok h → AreOf k.schema.description.tables h
+compared_of k asked id c h rows of =
     let tables = k.schema.description.tables in
     let copy = after tables no_rows c id in
     either tables (fits no_rows c) (led asked id (database_difference tables k.rows copy)) (made 0 id c) h
@@ -91,8 +91,8 @@ copied_of s None id d h of e = linked_of s.schema.description.tables 0 id d h e
 copied_of s (Some k) id d h of =
     λ e. subst (λ (schema : SchemaValue). AreOf schema.description.tables h) of.same (by (read_change k.schema.description.tables d) refl e)
   where
-    by : (r : Result Actions ChangeError) → read_change k.schema.description.tables d ≡ r → (change_in r >>= resynced k s.asked id) ≡ Ok h → AreOf k.schema.description.tables h
-    by (Ok c) read e = resynced_of k s.asked id c h of.rows (of_tables k.schema.description.tables d c (found k.schema.description.tables d c read)) e
+    by : (r : Result Actions ChangeError) → read_change k.schema.description.tables d ≡ r → (change_in r >>= compared k s.asked id) ≡ Ok h → AreOf k.schema.description.tables h
+    by (Ok c) read e = compared_of k s.asked id c h of.rows (of_tables k.schema.description.tables d c (found k.schema.description.tables d c read)) e
     by (Err fault) read e = absurd (cc e)
 
 reached_of : (s : UpSession) → IsOfSchema s → (known : Bool) (id : ℕ) (d : Data) (h : Heard) → reached s known id d ≡ Ok h → AreOf s.schema.description.tables h

@@ -18,7 +18,7 @@ use Rattle.ovs_rows.proofs.NoDifference.{none_exactly}
 use Rattle.ovs_links.specs.declared.link.Link.{Link}
 use Rattle.ovs_wire.specs.declared.message.Message.{Message}
 use Rattle.ovs_json.specs.Parts.{is_empty_object}
-use Rattle.ovs_upstream.specs.Hearing.{Hearing, change_in, copied, derived, derived_of, heard, hears_at, known_at, at_stage, led, links_after, links_in, made, opening, placed, resynced, resuming, unmoved}
+use Rattle.ovs_upstream.specs.Hearing.{Hearing, change_in, copied, derived, derived_of, heard, hears_at, known_at, at_stage, led, links_after, links_in, made, opening, placed, compared, resuming, unmoved}
 use Rattle.ovs_upstream.specs.Resuming.{LeadsToCopy, NoCopies, TellNoCopies}
 use Rattle.ovs_upstream.specs.Talk.{Talk, Schema, Reached, Update, Aside, Improper, talk_of}
 use Rattle.ovs_upstream.specs.declared.error.UpError.TheVariants.{BadId}
@@ -36,7 +36,7 @@ resynced_at : (known : DatabaseValue) (asked id : ℕ) (d : Data) (copy : Action
 resynced_at known asked id d copy read fit large =
     let tables = known.schema.description.tables in
     ap (λ b. cond b (copied (Some known) (resuming known asked) id d) (placed (is_empty_object d) id)) (large_test id large)
-    ∙ ap (λ r. change_in r >>= resynced known asked id) read
+    ∙ ap (λ r. change_in r >>= compared known asked id) read
     ∙ ap (λ b. cond b (led asked id (database_difference tables known.rows (after tables no_rows copy id))) (made 0 id copy)) (fits_test no_rows copy fit)
 
 copy_rows : (known : DatabaseValue) (id : ℕ) (d : Data) (copy : Actions) → read_change known.schema.description.tables d ≡ Ok copy

@@ -3,7 +3,6 @@
 ghost use Rattle.std.specs.Prelude.{◌≡◌, ◌≢◌, ◌≤◌, ◌^◌, true, false, [], ◌∷◌, None, Some, Ok, Err, IfOk, IfErr, OnOk, OnErr, length, map, nat_le};
 ghost use Rattle.serde_json.specs.View.{view};
 ghost use Rattle.ovs_json.specs.Gives.{Gives};
-ghost use Rattle.ovs_json.specs.Results.{◌>>=◌};
 ghost use Rattle.ovs_types.specs.SchemaReading.{read_description};
 ghost use Rattle.ovs_rows.specs.ChangeReading.{read_change};
 ghost use Rattle.ovs_links.specs.Sets.{AllOf, IsOfTables};
@@ -138,7 +137,7 @@ fn resynced(
     updates: &Value,
 ) -> Result<Heard, UpError>
     requires commit { nat_le (2 ^ 64) id ≡ true }
-    ensures exact { Gives UpError.NoMemory (λ h. h) result (change_in (read_change known.now.schema.description.tables (view updates.now)) >>= resynced known.now asked id) }
+    ensures exact { Gives UpError.NoMemory (λ h. h) result (resynced known.now asked id (view updates.now)) }
 {
     let change = change_in(alloc, updates, known.schema())?;
     match whole_copy(alloc, known.schema(), &change, id) {

@@ -13,7 +13,7 @@ use Rattle.ovs_links.specs.Sets.{Among}
 use Rattle.ovs_links.specs.declared.link.Link.{Link}
 use Rattle.ovs_reader.specs.declared.subscription.Subscription.{Subscription}
 use Rattle.ovs_upstream.proofs.Runs.{IsLine, linked_at, at_next, at_start, next_is_other, same_test, other_test, large_test}
-use Rattle.ovs_upstream.specs.Hearing.{Hearing, hears, hears_at, linked, placed, reached}
+use Rattle.ovs_upstream.specs.Hearing.{Hearing, copied, hears, hears_at, linked, placed, reached}
 use Rattle.ovs_upstream.specs.Lawful.{IsAt, IsLinkAt, Answers}
 use Rattle.ovs_upstream.specs.Requests.{monitor_request}
 use Rattle.ovs_upstream.specs.Talk.{Talk, Schema, Reached, Update, Aside, Improper, talk_of}
@@ -53,7 +53,7 @@ behind_link tables ls k id d i = record {
   event = inr (i.link, refl, among_at ls k i.link i.found);
 }
 
-module _ (s : UpSession) (ls : List Link) (line : IsLine s.schema.description.tables ls) where
+module _ (s : UpSession) (none : s.known ≡ None) (ls : List Link) (line : IsLine s.schema.description.tables ls) where
   abbrev tables : List Table
   tables = s.schema.description.tables
 
@@ -79,7 +79,7 @@ module _ (s : UpSession) (ls : List Link) (line : IsLine s.schema.description.ta
       )
   answer_heard false id d k (inl a) = (
     record { stage = At id; event = Nothing },
-    ap (λ b. cond b (linked tables 0 id d) (placed (is_empty_object d) id)) (small_test id (subst IsStart (sym a.0) line.start)) ∙ ap (λ b. placed b id) a.1,
+    ap (λ b. cond b (copied s.known s id d) (placed (is_empty_object d) id)) (small_test id (subst IsStart (sym a.0) line.start)) ∙ ap (λ b. placed b id) a.1,
     record {
       id = id;
       stage = refl;
@@ -92,7 +92,8 @@ module _ (s : UpSession) (ls : List Link) (line : IsLine s.schema.description.ta
       let there : IsAt ls 0 0 = subst (λ n. IsAt ls n 0) a.1 (at_start ls) in
       let ends = next_is_other tables ls 0 0 id d line there i in (
         _,
-        ap (λ b. cond b (linked tables 0 id d) (placed (is_empty_object d) id)) (large_test id ends.0) ∙ linked_at tables ls 0 0 id d line there i,
+        ap (λ k. cond (nat_le (2 ^ 64) id) (copied k s id d) (placed (is_empty_object d) id)) none
+            ∙ ap (λ b. cond b (linked tables 0 id d) (placed (is_empty_object d) id)) (large_test id ends.0) ∙ linked_at tables ls 0 0 id d line there i,
         subst (StandsBehind ls (record { stage = At i.link.id; event = Links (i.link ∷ []) })) (sym a.0) (behind_link tables ls 0 id d i),
       )
 
@@ -126,7 +127,7 @@ behind_awaits schema ls n asked monitors m more h k behind has links =
     (record { monitor = m; has = has; place = k; stands = behind.stands; links = links })
 
 module _ (schema : SchemaValue) (ls : List Link) (is : IsLine schema.description.tables ls)
-    (n : ℕ) (s : UpSession) (reads : read_description s.schema.json ≡ Ok s.schema.description) (same : s.schema ≡ schema) (monitors : List Subscription) (m : Message) (more : List Message) where
+    (n : ℕ) (s : UpSession) (reads : read_description s.schema.json ≡ Ok s.schema.description) (same : s.schema ≡ schema) (none : s.known ≡ None) (monitors : List Subscription) (m : Message) (more : List Message) where
   abbrev Hears : Type 0
   Hears = (h : Heard) × IsHeard schema ls n s monitors m more h
 
@@ -137,12 +138,12 @@ module _ (schema : SchemaValue) (ls : List Link) (is : IsLine schema.description
   schema_first at a =
       let all : m ∷ more ≡ schema_reply schema ∷ [] = a.1 in
       let first : m ≡ schema_reply schema = cc in
-      let none : more ≡ [] = cc in
+      let nothing : more ≡ [] = cc in
       let this : m ≡ schema_reply s.schema = first ∙ ap schema_reply (sym same) in (
         record { stage = Asking; event = Send (monitor_request s.schema s.asked) },
         record {
           is = ap (λ stage. hears_at stage s (talk_of m)) at ∙ ap (λ x. hears_at Opening s (talk_of x)) this ∙ schema_heard s.schema s.asked reads;
-          then = inl (refl, refl, at, a.0, none);
+          then = inl (refl, refl, at, a.0, nothing);
         },
       )
 
@@ -157,14 +158,14 @@ module _ (schema : SchemaValue) (ls : List Link) (is : IsLine schema.description
       let rest : a.more ≡ more = cc in
       let tells : TellsPlace s.schema.description.tables ls s.asked a.place (talk_of m) = subst (λ (v : SchemaValue). TellsPlace v.description.tables ls s.asked a.place (talk_of m)) (sym same)
       (subst (λ x. TellsPlace schema.description.tables ls s.asked a.place (talk_of x)) first a.tells) in
-      let t = tells_place s ls line a.place (talk_of m) tells in
+      let t = tells_place s none ls line a.place (talk_of m) tells in
       onward a.place a.monitor t.0 (ap (λ stage. hears_at stage s (talk_of m)) at ∙ t.1) t.2 a.has
       (subst (TellLinks schema.description.tables ls a.place a.monitor.position) rest a.links)
 
   update_first : (id : ℕ) → s.stage ≡ At id → AwaitsLinks schema.description.tables ls n id monitors (m ∷ more) → Hears
   update_first id at a =
       let tells : TellsLink s.schema.description.tables ls a.place (talk_of m) = subst (λ (v : SchemaValue). TellsLink v.description.tables ls a.place (talk_of m)) (sym same) a.links.0 in
-      let t = tells_link s ls line id a.place (talk_of m) a.stands tells in
+      let t = tells_link s none ls line id a.place (talk_of m) a.stands tells in
       onward (suc a.place) a.monitor t.0 (ap (λ stage. hears_at stage s (talk_of m)) at ∙ t.1) t.2 a.has a.links.1
 
   by_stage : (stage : SyncState) → s.stage ≡ stage → Awaits schema ls n s.asked stage monitors (m ∷ more) → Hears
@@ -175,6 +176,6 @@ module _ (schema : SchemaValue) (ls : List Link) (is : IsLine schema.description
 
 -- what comes first is heard
 pub first_heard : (schema : SchemaValue) (ls : List Link) (n : ℕ) (s : UpSession) (monitors : List Subscription) (m : Message) (more : List Message)
-    → IsLine schema.description.tables ls → read_description s.schema.json ≡ Ok s.schema.description → s.schema ≡ schema
+    → IsLine schema.description.tables ls → read_description s.schema.json ≡ Ok s.schema.description → s.schema ≡ schema → s.known ≡ None
     → Awaits schema ls n s.asked s.stage monitors (m ∷ more) → (h : Heard) × IsHeard schema ls n s monitors m more h
-first_heard schema ls n s monitors m more is reads same awaits = by_stage schema ls is n s reads same monitors m more s.stage refl awaits
+first_heard schema ls n s monitors m more is reads same none awaits = by_stage schema ls is n s reads same none monitors m more s.stage refl awaits

@@ -1,5 +1,5 @@
 -- A session stays led along its line, call by call.
-use Rattle.std.proofs.Common.{◌≡◌, ◌≤◌, ◌<◌, ◌⊎◌, ⊎_elim, inl, inr, ℕ, zero, suc, ◌+◌, Bool, true, List, [], ◌∷◌, ◌++◌, Option, Some, Ok, length, map, take, refl, sym, ◌∙◌, ap, subst, arith, append_assoc, append-nil}
+use Rattle.std.proofs.Common.{◌≡◌, ◌≤◌, ◌<◌, ◌⊎◌, ⊎_elim, inl, inr, ℕ, zero, suc, ◌+◌, Bool, true, List, [], ◌∷◌, ◌++◌, Option, Some, None, Ok, length, map, take, refl, sym, ◌∙◌, ap, subst, arith, append_assoc, append-nil}
 use Rattle.std.proofs.lemmas.Bool.{lt-ltb}
 use Rattle.std.specs.Prelude.{slice_get, false, flat_map, nat_lt}
 use Rattle.std.specs.List.{enumerate_from}
@@ -24,7 +24,8 @@ use Rattle.ovs_reader.specs.Telling.{told, notices, moved_to, AreToldReadably}
 use Rattle.ovs_reader.specs.Turns.{turn, after_turn}
 use Rattle.ovs_reader.specs.declared.subscription.Subscription.{Subscription}
 use Rattle.ovs_source.specs.Commits.{IsSource}
-use Rattle.ovs_upstream.specs.Hearing.{heard, hears, links_in, at_stage}
+use Rattle.ovs_rows.specs.Database.{DatabaseValue}
+use Rattle.ovs_upstream.specs.Hearing.{heard, hears, links_in, at_stage, known_at}
 use Rattle.ovs_upstream.specs.Lawful.{IsAt, IsLinkAt, Answers}
 use Rattle.ovs_upstream.specs.Requests.{CanBeAsked, monitor_request}
 use Rattle.ovs_upstream.specs.Talk.{Talk, Schema, Reached, Update, Aside, Improper, talk_of}
@@ -113,6 +114,13 @@ tell_more tables ls k t u (m ∷ ms) more a b = (a.0, tell_more tables ls (suc k
 true_false : true ≡ false → ⊥
 true_false e = cc
 
+-- what isn't known stays so
+none_at : (stage : SyncState) (known : Option DatabaseValue) → known ≡ None → known_at stage known ≡ None
+none_at Opening known none = none
+none_at Asking known none = none
+none_at (At id) known none = refl
+none_at Ended known none = none
+
 -- what the node's reader is shown is over exactly where the session is behind
 pub led_over : (source node : Stored) (s : SimSession) → IsLed source node s → is_over s.reader.start (folded_in node) ≡ is_behind (folded_in node) s
 led_over source node s is = ap (λ (o : Option ℕ). is_over o (folded_in node)) is.start
@@ -125,7 +133,7 @@ led_first source node s m more is are = by is.awaits
     by : ((is.messages ≡ []) × (is_behind (folded_in node) s ≡ true)) ⊎ Awaits source.schema is.line s.reader.shown s.up.asked s.up.stage s.reader.monitors is.messages
         → (h : Heard) × IsHeard source.schema is.line s.reader.shown s.up s.reader.monitors m more h
     by (inl none) = absurd (let e : m ∷ more ≡ [] = sym are ∙ none.0 in cc)
-    by (inr awaits) = first_heard source.schema is.line s.reader.shown s.up s.reader.monitors m more (source_line source is.line is.is_line) is.says is.schema
+    by (inr awaits) = first_heard source.schema is.line s.reader.shown s.up s.reader.monitors m more (source_line source is.line is.is_line) is.says is.schema is.unknown
         (subst (λ (ms : List Message). Awaits source.schema is.line s.reader.shown s.up.asked s.up.stage s.reader.monitors ms) are awaits)
 
 -- it tells the chain that the node has folded, of which it was shown the first links
@@ -198,6 +206,7 @@ module _ (source node : Stored) (is_node : IsNode source node) where
         record {
           schema = ap (λ (u : UpSession). u.schema) asks.up ∙ is.schema;
           says = subst (λ (u : UpSession). read_description u.schema.json ≡ Ok u.schema.description) (sym asks.up) is.says;
+          unknown = ap (λ (u : UpSession). u.known) asks.up ∙ is.unknown;
           goes_on = ap (λ (r : SessionValue). r.is_ended) reader ∙ is.goes_on;
           shown = shown;
           idle = asks.arrived;
@@ -232,6 +241,7 @@ module _ (source node : Stored) (is_node : IsNode source node) where
     asked_in_vain t asks silent shown none = record {
       schema = ap (λ (u : UpSession). u.schema) asks.up ∙ is.schema;
       says = subst (λ (u : UpSession). read_description u.schema.json ≡ Ok u.schema.description) (sym asks.up) is.says;
+      unknown = ap (λ (u : UpSession). u.known) asks.up ∙ is.unknown;
       goes_on = ap (λ (r : SessionValue). r.is_ended) silent.reader ∙ is.goes_on;
       shown = shown;
       idle = asks.arrived;
@@ -255,6 +265,7 @@ module _ (source node : Stored) (is_node : IsNode source node) where
     went_on stage awaits = record {
       schema = is.schema;
       says = is.says;
+      unknown = none_at stage s.up.known is.unknown;
       goes_on = is.goes_on;
       shown = is.shown;
       idle = is.idle;
@@ -395,6 +406,7 @@ module _ (source node : Stored) (is_node : IsNode source node) where
     led_pumped = record {
       schema = ap (λ (u : UpSession). u.schema) pumps.up ∙ is.schema;
       says = subst (λ (u : UpSession). read_description u.schema.json ≡ Ok u.schema.description) (sym pumps.up) is.says;
+      unknown = ap (λ (u : UpSession). u.known) pumps.up ∙ is.unknown;
       goes_on = ap (λ (r : SessionValue). r.is_ended) pumps.reader ∙ is.goes_on;
       shown = shown;
       idle = subst IsIdle (sym pumps.upward) is.idle;
@@ -421,6 +433,7 @@ module _ (source node : Stored) (is_node : IsNode source node) where
       record {
         schema = ap (λ (u : UpSession). u.schema) opens.up ∙ is_node.schema;
         says = says;
+        unknown = ap (λ (u : UpSession). u.known) opens.up;
         goes_on = ap (λ (r : SessionValue). r.is_ended) opens.reader;
         shown = shown;
         idle = opens.upward;
@@ -441,6 +454,7 @@ pub led_fed : (source node : Stored) (s : SimSession) (way : Line) → IsLed sou
 led_fed source node s way is keeps = record {
   schema = is.schema;
   says = is.says;
+  unknown = none_at s.up.stage s.up.known is.unknown;
   goes_on = is.goes_on;
   shown = is.shown;
   idle = is.idle;
@@ -480,6 +494,7 @@ pub led_goes_on : (source node more : Stored) (s : SimSession) → more.schema �
 led_goes_on source node more s schema store grows is = record {
   schema = is.schema;
   says = is.says;
+  unknown = is.unknown;
   goes_on = is.goes_on;
   shown = more_shown node more s.reader store schema grows is.shown;
   idle = is.idle;

@@ -1,5 +1,5 @@
 -- What is on its way to a relay: the node that it follows leads it along the links of an epoch.
-use Rattle.std.specs.Prelude.{◌≡◌, ◌≤◌, ◌⊎◌, ℕ, List, [], ◌∷◌, Some, true, false, Ok}
+use Rattle.std.specs.Prelude.{◌≡◌, ◌≤◌, ◌⊎◌, ℕ, List, [], ◌∷◌, Some, None, true, false, Ok}
 use Rattle.ovs_types.specs.Schema.{SchemaValue}
 use Rattle.ovs_types.specs.SchemaReading.{read_description}
 use Rattle.ovs_types.specs.declared.schema.Table.{Table}
@@ -75,6 +75,8 @@ pub record IsLineOf (source : Stored) (line : List Link) : Type 0 where
 pub record IsLed (source node : Stored) (s : SimSession) : Type 0 where
   pub schema : s.up.schema ≡ source.schema
   pub says : read_description s.up.schema.json ≡ Ok s.up.schema.description
+  -- it knows no database at the id that it asks
+  pub unknown : s.up.known ≡ None
   pub goes_on : s.reader.is_ended ≡ false
   pub shown : MayBeShown s.reader (folded_in node)
   pub idle : IsIdle s.upward
