@@ -188,8 +188,8 @@ fn taken(
 {
     let mut answers = first(alloc, session)?;
     for message in messages {
-        let message = message_of(alloc, message)?;
-        let answer = heard(alloc, schema, session, message)?;
+        let taken = message_of(alloc, message)?;
+        let answer = heard(alloc, schema, session, taken)?;
         answers.push_str(" | ")?;
         answers.push_str(answer.as_str().trim())?;
     }
