@@ -22,18 +22,18 @@ use Rattle.ovs_rows.proofs.RowSteps.{action_between_is, row_after_between}
 -- ---- tests
 
 by_test : (b : Bool) → (b ≡ true → ⊥) → b ≡ false
-by_test true no = absurd (no refl)
-by_test false no = refl
+by_test true apart = absurd (apart refl)
+by_test false apart = refl
 
 len_test : (n : ℕ) → (n == 0) ≡ true → n ≡ 0
-len_test zero yes = refl
-len_test (suc n) yes = absurd (true≢false (sym yes))
+len_test zero same = refl
+len_test (suc n) same = absurd (true≢false (sym same))
 
 pub empty_test : (d : Actions) → d ≡ empty → (map_len d == 0) ≡ true
 empty_test d none = ap (λ m. map_len m == 0) none ∙ ap (λ n. n == 0) (len-empty place_cmp Action)
 
 pub other_test : (d : Actions) → (d ≡ empty → ⊥) → (map_len d == 0) ≡ false
-other_test d some = by_test (map_len d == 0) (λ yes. some (empty_of_len d (len_test (map_len d) yes)))
+other_test d some = by_test (map_len d == 0) (λ same. some (empty_of_len d (len_test (map_len d) same)))
 
 pub fits_test : (rows : Rows) (c : Actions) → Fits rows c → fits rows c ≡ true
 fits_test rows c fit = (fits_decides rows c).1 fit
@@ -41,11 +41,11 @@ fits_test rows c fit = (fits_decides rows c).1 fit
 taken_unfit : (rows : Rows) (c : Actions) → InsertsPresent rows c → Fits rows c → ⊥
 taken_unfit rows c taken fit =
     let none : get rows taken.0 ≡ None = subst (λ o. FitsAt o (get rows taken.0)) taken.2 (fit taken.0) in
-    subst (λ o. IsSome o) none taken.3
+    let there : IsSome {T = Row} None = subst (λ (o : Option Row). IsSome o) none taken.3 in absurd cc
 
 pub unfit_test : (rows : Rows) (c : Actions) (e : ApplyError) → Tells e rows c → e ≢ NoMemory → fits rows c ≡ false
-unfit_test rows c RowThere tells other = by_test (fits rows c) (λ yes. taken_unfit rows c tells ((fits_decides rows c).0 yes))
-unfit_test rows c NoRow tells other = by_test (fits rows c) (λ yes. tells.1 ((fits_decides rows c).0 yes))
+unfit_test rows c RowThere tells other = by_test (fits rows c) (λ fit. taken_unfit rows c tells ((fits_decides rows c).0 fit))
+unfit_test rows c NoRow tells other = by_test (fits rows c) (λ fit. tells.1 ((fits_decides rows c).0 fit))
 unfit_test rows c NoMemory tells other = absurd (other refl)
 
 -- ---- the difference leads to the data of the copy

@@ -102,7 +102,7 @@ module _ (known : DatabaseValue) (h : List Commit) (start i j asked : ℕ) (rows
       let whole = after tables no_rows change id in
       let hears = led_at known asked id d change copy.spells (difference_fits_at tables no_rows k.rows) large apart in
       let same : database_difference tables known.rows whole ≡ database_difference tables (rows_at no_rows h i) k.rows =
-      sym (difference_same tables (rows_at no_rows h i) known.rows k.rows whole at.same_data (leads_to_data tables no_rows k.rows id (no_rows_of tables) of_commit)) in
+      sym (difference_same tables (rows_at no_rows h i) known.rows k.rows whole (λ p. sym (at.same_data p)) (leads_to_data tables no_rows k.rows id (no_rows_of tables) of_commit)) in
       let later = derived_from (resuming known asked) ls id (suc j) ts (history_line tables start h below history) quiet there lawful in (
         suc later.0,
         ap (λ r. links_after r (λ stage. derived_of (at_stage (resuming known asked) stage) ts)) hears

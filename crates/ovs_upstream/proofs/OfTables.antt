@@ -88,8 +88,8 @@ compared_of k asked id c h rows of =
 copied_of : (s : UpSession) (k : Option DatabaseValue) (id : ℕ) (d : Data) (h : Heard) → IfSome k (IsDatabaseOf s.schema) → copied k s id d ≡ Ok h
     → AreOf s.schema.description.tables h
 copied_of s None id d h of e = linked_of s.schema.description.tables 0 id d h e
-copied_of s (Some k) id d h of =
-    λ e. subst (λ (schema : SchemaValue). AreOf schema.description.tables h) of.same (by (read_change k.schema.description.tables d) refl e)
+copied_of s (Some k) id d h of e =
+    subst (λ (schema : SchemaValue). AreOf schema.description.tables h) of.same (by (read_change k.schema.description.tables d) refl e)
   where
     by : (r : Result Actions ChangeError) → read_change k.schema.description.tables d ≡ r → (change_in r >>= compared k s.asked id) ≡ Ok h → AreOf k.schema.description.tables h
     by (Ok c) read e = compared_of k s.asked id c h of.rows (of_tables k.schema.description.tables d c (found k.schema.description.tables d c read)) e

@@ -1,5 +1,5 @@
 -- What a session makes of a whole copy that knows the database at the id that it asks.
-use Rattle.std.proofs.Common.{◌≡◌, ◌≢◌, ◌≤◌, ◌^◌, ◌==◌, ℕ, Bool, true, false, cond, List, [], ◌∷◌, ◌++◌, Option, Some, None, Ok, Err, map, refl, sym, ap, subst, ◌∙◌, absurd}
+use Rattle.std.proofs.Common.{◌≡◌, ◌≢◌, ◌≤◌, ◌^◌, ◌==◌, ℕ, Bool, true, false, cond, List, [], ◌∷◌, ◌++◌, Option, Some, None, Ok, Err, map, refl, sym, ap, subst, ◌∙◌}
 use Rattle.std.specs.Prelude.{nat_le}
 use Rattle.std.specs.FinMap.{len as map_len}
 use Rattle.serde_json.specs.Data.{Data}
@@ -95,38 +95,39 @@ links_same : (h : Hearing) (f g : SyncState → List Link) → ((stage : SyncSta
 links_same (Ok h) f g same = ap (λ ls. links_in h.event ++ ls) (same h.stage)
 links_same (Err e) f g same = refl
 
+-- after a message that both hear so
+later_same : (schema : SchemaValue) (asked : ℕ) (known : Option DatabaseValue) (ts : List Talk)
+    → ((stage : SyncState) → derived_of (with_known schema asked stage known) ts ≡ derived_of (with_known schema asked stage None) ts) → (stage : SyncState)
+    → derived_of (with_known schema asked stage (known_at stage known)) ts ≡ derived_of (with_known schema asked stage (known_at stage None)) ts
+later_same schema asked known ts same Opening = same Opening
+later_same schema asked known ts same Asking = same Asking
+later_same schema asked known ts same (At id) = refl
+later_same schema asked known ts same Ended = same Ended
+
 derived_same : (schema : SchemaValue) (asked : ℕ) (stage : SyncState) (known : Option DatabaseValue) (ts : List Talk) → NoCopies ts
     → derived_of (with_known schema asked stage known) ts ≡ derived_of (with_known schema asked stage None) ts
-
--- after a message that both hear so
-later_same : (schema : SchemaValue) (asked : ℕ) (known : Option DatabaseValue) (ts : List Talk) → NoCopies ts → (stage : SyncState)
-    → derived_of (with_known schema asked stage (known_at stage known)) ts ≡ derived_of (with_known schema asked stage (known_at stage None)) ts
-later_same schema asked known ts none Opening = derived_same schema asked Opening known ts none
-later_same schema asked known ts none Asking = derived_same schema asked Asking known ts none
-later_same schema asked known ts none (At id) = refl
-later_same schema asked known ts none Ended = derived_same schema asked Ended known ts none
 derived_same schema asked stage known [] none = refl
 derived_same schema asked Ended known (t ∷ ts) none = refl
-derived_same schema asked Opening known (Aside e ∷ ts) none = links_same (heard Opening e) _ _ (later_same schema asked known ts none)
-derived_same schema asked Asking known (Aside e ∷ ts) none = links_same (heard Asking e) _ _ (later_same schema asked known ts none)
-derived_same schema asked (At id) known (Aside e ∷ ts) none = links_same (heard (At id) e) _ _ (later_same schema asked known ts none)
-derived_same schema asked Opening known (Schema d ∷ ts) none = links_same (hears_at Opening (with_known schema asked Opening None) (Schema d)) _ _ (later_same schema asked known ts none)
+derived_same schema asked Opening known (Aside e ∷ ts) none = links_same (heard Opening e) _ _ (later_same schema asked known ts (λ x. derived_same schema asked x known ts none))
+derived_same schema asked Asking known (Aside e ∷ ts) none = links_same (heard Asking e) _ _ (later_same schema asked known ts (λ x. derived_same schema asked x known ts none))
+derived_same schema asked (At id) known (Aside e ∷ ts) none = links_same (heard (At id) e) _ _ (later_same schema asked known ts (λ x. derived_same schema asked x known ts none))
+derived_same schema asked Opening known (Schema d ∷ ts) none = links_same (hears_at Opening (with_known schema asked Opening None) (Schema d)) _ _ (later_same schema asked known ts (λ x. derived_same schema asked x known ts none))
 derived_same schema asked Asking known (Schema d ∷ ts) none = refl
 derived_same schema asked (At id) known (Schema d ∷ ts) none = refl
 derived_same schema asked Opening known (Reached true id d ∷ ts) none = refl
 derived_same schema asked Opening known (Reached false id d ∷ ts) none = refl
 derived_same schema asked (At p) known (Reached true id d ∷ ts) none = refl
 derived_same schema asked (At p) known (Reached false id d ∷ ts) none = refl
-derived_same schema asked Asking known (Reached true id d ∷ ts) none = links_same (hears_at Asking (with_known schema asked Asking None) (Reached true id d)) _ _ (later_same schema asked known ts none)
+derived_same schema asked Asking known (Reached true id d ∷ ts) none = links_same (hears_at Asking (with_known schema asked Asking None) (Reached true id d)) _ _ (later_same schema asked known ts (λ x. derived_same schema asked x known ts none))
 derived_same schema asked Asking known (Reached false id d ∷ ts) none =
     let at = λ (k : Option DatabaseValue). with_known schema asked Asking k in
     let small = λ (k : Option DatabaseValue). ap (λ b. cond b (copied k (at k) id d) (placed (is_empty_object d) id)) none.0 in
     ap (λ h. links_after h (λ stage. derived_of (at_stage (at known) stage) ts)) (small known)
-    ∙ links_same (placed (is_empty_object d) id) _ _ (later_same schema asked known ts none.1)
+    ∙ links_same (placed (is_empty_object d) id) _ _ (later_same schema asked known ts (λ x. derived_same schema asked x known ts none.1))
     ∙ ap (λ h. links_after h (λ stage. derived_of (at_stage (at None) stage) ts)) (sym (small None))
 derived_same schema asked Opening known (Update id d ∷ ts) none = refl
 derived_same schema asked Asking known (Update id d ∷ ts) none = refl
-derived_same schema asked (At p) known (Update id d ∷ ts) none = links_same (hears_at (At p) (with_known schema asked (At p) None) (Update id d)) _ _ (later_same schema asked known ts none)
+derived_same schema asked (At p) known (Update id d ∷ ts) none = links_same (hears_at (At p) (with_known schema asked (At p) None) (Update id d)) _ _ (later_same schema asked known ts (λ x. derived_same schema asked x known ts none))
 derived_same schema asked Opening known (Improper ∷ ts) none = refl
 derived_same schema asked Asking known (Improper ∷ ts) none = refl
 derived_same schema asked (At p) known (Improper ∷ ts) none = refl
