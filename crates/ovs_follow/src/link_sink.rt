@@ -17,4 +17,10 @@ pub trait LinkSink: Drop {
     fn send(&mut self, link: Link)
         requires taken { takes link }
         ensures sent { sent self.new ≡ sent self.old ++ link ∷ [] };
+
+    /// Is told that this link, which it is sent next, was made of a whole copy.
+    fn note_copy(&mut self, _link: &Link)
+        requires taken { takes _link.now }
+        ensures sent { sent self.new ≡ sent self.old }
+    {}
 }

@@ -107,7 +107,11 @@ impl<S: LinkSink> UpstreamState<S> {
         requires tables { AllOf (IsOfTables self.old.up.schema.description.tables) links }
         ensures sent { self.new ≡ record self.old { sent = self.old.sent ++ links } }
     {
+        let are_of_copy = links.are_of_copy();
         if let Some(link) = links.into_vec().pop() {
+            if are_of_copy {
+                self.sink.note_copy(&link);
+            }
             self.sink.send(link);
         }
     }

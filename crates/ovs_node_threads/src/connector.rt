@@ -41,6 +41,9 @@ pub trait Connector {
         ensures lawful { IfSome result (λ connection. AdmitsBytes admits asked (Self.In.remaining connection.0)) }
         ensures copies { IfSome result (λ connection. resyncs self.old ≡ true → AdmitsCopies admits asked (Self.In.remaining connection.0)) };
 
+    /// The session over the connection that was opened last was told a whole copy at this id, of which so many rows differ from the node's.
+    fn told_copy(&self, _id: TxnId, _rows: usize) {}
+
     /// The session over the connection that was opened last has ended so; where the upstream said what was refused, and there was
     /// memory to look at it again, with the fault of that.
     fn lost(&mut self, _ended: Ended, _fault: Option<InputFault>) {}

@@ -21,6 +21,7 @@ mod sender;
 mod serving;
 mod shared_authority;
 mod upstream_sender;
+mod upstream_sink;
 mod upstreams;
 mod worker_poller;
 mod workers;

@@ -11,6 +11,7 @@ use crate::feed_sink::FeedSink;
 use crate::folded_count::FoldedCount;
 use crate::serving::Feeds;
 use crate::upstream_sender::UpstreamSender;
+use crate::upstream_sink::UpstreamSink;
 use ovs_follow::{InputFault, UpstreamEnd, UpstreamHandler, follow_upstream};
 use ovs_node::NodeLink;
 use ovs_rows::Database;
@@ -99,11 +100,11 @@ impl<'a, K: NodeName, Q: FeedName, R: Wait> UpstreamFeeds<'a, K, Q, R> {
         Ok(NextSession { start, asked, up })
     }
 
-    // Follows one connection in this session. A message may have so many bytes.
-    fn follow<C: Connector, D: UpstreamHandler + Drop>(
+    // Follows one connection of this connector in this session.
+    fn follow<C: Connector + Drop, D: UpstreamHandler + Drop>(
         &self,
         up: UpSession,
-        most_bytes: usize,
+        connector: &C,
         connection: (C::In, C::Out),
         sender: UpstreamSender<K, Q, C>,
         source: EpochHandler<'_, K, D>,
@@ -113,7 +114,8 @@ impl<'a, K: NodeName, Q: FeedName, R: Wait> UpstreamFeeds<'a, K, Q, R> {
     {
         let (reader, writer) = connection;
         let (mut reader, mut writer) = (Counted::new(reader), Counted::new(writer));
-        let sink = FeedSink::new(self.rt, self.queue, self.counts, sender.into_end());
+        let feed = FeedSink::new(self.rt, self.queue, self.counts, sender.into_end());
+        let sink = UpstreamSink::new(self.alloc, self.schema, connector, feed);
         let followed = follow_upstream(
             self.alloc,
             up,
@@ -121,7 +123,7 @@ impl<'a, K: NodeName, Q: FeedName, R: Wait> UpstreamFeeds<'a, K, Q, R> {
             source,
             &mut reader,
             &mut writer,
-            most_bytes,
+            connector.most_bytes(),
             self.limits,
             TURNS,
         );
@@ -142,7 +144,7 @@ impl<'a, K: NodeName, Q: FeedName, R: Wait> UpstreamFeeds<'a, K, Q, R> {
 
     // The next connection, if it can be had, which is asked for what comes after what the node has folded, once the folder is done
     // with all that those before sent.
-    fn follow_next<C: Connector, D: UpstreamHandler + Drop>(
+    fn follow_next<C: Connector + Drop, D: UpstreamHandler + Drop>(
         &self,
         connector: &mut C,
         view: &mut View<K>,
@@ -158,8 +160,7 @@ impl<'a, K: NodeName, Q: FeedName, R: Wait> UpstreamFeeds<'a, K, Q, R> {
             return back;
         };
         let side = EpochHandler::new(back.source, view, start);
-        let most_bytes = connector.most_bytes();
-        let back = self.follow(up, most_bytes, connection, back.sender, side);
+        let back = self.follow(up, connector, connection, back.sender, side);
         if let Some((ended, fault)) = back.ended {
             connector.lost(ended, fault);
         }

@@ -13,6 +13,7 @@ use ovs_upstream::UpError;
 use ovs_wire::FrameError;
 use std::alloc::{AllocError, Global};
 use std::net::Net;
+use std::str;
 use std::sync::Arc;
 
 /// Connections over sockets with one upstream. They don't tell their bytes, so that any link may come of them.
@@ -90,6 +91,15 @@ impl<R: Net + Log + Drop> Connector for UpstreamSockets<R> {
 
     fn open(&mut self, _asked: TxnId) -> Option<(FromUpstream, ToUpstream)> {
         self.uplink.open()
+    }
+
+    fn told_copy(&self, id: TxnId, rows: usize) {
+        let (rt, Some(address)) = (&self.rt, self.uplink.address()) else {
+            return;
+        };
+        let text = id.write();
+        let id = str::from_utf8(&text).unwrap_or("?");
+        info!(rt; "upstream {address} told a whole copy at {id}: {rows} rows differ");
     }
 
     fn lost(&mut self, ended: Ended, fault: Option<InputFault>) {

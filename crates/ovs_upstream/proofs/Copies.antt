@@ -21,7 +21,7 @@ use Rattle.ovs_rows.proofs.RowSteps.{action_between_is, row_after_between}
 
 -- ---- tests
 
-by_test : (b : Bool) → (b ≡ true → ⊥) → b ≡ false
+pub by_test : (b : Bool) → (b ≡ true → ⊥) → b ≡ false
 by_test true apart = absurd (apart refl)
 by_test false apart = refl
 
@@ -32,8 +32,8 @@ len_test (suc n) same = absurd (true≢false (sym same))
 pub empty_test : (d : Actions) → d ≡ empty → (map_len d == 0) ≡ true
 empty_test d none = ap (λ m. map_len m == 0) none ∙ ap (λ n. n == 0) (len-empty place_cmp Action)
 
-pub other_test : (d : Actions) → (d ≡ empty → ⊥) → (map_len d == 0) ≡ false
-other_test d some = by_test (map_len d == 0) (λ same. some (empty_of_len d (len_test (map_len d) same)))
+pub some_test : (d : Actions) → (d ≡ empty → ⊥) → (map_len d == 0) ≡ false
+some_test d some = by_test (map_len d == 0) (λ same. some (empty_of_len d (len_test (map_len d) same)))
 
 pub fits_test : (rows : Rows) (c : Actions) → Fits rows c → fits rows c ≡ true
 fits_test rows c fit = (fits_decides rows c).1 fit

@@ -3,11 +3,12 @@ use Rattle.std.proofs.Common.{◌≡◌, ◌≢◌, ◌≤◌, ◌^◌, ◌++◌
 use Rattle.serde_json.specs.Data.{Data}
 use Rattle.ovs_types.specs.declared.schema.Description.{Description}
 use Rattle.ovs_types.specs.declared.schema.Table.{Table}
-use Rattle.ovs_rows.specs.After.{after}
+use Rattle.ovs_rows.specs.After.{Fits, after}
+use Rattle.ovs_rows.specs.Change.{IsChangeOf}
 use Rattle.ovs_rows.specs.Database.{DatabaseValue}
 use Rattle.ovs_rows.specs.DatabaseDifference.{database_difference, HaveSameData}
 use Rattle.ovs_rows.specs.Row.{Rows, no_rows, AreRowsOf}
-use Rattle.ovs_rows.proofs.Laws.{difference_fits_at, no_rows_of}
+use Rattle.ovs_rows.proofs.Laws.{difference_fits_at, difference_of_tables, no_rows_of, rows_after}
 use Rattle.ovs_links.specs.Chains.{head_after, start_of}
 use Rattle.ovs_links.specs.History.{Commit, IsNoId, AreDistinct, NoneIsStart, CommitsFrom, IsHistory, links_of, rows_at}
 use Rattle.ovs_links.specs.Link.{IsStart}
@@ -16,7 +17,7 @@ use Rattle.ovs_wire.specs.declared.message.Message.{Message}
 use Rattle.ovs_upstream.specs.Hearing.{derived, derived_of, heard, hears_at, at_stage, links_after, resuming}
 use Rattle.ovs_upstream.specs.Lawful.{IsAt, LawfulFrom}
 use Rattle.ovs_upstream.specs.Requests.{monitor_request}
-use Rattle.ovs_upstream.specs.Resuming.{IsAtCommit, IsCopyAt, CopyAsked, CopyTalk, TellsCopy}
+use Rattle.ovs_upstream.specs.Resuming.{AreOfCut, IsAtCommit, IsCopyAt, CopyAsked, CopyTalk, LeadThrough, TellsCopy}
 use Rattle.ovs_upstream.specs.Talk.{Talk, Schema, Reached, Update, Aside, Improper, talk_of}
 use Rattle.ovs_upstream.specs.declared.error.UpError.TheVariants.{OtherSchema}
 use Rattle.ovs_upstream.specs.declared.up_event.UpEvent.TheVariants as event
@@ -75,6 +76,37 @@ place_of tables start rows (c ∷ cs) (suc j) k at = let t = place_of tables c.i
 begins_at : (tables : List Table) (start : ℕ) (h : List Commit) (j : ℕ) (k : Commit) → slice_get h j ≡ Some k → start_of (links_of tables start no_rows h) ≡ start
 begins_at tables start [] j k at = absurd (let no : None ≡ Some k = at in cc)
 begins_at tables start (c ∷ cs) j k at = refl
+
+-- ---- the data that links lead to
+
+-- each of these commits leaves rows of these tables
+abbrev AreAllRows : List Table → List Commit → Type 0
+AreAllRows tables [] = Unit {0}
+AreAllRows tables (c ∷ cs) = AreRowsOf tables c.rows × AreAllRows tables cs
+
+all_rows : (tables : List Table) (rows : Rows) (h : List Commit) (j : ℕ) → CommitsFrom tables rows h → AreAllRows tables (drop j h)
+all_rows tables rows [] zero from = tt
+all_rows tables rows [] (suc j) from = tt
+all_rows tables rows (c ∷ cs) zero from = (from.0.after, all_rows tables c.rows cs zero from.1)
+all_rows tables rows (c ∷ cs) (suc j) from = all_rows tables c.rows cs j from.1
+
+-- from rows with the same data the links lead to the data of each commit
+lead_through : (tables : List Table) (prev n : ℕ) (old rows : Rows) (ks : List Commit) → HaveSameData old rows → AreRowsOf tables rows → AreAllRows tables ks
+    → LeadThrough tables rows (take n (links_of tables prev old ks)) ks
+lead_through tables prev zero old rows ks same of all = tt
+lead_through tables prev (suc n) old rows [] same of all = tt
+lead_through tables prev (suc n) old rows (k ∷ ks) same of all =
+    let change = database_difference tables old k.rows in
+    let as_known : database_difference tables rows k.rows ≡ change =
+    difference_same tables rows old k.rows k.rows (λ p. same p) (λ p. refl) in
+    let leads : HaveSameData k.rows (after tables rows change k.id) =
+    subst (λ c. HaveSameData k.rows (after tables rows c k.id)) as_known (leads_to_data tables rows k.rows k.id of all.0) in
+    let change_of : IsChangeOf tables change = subst (IsChangeOf tables) as_known (difference_of_tables tables rows k.rows of all.0) in (
+      refl,
+      subst (Fits rows) as_known (difference_fits_at tables rows k.rows),
+      leads,
+      lead_through tables k.id n k.rows (after tables rows change k.id) ks leads (rows_after tables rows change k.id of change_of) all.1,
+    )
 
 -- ---- what is said
 
@@ -152,8 +184,15 @@ front_talk description start h j (Improper ∷ xs) ys says = absurd says
 pub copy_cuts : (known : DatabaseValue) (h : List Commit) (start i j asked : ℕ) (before rest : List Message) → AreRowsOf known.schema.description.tables known.rows → IsStart start
     → IsHistory known.schema.description.tables no_rows h → i ≤ j → IsAtCommit known.schema.description.tables start h i asked known.rows
     → TellsCopy known.schema.description start h j (before ++ rest)
-    → (n : ℕ) × (derived (resuming known asked) before ≡ take n (links_of known.schema.description.tables asked (rows_at no_rows h i) (drop j h)))
+    → AreOfCut known.schema.description.tables h i j asked known.rows (derived (resuming known asked) before)
 copy_cuts known h start i j asked before rest rows below history le at tells =
-    talk_cut known h start i j asked rows below history le at (map talk_of before) (all_quiet before)
+    let tables = known.schema.description.tables in
+    let part = talk_cut known h start i j asked rows below history le at (map talk_of before) (all_quiet before)
     (front_talk known.schema.description start h j (map talk_of before) (map talk_of rest)
-    (subst (λ (ts : List Talk). CopyTalk known.schema.description start h j ts) (map_append before rest) tells))
+    (subst (λ (ts : List Talk). CopyTalk known.schema.description start h j ts) (map_append before rest) tells)) in
+    let through = lead_through tables asked part.0 (rows_at no_rows h i) known.rows (drop j h) at.same_data rows (all_rows tables no_rows h j history.commits) in
+    record {
+      count = part.0;
+      consecutive = part.1;
+      through = subst (λ (ls : List Link). LeadThrough tables known.rows ls (drop j h)) (sym part.1) through;
+    }

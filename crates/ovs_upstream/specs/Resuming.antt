@@ -1,13 +1,13 @@
 -- What a session that knows the database at the id that it asks makes of a whole copy.
-use Rattle.std.specs.Prelude.{◌≡◌, ℕ, suc, Bool, true, false, List, [], ◌∷◌, ◌^◌, Ok, Some, nat_le, map, slice_get}
+use Rattle.std.specs.Prelude.{◌≡◌, ◌≤◌, ℕ, suc, Bool, true, false, List, [], ◌∷◌, ◌^◌, Ok, Some, map, slice_get, take, drop}
 use Rattle.serde_json.specs.Data.{Data}
 use Rattle.ovs_types.specs.SchemaReading.{read_description}
 use Rattle.ovs_types.specs.declared.schema.Description.{Description}
 use Rattle.ovs_types.specs.declared.schema.Table.{Table}
 use Rattle.ovs_rows.specs.After.{Fits, after}
-use Rattle.ovs_rows.specs.Change.{IsChangeOf}
+use Rattle.ovs_rows.specs.Change.{Actions, IsChangeOf}
 use Rattle.ovs_rows.specs.ChangeReading.{read_change}
-use Rattle.ovs_rows.specs.DatabaseDifference.{database_difference, HaveSameData}
+use Rattle.ovs_rows.specs.DatabaseDifference.{database_difference, HaveSameData, IsDatabaseDifference}
 use Rattle.ovs_rows.specs.Row.{Rows, no_rows}
 use Rattle.ovs_links.specs.History.{Commit, links_of, rows_at}
 use Rattle.ovs_links.specs.declared.link.Link.{Link}
@@ -16,26 +16,31 @@ use Rattle.ovs_upstream.specs.Hearing.{says}
 use Rattle.ovs_upstream.specs.Lawful.{IsAt, LawfulFrom}
 use Rattle.ovs_upstream.specs.Talk.{Talk, Schema, Reached, Update, Aside, Improper, talk_of}
 
--- the link leads from these rows, at the one id, to the data of the copy, at the other
+-- the link leads from these rows, at the one id, to the data of the copy, at the other, and says only what differs
 pub record LeadsToCopy (tables : List Table) (known copy : Rows) (asked id : ℕ) (l : Link) : Type 0 where
   pub prev : l.prev ≡ asked
   pub id_is : l.id ≡ id
   pub of_tables : IsChangeOf tables l.change
+  pub difference : IsDatabaseDifference tables known copy l.change
   pub fit : Fits known l.change
   pub same_data : HaveSameData copy (after tables known l.change l.id)
 
--- no answer is a whole copy at a commit's id
-abbrev pub NoCopies : List Talk → Type 0
-NoCopies [] = Unit {0}
-NoCopies (Reached true id d ∷ ts) = NoCopies ts
-NoCopies (Reached false id d ∷ ts) = (nat_le (2 ^ 64) id ≡ false) × NoCopies ts
-NoCopies (Schema d ∷ ts) = NoCopies ts
-NoCopies (Update id d ∷ ts) = NoCopies ts
-NoCopies (Aside event ∷ ts) = NoCopies ts
-NoCopies (Improper ∷ ts) = NoCopies ts
+-- the updates spell all the rows of a database
+abbrev pub IsCopy : List Table → Data → Type 0
+IsCopy tables d = (copy : Actions) × (read_change tables d ≡ Ok copy) × Fits no_rows copy
 
-abbrev pub TellNoCopies : List Message → Type 0
-TellNoCopies messages = NoCopies (map talk_of messages)
+-- no answer is a whole copy at a commit's id
+abbrev pub NoCopies : List Table → List Talk → Type 0
+NoCopies tables [] = Unit {0}
+NoCopies tables (Reached true id d ∷ ts) = NoCopies tables ts
+NoCopies tables (Reached false id d ∷ ts) = (2 ^ 64 ≤ id → IsCopy tables d → ⊥) × NoCopies tables ts
+NoCopies tables (Schema d ∷ ts) = NoCopies tables ts
+NoCopies tables (Update id d ∷ ts) = NoCopies tables ts
+NoCopies tables (Aside event ∷ ts) = NoCopies tables ts
+NoCopies tables (Improper ∷ ts) = NoCopies tables ts
+
+abbrev pub TellNoCopies : List Table → List Message → Type 0
+TellNoCopies tables messages = NoCopies tables (map talk_of messages)
 
 -- ---- an upstream that has forgotten the id that is asked, of whose history the commits between are left out
 
@@ -69,6 +74,19 @@ CopyTalk description start h j (Aside event ∷ ts) = CopyTalk description start
 CopyTalk description start h j (Reached known id d ∷ ts) = ⊥
 CopyTalk description start h j (Update id d ∷ ts) = ⊥
 CopyTalk description start h j (Improper ∷ ts) = ⊥
+
+-- each link fits the rows before it, and leads to the data of the next of these commits, under its id
+abbrev pub LeadThrough : List Table → Rows → List Link → List Commit → Type 0
+LeadThrough tables rows [] ks = Unit {0}
+LeadThrough tables rows (l ∷ ls) [] = ⊥
+LeadThrough tables rows (l ∷ ls) (k ∷ ks) =
+    (l.id ≡ k.id) × Fits rows l.change × HaveSameData k.rows (after tables rows l.change l.id) × LeadThrough tables (after tables rows l.change l.id) ls ks
+
+-- the links are those of the history without the commits from i to j, from these rows on, which stand behind the first i
+pub record AreOfCut (tables : List Table) (h : List Commit) (i j asked : ℕ) (known : Rows) (links : List Link) : Type 0 where
+  pub count : ℕ
+  pub consecutive : links ≡ take count (links_of tables asked (rows_at no_rows h i) (drop j h))
+  pub through : LeadThrough tables known links (drop j h)
 
 -- what an upstream with this history may say, which tells the whole copy behind its first j commits
 abbrev pub TellsCopy : Description → ℕ → List Commit → ℕ → List Message → Type 0

@@ -77,18 +77,24 @@ fn linked(
         return Err(UpError::BadId);
     }
     let change = change_in(alloc, updates, schema)?;
-    made(alloc, prev, id, change)
+    made(alloc, prev, id, change, false)
 }
 
-// The link to the id of another commit, after which the session stands there.
-fn made(alloc: Global, prev: TxnId, id: TxnId, change: Change) -> Result<Heard, UpError>
+// The link to the id of another commit, after which the session stands there, and whether it was made of a whole copy.
+fn made(
+    alloc: Global,
+    prev: TxnId,
+    id: TxnId,
+    change: Change,
+    is_of_copy: bool,
+) -> Result<Heard, UpError>
     requires ends { are_ends prev id ≡ true }
     ensures exact { Gives UpError.NoMemory (λ h. h) result (made prev id change) }
 {
     match Link::new(prev, id, change) {
         Ok(link) => Ok(Heard {
             stage: SyncState::At(id),
-            event: UpEvent::Links(Links::one(alloc, link)?),
+            event: UpEvent::Links(Links::one(alloc, link, is_of_copy)?),
         }),
         Err(_) => Err(UpError::BadId),
     }
@@ -100,7 +106,7 @@ fn led(alloc: Global, asked: TxnId, id: TxnId, difference: Change) -> Result<Hea
     ensures exact { Gives UpError.NoMemory (λ h. h) result (led asked id difference) }
 {
     if id != asked {
-        made(alloc, asked, id, difference)
+        made(alloc, asked, id, difference, true)
     } else if difference.is_empty() {
         Ok(Heard {
             stage: SyncState::At(id),
@@ -143,7 +149,9 @@ fn resynced(
     match whole_copy(alloc, known.schema(), &change, id) {
         Ok(copy) => led(alloc, asked, id, Database::diff(alloc, known, &copy)?),
         Err(ApplyError::NoMemory) => Err(UpError::NoMemory),
-        Err(ApplyError::RowThere | ApplyError::NoRow) => made(alloc, TxnId::zero(), id, change),
+        Err(ApplyError::RowThere | ApplyError::NoRow) => {
+            made(alloc, TxnId::zero(), id, change, false)
+        }
     }
 }
 
