@@ -92,23 +92,26 @@ def a_whole_copy_is_told_as_the_difference(lab):
 
 @check(LIMIT)
 def an_empty_copy(lab):
-    """A whole copy without rows deletes all, and a relay that has nothing yet takes a whole copy as ever."""
+    """A whole copy without rows deletes all, and a relay that has nothing yet takes a whole copy as ever. `--verbose` tells the first."""
     upstream = lab.keep(Upstream(NET, breaks_off(1), copy_at(5, {})))
-    relay = lab.relay([upstream], "--resync")
+    relay = lab.relay([upstream], "--resync", "--verbose")
     with relay.session() as session:
         mirror = monitored(session)
         mirror.follow(lambda it: has_head(it, commit_id(1)), 15)
         break_first(upstream)
         mirror.take()
         equal((mirror.head, mirror.rows), (commit_id(5), {}), "what is told of an empty copy")
+    line = f"upstream 127.0.0.1:{upstream.port} told a whole copy at {commit_id(5)}: 2 rows differ\n"
+    holds(line in relay.child.complaints(), f"what `--verbose` tells: {relay.child.complaints()!r}")
     # The commit after it modifies a row that isn't there, so that it is never shown.
     fresh = lab.keep(Upstream(NET, copy_at(4, {ROW: {"name": "p4"}})))
-    second = lab.relay([fresh], "--resync")
+    second = lab.relay([fresh], "--resync", "--verbose")
     with second.session() as session:
         shows(session, "p5")
         told = monitored(session)
         told.follow(lambda it: has_head(it, commit_id(5)), 15)
         equal(told.commits, [commit_id(4), commit_id(5)], "the links of a relay that began with a copy")
+    holds("whole copy" not in second.child.complaints(), f"what is told of a first copy: {second.child.complaints()!r}")
     sound(fresh)
 
 

@@ -1,5 +1,6 @@
 -- A whole copy, and what differs from what is known.
-use Rattle.std.proofs.Common.{◌≡◌, ◌≢◌, ◌==◌, ℕ, Bool, zero, suc, true, false, List, Option, Some, None, refl, sym, ap, subst, ◌∙◌, true≢false}
+use Rattle.std.proofs.Common.{◌≡◌, ◌≢◌, ◌==◌, ℕ, Bool, true, false, List, Option, Some, None, refl, ap, sym, subst, ◌∙◌, arith}
+use Rattle.std.proofs.lemmas.Bool.Decides.{nat_tests}
 use Rattle.std.specs.Prelude.{IfSome, IsSome, option_map}
 use Rattle.std.specs.FinMap.{empty, get, same_map, len as map_len, len-empty, empty_of_len}
 use Rattle.ovs_data.specs.declared.datum.Datum.{Datum}
@@ -26,8 +27,7 @@ by_test true apart = absurd (apart refl)
 by_test false apart = refl
 
 len_test : (n : ℕ) → (n == 0) ≡ true → n ≡ 0
-len_test zero same = refl
-len_test (suc n) same = absurd (true≢false (sym same))
+len_test n same = grind (arith, nat_tests)
 
 pub empty_test : (d : Actions) → d ≡ empty → (map_len d == 0) ≡ true
 empty_test d none = ap (λ m. map_len m == 0) none ∙ ap (λ n. n == 0) (len-empty place_cmp Action)

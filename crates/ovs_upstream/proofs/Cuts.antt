@@ -134,7 +134,7 @@ module _ (known : DatabaseValue) (h : List Commit) (start i j asked : ℕ) (rows
       let whole = after tables no_rows change id in
       let hears = led_at known asked id d change copy.spells (difference_fits_at tables no_rows k.rows) large apart in
       let same : database_difference tables known.rows whole ≡ database_difference tables (rows_at no_rows h i) k.rows =
-      sym (difference_same tables (rows_at no_rows h i) known.rows k.rows whole (λ p. sym (at.same_data p)) (leads_to_data tables no_rows k.rows id (no_rows_of tables) of_commit)) in
+      sym (difference_same tables (rows_at no_rows h i) known.rows k.rows whole (λ p. sym (at.same_data p)) (λ p. sym (leads_to_data tables no_rows k.rows id (no_rows_of tables) of_commit p))) in
       let later = derived_from (resuming known asked) ls id (suc j) ts (history_line tables start h below history) quiet there lawful in (
         suc later.0,
         ap (λ r. links_after r (λ stage. derived_of (at_stage (resuming known asked) stage) ts)) hears
@@ -164,14 +164,14 @@ module _ (known : DatabaseValue) (h : List Commit) (start i j asked : ℕ) (rows
   talk_cut (Improper ∷ ts) quiet says = absurd says
 
 -- what begins so
-front_asked : (tables : List Table) (start : ℕ) (h : List Commit) (j : ℕ) (xs ys : List Talk) → CopyAsked tables start h j (xs ++ ys) → CopyAsked tables start h j xs
-front_asked tables start h j [] ys says = tt
-front_asked tables start h j (Aside e ∷ xs) ys says = front_asked tables start h j xs ys says
-front_asked tables start h j (Reached true id d ∷ xs) ys says = absurd says
-front_asked tables start h j (Reached false id d ∷ xs) ys says = (says.0, front_from tables (links_of tables start no_rows h) (suc j) xs ys says.1)
-front_asked tables start h j (Schema d ∷ xs) ys says = absurd says
-front_asked tables start h j (Update id d ∷ xs) ys says = absurd says
-front_asked tables start h j (Improper ∷ xs) ys says = absurd says
+front_asked : (among : List Table) (start : ℕ) (h : List Commit) (j : ℕ) (xs ys : List Talk) → CopyAsked among start h j (xs ++ ys) → CopyAsked among start h j xs
+front_asked among start h j [] ys says = tt
+front_asked among start h j (Aside e ∷ xs) ys says = front_asked among start h j xs ys says
+front_asked among start h j (Reached true id d ∷ xs) ys says = absurd says
+front_asked among start h j (Reached false id d ∷ xs) ys says = (says.0, front_from among (links_of among start no_rows h) (suc j) xs ys says.1)
+front_asked among start h j (Schema d ∷ xs) ys says = absurd says
+front_asked among start h j (Update id d ∷ xs) ys says = absurd says
+front_asked among start h j (Improper ∷ xs) ys says = absurd says
 
 front_talk : (description : Description) (start : ℕ) (h : List Commit) (j : ℕ) (xs ys : List Talk) → CopyTalk description start h j (xs ++ ys) → CopyTalk description start h j xs
 front_talk description start h j [] ys says = tt

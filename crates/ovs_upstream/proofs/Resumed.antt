@@ -133,7 +133,7 @@ no_copy k asked id d large none = by (read_change k.schema.description.tables d)
         → (change_in (read_change k.schema.description.tables d) >>= compared k asked id) ≡ from_zero
     by (Err fault) read = ap (λ r. change_in r >>= compared k asked id) read ∙ sym (ap (λ r. change_in r >>= made 0 id) read)
     by (Ok copy) read =
-        let unfit : fits no_rows copy ≡ false = by_test (fits no_rows copy) (λ fit. none (copy, (read, (fits_decides no_rows copy).0 fit))) in
+        let unfit : fits no_rows copy ≡ false = by_test (fits no_rows copy) (λ fit. none (copy, read, (fits_decides no_rows copy).0 fit)) in
         let tables = k.schema.description.tables in
         ap (λ r. change_in r >>= compared k asked id) read
         ∙ ap (λ b. cond b (led asked id (database_difference tables k.rows (after tables no_rows copy id))) (made 0 id copy)) unfit

@@ -11,7 +11,7 @@ ghost use Rattle.ovs_upstream.specs.Requests.{schema_request, CanBeAsked};
 ghost use Rattle.ovs_rows.specs.After.{after, fits};
 ghost use Rattle.ovs_rows.specs.Change.{IsChangeOf};
 ghost use Rattle.ovs_rows.specs.Row.{no_rows};
-ghost use Rattle.ovs_upstream.specs.Hearing.{says, change_in, heard, opened, are_ends, made, linked, placed, led, resynced, copied, reached, hears_at, hears, opening, resuming, known_at, at_stage, links_in, takes_memory, needs_memory, needs_memory_at};
+ghost use Rattle.ovs_upstream.specs.Hearing.{says, change_in, heard, opened, are_ends, made, linked, placed, unmoved, led, resynced, copied, reached, hears_at, hears, opening, resuming, known_at, at_stage, links_in, takes_memory, needs_memory, needs_memory_at};
 ghost use Rattle.ovs_upstream.specs.Talk.{Reached};
 ghost use Rattle.ovs_upstream.specs.declared.up_session.SyncState.TheVariants as stage;
 
@@ -105,9 +105,18 @@ fn led(alloc: Global, asked: TxnId, id: TxnId, difference: Change) -> Result<Hea
     requires commit { nat_le (2 ^ 64) id ≡ true }
     ensures exact { Gives UpError.NoMemory (λ h. h) result (led asked id difference) }
 {
-    if id != asked {
+    if id == asked {
+        unmoved(id, &difference)
+    } else {
         made(alloc, asked, id, difference, true)
-    } else if difference.is_empty() {
+    }
+}
+
+// The session stands at the id that was asked, where nothing differs there.
+fn unmoved(id: TxnId, difference: &Change) -> Result<Heard, UpError>
+    ensures value { result ≡ unmoved id difference.now }
+{
+    if difference.is_empty() {
         Ok(Heard {
             stage: SyncState::At(id),
             event: UpEvent::Nothing,
@@ -130,8 +139,10 @@ fn whole_copy(
     ensures unfit { IfErr result (λ e. e ≢ ApplyError.NoMemory → fits no_rows rows.now ≡ false) }
 {
     let mut copy = Database::empty(alloc, schema)?;
-    let _applied = copy.apply(alloc, rows, id)?;
-    Ok(copy)
+    match copy.apply(alloc, rows, id) {
+        Ok(_) => Ok(copy),
+        Err(refusal) => Err(refusal),
+    }
 }
 
 // What a whole copy comes to, where the database at the id that was asked is known.
