@@ -15,7 +15,7 @@ use Rattle.ovs_rows.specs.declared.row_key.RowKey.{RowKey}
 use Rattle.ovs_rows.specs.After.{FitsAt, Fits, InsertsPresent, Tells, fits, row_after, after}
 use Rattle.ovs_rows.specs.Change.{Actions}
 use Rattle.ovs_rows.specs.DatabaseDifference.{action_between, database_difference, edits_between, modified, IsActionBetween, HaveSameData}
-use Rattle.ovs_rows.specs.Row.{Rows, columns_at, no_rows, AreDataOf, AreRowsOf}
+use Rattle.ovs_rows.specs.Row.{Rows, columns_at, AreDataOf, AreRowsOf}
 use Rattle.ovs_rows.specs.RowKey.{place_cmp, place_total, place_exact}
 use Rattle.ovs_rows.proofs.Laws.{fits_decides, get-after, get-database_difference}
 use Rattle.ovs_rows.proofs.RowSteps.{action_between_is, row_after_between}

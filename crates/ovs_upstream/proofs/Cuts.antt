@@ -1,5 +1,5 @@
 -- The links that a session makes of a whole copy and what comes behind it are those of the history without the commits between.
-use Rattle.std.proofs.Common.{◌≡◌, ◌≢◌, ◌≤◌, ◌^◌, ◌++◌, ℕ, zero, suc, Bool, true, false, cond, List, [], ◌∷◌, Some, None, Ok, Err, length, take, drop, slice_get, map, refl, sym, ap, subst, ◌∙◌, arith}
+use Rattle.std.proofs.Common.{◌≡◌, ◌≢◌, ◌≤◌, ◌^◌, ◌++◌, ℕ, zero, suc, true, false, cond, List, [], ◌∷◌, Some, None, Err, length, take, drop, slice_get, map, refl, sym, ap, subst, ◌∙◌, arith}
 use Rattle.serde_json.specs.Data.{Data}
 use Rattle.ovs_types.specs.declared.schema.Description.{Description}
 use Rattle.ovs_types.specs.declared.schema.Table.{Table}
@@ -25,7 +25,7 @@ use Rattle.ovs_upstream.specs.declared.up_session.SyncState.TheVariants.{Opening
 use Rattle.ovs_upstream.proofs.Copies.{difference_same, leads_to_data}
 use Rattle.ovs_upstream.proofs.Quiet.{all_quiet}
 use Rattle.ovs_upstream.proofs.Resumed.{led_at}
-use Rattle.ovs_upstream.proofs.Runs.{AllQuiet, IsLine, derived_from, front_from, quiet_first}
+use Rattle.ovs_upstream.proofs.Runs.{AllQuiet, derived_from, front_from, quiet_first}
 use Rattle.ovs_upstream.proofs.Streams.{history_line, map_append, start_is_none}
 
 -- ---- commits of a history

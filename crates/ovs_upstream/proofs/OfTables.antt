@@ -1,5 +1,5 @@
 -- A message brings one link at most, which is of the schema's tables.
-use Rattle.std.proofs.Common.{◌≡◌, ◌==◌, ◌&&◌, ◌^◌, ◌≤◌, ℕ, Bool, true, false, cond, List, [], ◌∷◌, length, Ok, Err, refl, sym, subst, arith}
+use Rattle.std.proofs.Common.{◌≡◌, ◌==◌, ◌^◌, ◌≤◌, ℕ, Bool, true, false, cond, List, [], ◌∷◌, length, Ok, Err, refl, sym, subst, arith}
 use Rattle.std.specs.Prelude.{Result, nat_le, IfOk, IfSome, Option, Some, None}
 use Rattle.std.specs.FinMap.{len as map_len}
 use Rattle.serde_json.specs.Data.{Data}

@@ -1,11 +1,11 @@
 -- What a session makes of a whole copy that knows the database at the id that it asks.
-use Rattle.std.proofs.Common.{◌≡◌, ◌≢◌, ◌≤◌, ◌^◌, ◌==◌, ◌&&◌, ℕ, Bool, true, false, cond, List, [], ◌∷◌, ◌++◌, Option, Some, None, Ok, Err, map, refl, sym, ap, subst, ◌∙◌, arith}
+use Rattle.std.proofs.Common.{◌≡◌, ◌≢◌, ◌≤◌, ◌^◌, ◌==◌, ◌&&◌, ℕ, Bool, true, false, cond, List, [], ◌∷◌, ◌++◌, Option, Some, None, Ok, Err, map, refl, sym, ap, ◌∙◌, arith}
 use Rattle.std.specs.Prelude.{Result, nat_le, not}
-use Rattle.std.specs.FinMap.{empty, len as map_len}
+use Rattle.std.specs.FinMap.{empty}
 use Rattle.serde_json.specs.Data.{Data}
 use Rattle.ovs_json.specs.Results.{◌>>=◌}
 use Rattle.ovs_rows.specs.After.{Fits, after, fits}
-use Rattle.ovs_rows.specs.Change.{Actions, IsChangeOf}
+use Rattle.ovs_rows.specs.Change.{Actions}
 use Rattle.ovs_rows.specs.declared.error.ChangeError.{ChangeError}
 use Rattle.ovs_rows.specs.ChangeReading.{read_change}
 use Rattle.ovs_rows.specs.Database.{DatabaseValue}

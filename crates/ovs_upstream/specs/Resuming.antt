@@ -1,5 +1,5 @@
 -- What a session that knows the database at the id that it asks makes of a whole copy.
-use Rattle.std.specs.Prelude.{◌≡◌, ◌≤◌, ℕ, suc, Bool, true, false, List, [], ◌∷◌, ◌^◌, Ok, Some, map, slice_get, take, drop}
+use Rattle.std.specs.Prelude.{◌≡◌, ◌≤◌, ℕ, suc, true, false, List, [], ◌∷◌, ◌^◌, Ok, Some, map, slice_get, take, drop}
 use Rattle.serde_json.specs.Data.{Data}
 use Rattle.ovs_types.specs.SchemaReading.{read_description}
 use Rattle.ovs_types.specs.declared.schema.Description.{Description}
