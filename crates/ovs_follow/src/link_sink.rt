@@ -13,14 +13,8 @@ pub trait LinkSink: Drop {
     // The links that it was sent, in order.
     ghost sent: { Self → List Link };
 
-    /// Sends a link.
-    fn send(&mut self, link: Link)
+    /// Sends a link, which was made of a whole copy or wasn't.
+    fn send(&mut self, link: Link, is_of_copy: bool)
         requires taken { takes link }
         ensures sent { sent self.new ≡ sent self.old ++ link ∷ [] };
-
-    /// Is told that this link, which it is sent next, was made of a whole copy.
-    fn note_copy(&mut self, _link: &Link)
-        requires taken { takes _link.now }
-        ensures sent { sent self.new ≡ sent self.old }
-    {}
 }

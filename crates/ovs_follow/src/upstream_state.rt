@@ -109,10 +109,7 @@ impl<S: LinkSink> UpstreamState<S> {
     {
         let are_of_copy = links.are_of_copy();
         if let Some(link) = links.into_vec().pop() {
-            if are_of_copy {
-                self.sink.note_copy(&link);
-            }
-            self.sink.send(link);
+            self.sink.send(link, are_of_copy);
         }
     }
 

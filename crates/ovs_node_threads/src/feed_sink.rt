@@ -52,7 +52,7 @@ impl<'a, K: NodeName, Q: FeedName, R: Wait> LinkSink for FeedSink<'a, K, Q, R> {
 
     ghost sent = { λ s. s.end.1 };
 
-    fn send(&mut self, link: Link) {
+    fn send(&mut self, link: Link, _is_of_copy: bool) {
         self.counts.note_sending();
         self.end.send(self.rt, self.queue, NodeLink::new(link));
         self.counts.note_queued();

@@ -59,6 +59,15 @@ impl<'a, K: NodeName, Q: FeedName, C: Connector + Drop, R: Wait> UpstreamSink<'a
         }
     }
 
+    // Tells the connector of a whole copy that this link was made of.
+    fn tell(&self, link: &Link)
+        requires tables { IsOfTables K.schema.description.tables link.now }
+    {
+        if let Some(rows) = rows_in(self.alloc, link.change(), self.schema) {
+            self.connector.told_copy(link.id(), rows);
+        }
+    }
+
     /// The end of the feed.
     pub(crate) fn into_end(self) -> FeedEnd<NodeLink<K>, Q>
         ensures end { result ≡ self.entry.feed.end }
@@ -74,13 +83,10 @@ impl<'a, K: NodeName, Q: FeedName, C: Connector + Drop, R: Wait> LinkSink
 
     ghost sent = { λ s. s.feed.end.1 };
 
-    fn send(&mut self, link: Link) {
-        self.feed.send(link);
-    }
-
-    fn note_copy(&mut self, link: &Link) {
-        if let Some(rows) = rows_in(self.alloc, link.change(), self.schema) {
-            self.connector.told_copy(link.id(), rows);
+    fn send(&mut self, link: Link, is_of_copy: bool) {
+        if is_of_copy {
+            self.tell(&link);
         }
+        self.feed.send(link, is_of_copy);
     }
 }

@@ -63,7 +63,7 @@ impl LinkSink for Keeping {
 
     ghost sent = { λ keeping. keeping.sent };
 
-    fn send(&mut self, link: Link) {
+    fn send(&mut self, link: Link, _is_of_copy: bool) {
         self.sent.push(&link);
         self.exchange.note_link();
         self.is_short |= self.links.push(link).is_err();

@@ -40,7 +40,7 @@ fn send_next<K: NodeName, T, L: SharedSource<K, T>, S: LinkSink>(
     let Some(link) = desk.next_link(taken) else {
         return false;
     };
-    sink.send(link);
+    sink.send(link, false);
     counts.turns = counts.turns.saturating_add(1);
     counts.messages = counts.messages.saturating_add(1);
     true

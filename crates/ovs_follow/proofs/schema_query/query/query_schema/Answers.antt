@@ -1,4 +1,4 @@
-use Rattle.std.proofs.Common.{ap, subst, sym}
+use Rattle.std.proofs.Common.{ap, subst}
 use Rattle.ovs_session.specs.Serving.{SessionValue}
 use Rattle.ovs_session.specs.Moving.{Moved}
 use Rattle.ovs_follow.specs.declared.schema_query.asker.SchemaQuery.{SchemaQuery}
