@@ -450,11 +450,11 @@ module _ (source node : Stored) (is_node : IsNode source node) where
 
 -- what is on its way came nearer
 pub led_fed : (source node : Stored) (s : SimSession) (way : Line) → IsLed source node s → ((messages : List Message) → Carries s.downward messages → Carries way messages)
-    → IsLed source node (moved_on s s.up.stage way)
+    → IsLed source node (with_line s way)
 led_fed source node s way is keeps = record {
   schema = is.schema;
   says = is.says;
-  unknown = none_at s.up.stage s.up.known is.unknown;
+  unknown = is.unknown;
   goes_on = is.goes_on;
   shown = is.shown;
   idle = is.idle;

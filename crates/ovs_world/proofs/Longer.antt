@@ -116,6 +116,7 @@ module _ (s t : Stored) (makes : Makes s t) where
       record {
         schema = is.schema ∙ sym makes.extends.schema;
         says = is.says;
+        unknown = is.unknown;
         goes_on = is.goes_on;
         shown = is.shown;
         idle = is.idle;

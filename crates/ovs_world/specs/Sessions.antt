@@ -96,8 +96,10 @@ pub record Hears (f : FoldedValue) (old : SimSession) (message : Message) (links
   pub goes : Goes f (moved_on old stage old.downward) event new
   pub makes : links ≡ links_in event
 
+-- the relay's end as it is, with this line behind it
 abbrev pub with_line : SimSession → Line → SimSession
-with_line s line = moved_on s s.up.stage line
+with_line s line =
+    record { relay = s.relay; upstream = s.upstream; begun = s.begun; up = s.up; reader = s.reader; upward = s.upward; downward = line }
 
 -- the relay hears the first message that waits, of which it makes these links
 pub record HearsNext (f : FoldedValue) (old : SimSession) (links : List Link) (new : SimSession) : Type 0 where
