@@ -49,7 +49,7 @@ impl<'a, K: NodeName, Q: FeedName, C: Connector + Drop, R: Wait> UpstreamSink<'a
         feed: FeedSink<'a, K, Q, R>,
     ) -> UpstreamSink<'a, K, Q, C, R>
         requires schema { schema.now ≡ K.schema }
-        ensures feed { result.feed ≡ feed }
+        ensures feed { result.feed ≡ feed.entry }
     {
         UpstreamSink {
             feed,
