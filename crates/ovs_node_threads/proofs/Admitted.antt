@@ -47,12 +47,3 @@ session_admits admits true database asked remaining lawful copies = by (asked ==
     by : (b : Bool) → AdmitsIn admits (cond b (opening database.schema asked) (resuming database asked)) remaining
     by true = opened_admits admits database.schema asked remaining lawful
     by false = resumed_admits admits database asked remaining (copies refl)
-
--- it is of the database's schema
-pub session_schema : (resyncs : Bool) (database : DatabaseValue) (asked : ℕ) → (session_at resyncs database asked).schema ≡ database.schema
-session_schema false database asked = refl
-session_schema true database asked = by (asked == 0)
-  where
-    by : (b : Bool) → (cond b (opening database.schema asked) (resuming database asked)).schema ≡ database.schema
-    by true = refl
-    by false = refl
