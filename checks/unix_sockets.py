@@ -155,6 +155,7 @@ def addresses_of_both_kinds(lab):
     absent = [f"unix:{lab.path('nobody.sock')}", f"127.0.0.1:{free_port()}"]
     relay = relay_at(lab, [*absent, source], more=["--verbose"]).with_source()
     wanted = [*(f"upstream {address} not found" for address in absent), f"upstream {source.address} found"]
+    wait_until(lambda: wanted[-1] in lines(relay.child), 15, "the relay says that its upstream was found")
     told = [line.split(": ")[0] for line in lines(relay.child) if line.startswith("upstream ")]
     equal(told, wanted, "what the relay says of its upstream")
     with relay.session() as session:
