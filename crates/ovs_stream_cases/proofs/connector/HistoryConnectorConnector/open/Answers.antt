@@ -1,4 +1,4 @@
-use Rattle.std.proofs.Common.{ℕ, List, sym, subst}
+use Rattle.std.proofs.Common.{◌≡◌, ℕ, List, true, false, sym, subst}
 use Rattle.std.specs.Prelude.{Some}
 use Rattle.std.specs.List.{All}
 use Rattle.ovs_types.specs.Schema.{SchemaValue}
@@ -29,4 +29,5 @@ returns-in-Ok g c =
     record {
       lawful = subst (λ (bytes : List ℕ). AdmitsBytes (AmongHistory schema (one_epoch commits)) c.args.asked (Some bytes)) (sym c.from_vec.ensures.items)
           (session_admits schema commits ls c.args.asked c.in-Ok.bytes.items c.as_slice-links.ensures.history session);
+      copies = λ resyncs. absurd (let w : false ≡ true = resyncs in cc);
     }
