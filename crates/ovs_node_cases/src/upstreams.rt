@@ -1,5 +1,7 @@
 //! What an upstream says over memory, session by session.
 
+ghost use Rattle.std.specs.Prelude.{false};
+
 use crate::node_case_error::NodeCaseError;
 use ovs_case_lines::{commit_in, count_in, list_in, number_of, text_in};
 use ovs_node_threads::Connector;
