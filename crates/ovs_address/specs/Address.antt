@@ -4,6 +4,7 @@ use Rattle.std.specs.Net.Addr.{MatchIp, IsLoopbackV4, IsLoopbackV6}
 use Rattle.std.specs.Net.Grammar.{IsSocketText}
 use Rattle.std.specs.Net.Socket.{socket_ip}
 use Rattle.std.specs.declared.net.socket_addr.SocketAddr.{SocketAddr}
+use Rattle.arrayvec.specs.ArrayString.{ArrayString}
 use Rattle.ovs_address.specs.declared.address.Address.{Address}
 use Rattle.ovs_address.specs.declared.address.Address.TheVariants.{Ip, Unix}
 
@@ -14,6 +15,10 @@ Text = List ℕ
 abbrev pub SpellsIp : Bool → Text → SocketAddr → Type 0
 SpellsIp true word address = IsSocketText word address
 SpellsIp false word address = IsSocketText word address × MatchIp (socket_ip address) IsLoopbackV4 IsLoopbackV6
+
+-- a path as code has it
+abbrev pub Path : Type 0
+Path = ArrayString
 
 -- a path that goes into the address of a socket with the zero that ends it there (unix(7))
 abbrev pub IsSocketPath : Text → Type 0

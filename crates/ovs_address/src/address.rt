@@ -19,8 +19,8 @@ pub enum Address {
     Unix(SocketPath),
 }
 
-// The path of a Unix socket, where it can be one.
-fn read_path(path: &str) -> Option<SocketPath>
+/// The path of a Unix socket, where a word can be one: 1 to 107 bytes, none of them a zero.
+pub fn read_path(path: &str) -> Option<SocketPath>
     ensures value { MatchOption result (¬ (IsSocketPath path.now)) (λ p. (p.bytes ≡ path.now) × IsSocketPath path.now) }
 {
     if path.is_empty() || path.as_bytes().contains(&0) {

@@ -3,4 +3,4 @@
 
 mod address;
 
-pub use address::{Address, SocketPath};
+pub use address::{Address, SocketPath, read_path};

@@ -2,7 +2,7 @@
 
 use crate::case::{count, part, text, word};
 use crate::case_error::CaseError;
-use ovs_address::Address;
+use ovs_address::{Address, SocketPath};
 use ovs_command_line::{
     Complaint, RelayOptions, SchemaOrigin, SourceOptions, Task, command, complaint_of,
 };
@@ -24,6 +24,17 @@ fn count_told(alloc: Global, count: Option<u32>) -> Result<String, CaseError> {
     }
 }
 
+// The control socket, where there is one.
+fn control_told(alloc: Global, path: &Option<SocketPath>) -> Result<String, CaseError> {
+    match path {
+        Some(path) => {
+            let path = path.as_str();
+            Ok(format!(in alloc; ", asked at {path}")?)
+        }
+        None => Ok(String::new(alloc)),
+    }
+}
+
 // What a source is given.
 fn source_told(alloc: Global, given: &SourceOptions) -> Result<String, CaseError> {
     let first_id = given.first_id.to_text(alloc)?;
@@ -34,9 +45,10 @@ fn source_told(alloc: Global, given: &SourceOptions) -> Result<String, CaseError
         Some(every) => format!(in alloc; ", trims every {every}")?,
         None => String::new(alloc),
     };
+    let control = control_told(alloc, &given.control)?;
     let verbose = flag(given.verbose, ", tells");
     let told = format!(in alloc;
-        "source {schema} at {listen}, ids {first_id}, rows {first_row}{trims}, accepts {accepts}{verbose}"
+        "source {schema} at {listen}, ids {first_id}, rows {first_row}{trims}, accepts {accepts}{control}{verbose}"
     );
     Ok(told?)
 }
@@ -69,12 +81,13 @@ fn relay_told(alloc: Global, given: &RelayOptions) -> Result<String, CaseError> 
         Some(bytes) => format!(in alloc; ", messages of {bytes}")?,
         None => String::new(alloc),
     };
+    let control = control_told(alloc, &given.control)?;
     let verbose = flag(given.verbose, ", tells");
     let ends = flag(given.end_on_refusal, ", ends on refusal");
     let prunes = flag(given.prunes, ", prunes");
     let resyncs = flag(given.resyncs, ", resyncs");
     let rest = format!(in alloc;
-        ", accepts {accepts}, tries {tries}{most}{verbose}{ends}{prunes}{resyncs}"
+        ", accepts {accepts}, tries {tries}{most}{control}{verbose}{ends}{prunes}{resyncs}"
     )?;
     told.push_str(rest.as_str())?;
     Ok(told)

@@ -7,15 +7,15 @@ use Rattle.std.specs.List.{AllZip}
 use Rattle.std.specs.Option.{unwrap_or}
 use Rattle.clap.specs.Words.{Row, Text, first_of}
 use Rattle.ovs_address.specs.declared.address.Address.{Address}
-use Rattle.ovs_address.specs.Address.{SpellsNone}
+use Rattle.ovs_address.specs.Address.{IsSocketPath, Path, SpellsNone}
 use Rattle.ovs_command_line.specs.declared.options.SchemaOrigin.{SchemaOrigin}
 use Rattle.ovs_command_line.specs.declared.options.SchemaOrigin.TheVariants as origins
 use Rattle.ovs_command_line.specs.declared.command_option.CommandOption.{CommandOption}
-use Rattle.ovs_command_line.specs.declared.command_option.CommandOption.TheVariants.{Schema, Database, Listen, Upstream, FirstId, FirstRow, TrimEvery, Accepts, Tries, MostBytes}
+use Rattle.ovs_command_line.specs.declared.command_option.CommandOption.TheVariants.{Schema, Database, Listen, Upstream, FirstId, FirstRow, TrimEvery, Accepts, Tries, MostBytes, Control}
 use Rattle.ovs_command_line.specs.declared.command_fault.CommandFault.{CommandFault}
 use Rattle.ovs_command_line.specs.declared.command_fault.CommandFault.TheVariants.{Usage, Missing, TwoOrigins, BadValue, OneTooMany, OwnAddress, ResyncOfSeveral, NoMemory}
 use Rattle.ovs_command_line.specs.Values.{SpellsCommit, SpellsRow, parts_of}
-use Rattle.ovs_command_line.specs.Options.{Addresses, is_count, word_of, words_of, Gives, SpellsCount, SpellsIfGiven, SpellsAllowed, SpellsUpstream, GivesOrigin}
+use Rattle.ovs_command_line.specs.Options.{Addresses, is_count, is_optional, PathIfWord, word_of, words_of, Gives, SpellsCount, SpellsIfGiven, SpellsAllowed, SpellsUpstream, GivesOrigin}
 use Rattle.ovs_command_line.specs.declared.command_line.Task.{Task}
 use Rattle.ovs_command_line.specs.CommandLine.{Found, HasCommand}
 use Rattle.ovs_command_line.specs.Faults.{is_of_source, is_of_relay, IsReadable, IsPartOf, IsNoValue, StandsBehind, HasOwnAddress, ResyncsSeveral, IsFaultOf, IsFaultOfOrigin, IsFaultOfSource, IsFaultOfRelay, IsFoundReadable, IsNoValueOf, HasOptionFault}
@@ -40,6 +40,19 @@ count_fault Listen rows word is at none (BadValue o w) made = absurd (true≢fal
 count_fault Upstream rows word is at none (BadValue o w) made = absurd (true≢false (sym is))
 count_fault FirstId rows word is at none (BadValue o w) made = absurd (true≢false (sym is))
 count_fault FirstRow rows word is at none (BadValue o w) made = absurd (true≢false (sym is))
+count_fault Control rows word is at none (BadValue o w) made = absurd (true≢false (sym is))
+
+-- the fault of a path
+pub path_fault : (rows : List Row) (word : Text) → word_of Control rows ≡ Some word → ¬ (IsSocketPath word)
+    → (fault : CommandFault) → IsNoValueOf Control word fault → IsFaultOf Control rows fault
+path_fault rows word at none (BadValue o w) made = (made.0, at ∙ ap Some (sym made.1), subst (λ v. ¬ (IsSocketPath v)) (sym made.1) none)
+path_fault rows word at none NoMemory made = tt
+path_fault rows word at none (Usage line) made = absurd (let no : Usage line ≡ NoMemory = made in cc)
+path_fault rows word at none (Missing o) made = absurd (let no : Missing o ≡ NoMemory = made in cc)
+path_fault rows word at none (OneTooMany w) made = absurd (let no : OneTooMany w ≡ NoMemory = made in cc)
+path_fault rows word at none (OwnAddress a) made = absurd (let no : OwnAddress a ≡ NoMemory = made in cc)
+path_fault rows word at none ResyncOfSeveral made = absurd (let no : ResyncOfSeveral ≡ NoMemory = made in cc)
+path_fault rows word at none TwoOrigins made = absurd (let no : TwoOrigins ≡ NoMemory = made in cc)
 
 -- two words behind an option are the same
 same_word : (o : Option Text) (v w : Text) → o ≡ Some v → o ≡ Some w → v ≡ w
@@ -59,6 +72,12 @@ counted_if_given : (option : CommandOption) (o : Option Text) (n : Option ℕ) �
 counted_if_given option None n counts word is none = let no : None ≡ Some word = is in cc
 counted_if_given option (Some w) n counts word is none =
     let same : w ≡ word = (let some : Some w ≡ Some word = is in cc) in none counts.0 (subst (λ v. SpellsCount option v counts.0) same counts.2)
+
+-- an option with a word that is a path
+path_if_given : (o : Option Text) (path : Option Path) → PathIfWord o path → (word : Text) → o ≡ Some word → ¬ (¬ (IsSocketPath word))
+path_if_given None path given word is none = let no : None ≡ Some word = is in cc
+path_if_given (Some w) path given word is none =
+    let same : w ≡ word = (let some : Some w ≡ Some word = is in cc) in none (subst IsSocketPath same given.3)
 
 -- each of several words spells a value
 each_spells : {A : Type 0} (Spells : Text → A → Type 0) (words : List Text) (values : List A) → AllZip Spells words values
@@ -103,7 +122,7 @@ no_first rows none = by_row (find (λ (r : Row). bytes_eq r.id (codes "upstream"
         by_values (v ∷ vs) none = absurd (let no : Some v ≡ None = none in cc)
 
 -- where an option that has to be there can be read, it is there
-is_there : (option : CommandOption) (rows : List Row) → is_count option ≡ false → IsReadable option rows → word_of option rows ≢ None
+is_there : (option : CommandOption) (rows : List Row) → is_optional option ≡ false → IsReadable option rows → word_of option rows ≢ None
 is_there Schema rows needed readable none = no_word _ readable.0 readable.1 none
 is_there Database rows needed readable none = no_word _ readable.0 readable.1 none
 is_there Listen rows needed readable none = no_word _ readable.1.0 readable.1.1 none
@@ -113,6 +132,7 @@ is_there TrimEvery rows needed readable none = absurd (true≢false needed)
 is_there Accepts rows needed readable none = absurd (true≢false needed)
 is_there Tries rows needed readable none = absurd (true≢false needed)
 is_there MostBytes rows needed readable none = absurd (true≢false needed)
+is_there Control rows needed readable none = absurd (true≢false needed)
 is_there Upstream rows needed readable none =
     let few = as_many (SpellsUpstream rows) (words_of Upstream rows) readable.0 readable.1.0 in
     let least = readable.1.1 in
@@ -131,6 +151,7 @@ is_value TrimEvery rows readable word behind none = counted_if_given TrimEvery (
 is_value Accepts rows readable word behind none = counted_if_given Accepts (word_of Accepts rows) readable.0 readable.1 word behind none
 is_value Tries rows readable word behind none = counted_if_given Tries (word_of Tries rows) readable.0 readable.1 word behind none
 is_value MostBytes rows readable word behind none = counted_if_given MostBytes (word_of MostBytes rows) readable.0 readable.1 word behind none
+is_value Control rows readable word behind none = path_if_given (word_of Control rows) readable.0 readable.1 word behind none
 
 -- and no upstream is the fifth
 no_fifth : (rows : List Row) → IsReadable Upstream rows → (word : Text) → slice_get (words_of Upstream rows) 4 ≢ Some word

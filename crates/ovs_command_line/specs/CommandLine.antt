@@ -31,19 +31,20 @@ fold_app = with_rule (new_app (codes "fold")) (word_rule (codes "merge"))
 abbrev pub world_app : App
 world_app = new_app (codes "world")
 
--- a schema, an address to listen at, the first ids, and after how many links an epoch ends
+-- a schema, an address to listen at, the first ids, after how many links an epoch ends, and a control socket
 abbrev pub source_words : App
-source_words = with_rule (with_rule (with_rule (with_rule (with_rule (with_rule (new_app (codes "source")) (word_rule (codes "schema")))
-    (word_rule (codes "listen"))) (word_rule (codes "first-id"))) (word_rule (codes "first-row"))) (word_rule (codes "trim-every"))) (word_rule (codes "accepts"))
+source_words = with_rule (with_rule (with_rule (with_rule (with_rule (with_rule (with_rule (new_app (codes "source")) (word_rule (codes "schema")))
+    (word_rule (codes "listen"))) (word_rule (codes "first-id"))) (word_rule (codes "first-row"))) (word_rule (codes "trim-every"))) (word_rule (codes "accepts")))
+    (word_rule (codes "control"))
 
 abbrev pub source_app : App
 source_app = with_rule (with_rule source_words (flag_rule (codes "verbose"))) (flag_rule (codes "beyond-loopback"))
 
--- a schema or the name of a database, an address to listen at and upstreams, and how many bytes a message of theirs may have
+-- a schema or the name of a database, an address to listen at and upstreams, how many bytes a message of theirs may have, and a control socket
 abbrev pub relay_words : App
-relay_words = with_rule (with_rule (with_rule (with_rule (with_rule (with_rule (with_rule (new_app (codes "relay")) (word_rule (codes "schema")))
+relay_words = with_rule (with_rule (with_rule (with_rule (with_rule (with_rule (with_rule (with_rule (new_app (codes "relay")) (word_rule (codes "schema")))
     (word_rule (codes "database"))) (word_rule (codes "listen"))) (list_rule (codes "upstream"))) (word_rule (codes "accepts"))) (word_rule (codes "tries")))
-    (word_rule (codes "most-bytes"))
+    (word_rule (codes "most-bytes"))) (word_rule (codes "control"))
 
 abbrev pub relay_app : App
 relay_app = with_rule (with_rule (with_rule (with_rule (with_rule relay_words (flag_rule (codes "verbose"))) (flag_rule (codes "end-on-refusal"))) (flag_rule (codes "resync")))

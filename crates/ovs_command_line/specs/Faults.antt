@@ -1,19 +1,19 @@
 -- What is off in words that ask for nothing.
 use Rattle.std.specs.Prelude.{◌≡◌, ◌≢◌, ◌≤◌, ◌⊎◌, ℕ, List, length, [], Option, Some, None, Bool, true, false, Result, Ok, Err, codes, slice_get, Contains, IsTrue, string_bytes}
 use Rattle.ovs_address.specs.declared.address.Address.{Address}
-use Rattle.ovs_address.specs.Address.{AreSame, SpellsAddress, SpellsNone}
+use Rattle.ovs_address.specs.Address.{AreSame, IsSocketPath, Path, SpellsAddress, SpellsNone}
 use Rattle.clap.specs.Words.{Row, Text, fault_of, subcommand_of}
 use Rattle.clap.specs.declared.error.kind.ErrorKind.{ErrorKind}
 use Rattle.clap.specs.declared.error.kind.ErrorKind.TheVariants.{DisplayHelp, DisplayVersion, OutOfMemory}
 use Rattle.ovs_command_line.specs.declared.command_option.CommandOption.{CommandOption}
-use Rattle.ovs_command_line.specs.declared.command_option.CommandOption.TheVariants.{Schema, Database, Listen, Upstream, FirstId, FirstRow, TrimEvery, Accepts, Tries, MostBytes}
+use Rattle.ovs_command_line.specs.declared.command_option.CommandOption.TheVariants.{Schema, Database, Listen, Upstream, FirstId, FirstRow, TrimEvery, Accepts, Tries, MostBytes, Control}
 use Rattle.ovs_command_line.specs.declared.command_fault.CommandFault.{CommandFault}
 use Rattle.ovs_command_line.specs.declared.command_fault.CommandFault.TheVariants.{Usage, Missing, TwoOrigins, BadValue, OneTooMany, OwnAddress, ResyncOfSeveral, NoMemory}
 use Rattle.ovs_command_line.specs.declared.options.SchemaOrigin.{SchemaOrigin}
 use Rattle.ovs_command_line.specs.declared.command_line.Task.{Task}
 use Rattle.ovs_command_line.specs.declared.command_line.Task.TheVariants.{Help, Version}
 use Rattle.ovs_command_line.specs.Values.{SpellsCommit, SpellsRow, parts_of}
-use Rattle.ovs_command_line.specs.Options.{is_count, word_of, words_of, resyncs, Gives, SpellsCount, CountsIfGiven, Addresses, SpellsAllowed, GivesOrigin, AreUpstreams}
+use Rattle.ovs_command_line.specs.Options.{is_optional, word_of, words_of, resyncs, Gives, SpellsCount, CountsIfGiven, PathIfGiven, Addresses, SpellsAllowed, GivesOrigin, AreUpstreams}
 use Rattle.ovs_command_line.specs.CommandLine.{Found, HasCommand, AskForText, program}
 
 -- the exit status beside a fault: 2 a fault of the command line, 3 memory gave out
@@ -57,6 +57,7 @@ IsReadable TrimEvery rows = (n : Option ℕ) × CountsIfGiven TrimEvery rows n
 IsReadable Accepts rows = (n : Option ℕ) × CountsIfGiven Accepts rows n
 IsReadable Tries rows = (n : Option ℕ) × CountsIfGiven Tries rows n
 IsReadable MostBytes rows = (n : Option ℕ) × CountsIfGiven MostBytes rows n
+IsReadable Control rows = (path : Option Path) × PathIfGiven Control rows path
 
 -- an address of an upstream is the one at which the relay listens
 abbrev pub HasOwnAddress : List Row → Address → Type 0
@@ -94,6 +95,7 @@ IsNoValue TrimEvery rows word = SpellsNone (SpellsCount TrimEvery) word
 IsNoValue Accepts rows word = SpellsNone (SpellsCount Accepts) word
 IsNoValue Tries rows word = SpellsNone (SpellsCount Tries) word
 IsNoValue MostBytes rows word = SpellsNone (SpellsCount MostBytes) word
+IsNoValue Control rows word = ¬ (IsSocketPath word)
 
 -- the word stands behind this option; of upstreams it is a part of one of the words
 abbrev pub StandsBehind : CommandOption → List Row → Text → Type 0
@@ -104,7 +106,7 @@ StandsBehind option rows word = word_of option rows ≡ Some word
 -- several where there may be one
 abbrev pub IsFaultOf : CommandOption → List Row → CommandFault → Type 0
 IsFaultOf option rows (Usage line) = ⊥
-IsFaultOf option rows (Missing o) = (o ≡ option) × (is_count option ≡ false) × (word_of option rows ≡ None)
+IsFaultOf option rows (Missing o) = (o ≡ option) × (is_optional option ≡ false) × (word_of option rows ≡ None)
 IsFaultOf option rows TwoOrigins = ⊥
 IsFaultOf option rows (BadValue o word) = (o ≡ option) × StandsBehind option rows (string_bytes word) × IsNoValue option rows (string_bytes word)
 IsFaultOf option rows (OneTooMany word) = (option ≡ Upstream) × (slice_get (words_of Upstream rows) 4 ≡ Some (string_bytes word))

@@ -6,9 +6,9 @@ use Rattle.std.specs.declared.alloc.Global.{Global}
 use Rattle.std.specs.declared.vec.Vec.{Vec}
 use Rattle.clap.specs.Words.{Row, Text, first_of, all_of}
 use Rattle.ovs_address.specs.declared.address.Address.{Address}
-use Rattle.ovs_address.specs.Address.{AreSame, SpellsAddress}
+use Rattle.ovs_address.specs.Address.{AreSame, IsSocketPath, Path, SpellsAddress}
 use Rattle.ovs_command_line.specs.declared.command_option.CommandOption.{CommandOption}
-use Rattle.ovs_command_line.specs.declared.command_option.CommandOption.TheVariants.{Schema, Database, Listen, Upstream, FirstId, FirstRow, TrimEvery, Accepts, Tries, MostBytes}
+use Rattle.ovs_command_line.specs.declared.command_option.CommandOption.TheVariants.{Schema, Database, Listen, Upstream, FirstId, FirstRow, TrimEvery, Accepts, Tries, MostBytes, Control}
 use Rattle.ovs_command_line.specs.declared.options.SourceOptions.{SourceOptions}
 use Rattle.ovs_command_line.specs.declared.options.RelayOptions.{RelayOptions}
 use Rattle.ovs_command_line.specs.declared.options.SchemaOrigin.{SchemaOrigin}
@@ -26,6 +26,7 @@ option_name TrimEvery = codes "trim-every"
 option_name Accepts = codes "accepts"
 option_name Tries = codes "tries"
 option_name MostBytes = codes "most-bytes"
+option_name Control = codes "control"
 
 -- it has a number behind it
 abbrev pub is_count : CommandOption → Bool
@@ -34,6 +35,11 @@ is_count Accepts = true
 is_count Tries = true
 is_count MostBytes = true
 is_count _ = false
+
+-- it needn't be there
+abbrev pub is_optional : CommandOption → Bool
+is_optional Control = true
+is_optional option = is_count option
 
 -- the least number that may stand behind it
 abbrev pub least : CommandOption → ℕ
@@ -95,6 +101,14 @@ SpellsIfGiven option (Some word) n = (count : ℕ) × (n ≡ Some count) × Spel
 abbrev pub CountsIfGiven : CommandOption → List Row → Option ℕ → Type 0
 CountsIfGiven option rows n = SpellsIfGiven option (word_of option rows) n
 
+-- the path that the word behind an option is, or none where it isn't there
+abbrev pub PathIfWord : Option Text → Option Path → Type 0
+PathIfWord None path = path ≡ None
+PathIfWord (Some word) path = (p : Path) × (path ≡ Some p) × (p.bytes ≡ word) × IsSocketPath word
+
+abbrev pub PathIfGiven : CommandOption → List Row → Option Path → Type 0
+PathIfGiven option rows path = PathIfWord (word_of option rows) path
+
 -- ---- what is asked of each command
 
 -- what `source` is given
@@ -105,6 +119,7 @@ pub record GiveSource (rows : List Row) (o : SourceOptions) : Type 0 where
   pub first_row : Gives SpellsRow FirstRow rows o.first_row
   pub trim_every : CountsIfGiven TrimEvery rows o.trim_every
   pub accepts : CountsIfGiven Accepts rows o.accepts
+  pub control : PathIfGiven Control rows o.control
   pub verbose : o.verbose ≡ has_flag (codes "verbose") rows
 
 -- where a relay has its schema from: the file that is named, or its first upstream, by the name of the database
@@ -125,6 +140,7 @@ pub record GiveRelay (rows : List Row) (o : RelayOptions) : Type 0 where
   pub accepts : CountsIfGiven Accepts rows o.accepts
   pub tries : CountsIfGiven Tries rows o.tries
   pub most_bytes : CountsIfGiven MostBytes rows o.most_bytes
+  pub control : PathIfGiven Control rows o.control
   pub verbose : o.verbose ≡ has_flag (codes "verbose") rows
   pub end_on_refusal : o.end_on_refusal ≡ has_flag (codes "end-on-refusal") rows
   pub prunes : o.prunes ≡ has_flag (codes "prune") rows

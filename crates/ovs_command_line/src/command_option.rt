@@ -29,6 +29,8 @@ pub enum CommandOption {
     Tries,
     /// How many bytes a message from an upstream may have.
     MostBytes,
+    /// The Unix socket at which the node is asked for its status and for its end.
+    Control,
 }
 
 impl CommandOption {
@@ -47,6 +49,7 @@ impl CommandOption {
             CommandOption::Accepts => "accepts",
             CommandOption::Tries => "tries",
             CommandOption::MostBytes => "most-bytes",
+            CommandOption::Control => "control",
         }
     }
 
@@ -57,6 +60,7 @@ impl CommandOption {
             CommandOption::Database => "NAME",
             CommandOption::Listen | CommandOption::Upstream => "ADDR",
             CommandOption::FirstId | CommandOption::FirstRow => "ID",
+            CommandOption::Control => "PATH",
             CommandOption::TrimEvery
             | CommandOption::Accepts
             | CommandOption::Tries
@@ -80,6 +84,7 @@ impl CommandOption {
                 "a number from 1 to 1000000"
             }
             CommandOption::MostBytes => "a number from 16777216 to 4294967295",
+            CommandOption::Control => "a path of 1 to 107 bytes",
         }
     }
 

@@ -7,8 +7,8 @@ ghost use Rattle.ovs_command_line.specs.CommandLine.{program, fold_app, world_ap
 use clap::{Arg, ArgAction, Command};
 use std::alloc::{AllocError, Global};
 
-// The program's version, and the logic that it is proved in, by the sum that `rt version` tells.
-const VERSION: &str = "1.0.0 (rattle logic dac8208d650f15bf)";
+/// The program's version, and the logic that it is proved in, by the sum that `rt version` tells.
+pub const VERSION: &str = "1.0.0 (rattle logic dac8208d650f15bf)";
 
 const MERGE_HELP: &str = "A file of links for a second store, which is merged into the first";
 
@@ -42,6 +42,9 @@ const RESYNC_HELP: &str =
 
 const MOST_BYTES_HELP: &str =
     "How many bytes a message from an upstream may have, 16777216 to 4294967295; 16777216 where this isn't given";
+
+const CONTROL_HELP: &str =
+    "The path of a Unix socket at which ovs-appctl asks for the status and the end of the node";
 
 const VERBOSE_HELP: &str = "Tells on standard error what happens";
 
@@ -138,6 +141,7 @@ fn source_command<'a>(alloc: Global) -> Result<Command<'a>, AllocError>
     let command = with_word(alloc, command, "first-row", "ID", FIRST_ROW_HELP)?;
     let command = with_word(alloc, command, "trim-every", "N", TRIM_EVERY_HELP)?;
     let command = with_word(alloc, command, "accepts", "N", ACCEPTS_HELP)?;
+    let command = with_word(alloc, command, "control", "PATH", CONTROL_HELP)?;
     let command = with_flag(alloc, command, "verbose", VERBOSE_HELP)?;
     with_flag(alloc, command, "beyond-loopback", BEYOND_LOOPBACK_HELP)
 }
@@ -160,6 +164,7 @@ fn relay_command<'a>(alloc: Global) -> Result<Command<'a>, AllocError>
     let command = with_word(alloc, command, "accepts", "N", ACCEPTS_HELP)?;
     let command = with_word(alloc, command, "tries", "N", TRIES_HELP)?;
     let command = with_word(alloc, command, "most-bytes", "N", MOST_BYTES_HELP)?;
+    let command = with_word(alloc, command, "control", "PATH", CONTROL_HELP)?;
     let command = with_flag(alloc, command, "verbose", VERBOSE_HELP)?;
     let command = with_flag(alloc, command, "end-on-refusal", END_ON_REFUSAL_HELP)?;
     let command = with_flag(alloc, command, "resync", RESYNC_HELP)?;

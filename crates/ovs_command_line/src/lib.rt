@@ -13,5 +13,6 @@ mod values;
 pub use command_fault::CommandFault;
 pub use command_line::{Task, command};
 pub use command_option::CommandOption;
+pub use commands::VERSION;
 pub use complaint::{Complaint, complaint_of};
 pub use options::{RelayOptions, SchemaOrigin, SourceOptions};

@@ -3,7 +3,7 @@
 ghost use Rattle.std.specs.Prelude.{◌≡◌, true, false, Some, length, option_map, IfOk, IfErr, IsTrue, string_bytes};
 ghost use Rattle.clap.specs.Words.{found_of, rows_of};
 ghost use Rattle.ovs_command_line.specs.declared.command_option.CommandOption.TheVariants as options;
-ghost use Rattle.ovs_command_line.specs.Options.{is_count, word_of, has_flag, goes_beyond, resyncs, AreUpstreams, Gives, CountsIfGiven, SpellsAllowed, GivesOrigin, GiveSource, GiveRelay};
+ghost use Rattle.ovs_command_line.specs.Options.{is_count, is_optional, word_of, has_flag, goes_beyond, resyncs, AreUpstreams, Gives, CountsIfGiven, PathIfGiven, SpellsAllowed, GivesOrigin, GiveSource, GiveRelay};
 ghost use Rattle.ovs_command_line.specs.Values.{SpellsCommit, SpellsRow};
 ghost use Rattle.ovs_command_line.specs.Faults.{IsFaultOf, IsFaultOfOrigin, IsFaultOfSource, IsFaultOfRelay, IsNoValueOf};
 
@@ -12,7 +12,7 @@ use crate::command_option::CommandOption;
 use crate::upstreams::other_upstreams_of;
 use crate::values::{read_commit, read_number, read_row};
 use clap::ArgMatches;
-use ovs_address::Address;
+use ovs_address::{Address, SocketPath, read_path};
 use ovs_data::{RowId, TxnId};
 use std::alloc::Global;
 
@@ -31,6 +31,8 @@ pub struct SourceOptions {
     pub trim_every: Option<u32>,
     /// How many connections each thread of readers takes, 1 to 1,000,000; none where it takes any number.
     pub accepts: Option<u32>,
+    /// The Unix socket at which it is asked for its status and for its end; none where it isn't asked.
+    pub control: Option<SocketPath>,
     /// Whether to tell what happens.
     pub verbose: bool,
 }
@@ -60,6 +62,8 @@ pub struct RelayOptions {
     pub tries: Option<u32>,
     /// How many bytes a message from an upstream may have, 16,777,216 to 4,294,967,295; none where that isn't said.
     pub most_bytes: Option<u32>,
+    /// The Unix socket at which it is asked for its status and for its end; none where it isn't asked.
+    pub control: Option<SocketPath>,
     /// Whether to tell what happens.
     pub verbose: bool,
     /// Whether the program ends once something that an upstream sends is refused.
@@ -79,7 +83,7 @@ fn word_of<'a>(found: &ArgMatches<'a>, option: CommandOption) -> Option<&'a str>
 
 // The word behind an option that has to be there.
 fn needed<'a>(found: &ArgMatches<'a>, option: CommandOption) -> Result<&'a str, CommandFault>
-    requires needed { is_count option ≡ false }
+    requires needed { is_optional option ≡ false }
     ensures value { IfOk result (λ word. word_of option (rows_of (found_of found.now)) ≡ Some word.now) }
     ensures fault { IfErr result (IsFaultOf option (rows_of (found_of found.now))) }
 {
@@ -178,6 +182,20 @@ fn count_of(
     }
 }
 
+// The path of the control socket, if it is there.
+fn control_of(alloc: Global, found: &ArgMatches<'_>) -> Result<Option<SocketPath>, CommandFault>
+    ensures value { IfOk result (PathIfGiven options.Control (rows_of (found_of found.now))) }
+    ensures fault { IfErr result (IsFaultOf options.Control (rows_of (found_of found.now))) }
+{
+    let Some(word) = word_of(found, CommandOption::Control) else {
+        return Ok(None);
+    };
+    match read_path(word) {
+        Some(path) => Ok(Some(path)),
+        None => Err(no_value(alloc, CommandOption::Control, word)),
+    }
+}
+
 // Whether this flag is there.
 fn has_flag(found: &ArgMatches<'_>, flag: &str) -> bool
     ensures value { result ≡ has_flag flag.now (rows_of (found_of found.now)) }
@@ -224,6 +242,7 @@ pub(crate) fn source_options(
         first_row: first_row_of(alloc, found)?,
         trim_every: count_of(alloc, found, CommandOption::TrimEvery)?,
         accepts: count_of(alloc, found, CommandOption::Accepts)?,
+        control: control_of(alloc, found)?,
         verbose: has_flag(found, "verbose"),
     })
 }
@@ -247,6 +266,7 @@ pub(crate) fn relay_options(
         accepts: count_of(alloc, found, CommandOption::Accepts)?,
         tries: count_of(alloc, found, CommandOption::Tries)?,
         most_bytes: count_of(alloc, found, CommandOption::MostBytes)?,
+        control: control_of(alloc, found)?,
         verbose: has_flag(found, "verbose"),
         end_on_refusal: has_flag(found, "end-on-refusal"),
         prunes: has_flag(found, "prune"),

@@ -1,3 +1,4 @@
+pub mod Counts
 pub mod InStep
 pub mod Ledger
 pub mod Nodes

@@ -10,8 +10,10 @@ ghost use Rattle.ovs_links.specs.Store.{head_of, start_in};
 ghost use Rattle.ovs_links.specs.declared.link.Link.{Link};
 ghost use Rattle.ovs_links.specs.Absorbing.{StepsGoOn};
 ghost use Rattle.ovs_node.specs.InStep.{IsOneChain};
+ghost use Rattle.ovs_node.specs.Counts.{AreCountsOf};
 ghost use Rattle.ovs_node.specs.Ledger.{IsAccountOf, IsFresh, NoneOld, TakesOne, TellsMore, WasSent, steps_in};
 
+use crate::counts::NodeCounts;
 use crate::node_link::NodeLink;
 use crate::refused::{RefusedBecause, RefusedLink};
 use ovs_links::{Folded, Link, LinkStore, Settled, TakeError};
@@ -126,6 +128,19 @@ impl<K: NodeName, Q: FeedName> Intake<K, Q> {
                 self.kept = Some(NodeLink::new(link));
                 Err(NoMemory)
             }
+        }
+    }
+
+    /// How far it has come.
+    pub fn counts(&self) -> NodeCounts
+        ensures value { AreCountsOf self.now result }
+    {
+        NodeCounts {
+            head: self.store.head(),
+            links: self.store.len() as u64,
+            chain: self.store.chain_len() as u64,
+            parked: self.store.parked() as u64,
+            refused: self.forks.saturating_add(self.short),
         }
     }
 

@@ -1,6 +1,7 @@
 //! A node: what takes the links of its feed into a store, folds the longest chain and publishes it, with the parts that a program names.
 #![tactic(auto)]
 
+mod counts;
 mod intake;
 mod node;
 mod node_link;
@@ -8,6 +9,7 @@ mod open_node;
 mod refused;
 mod report;
 
+pub use counts::NodeCounts;
 pub use intake::{ClosedIntake, Intake};
 pub use node::Node;
 pub use node_link::NodeLink;

@@ -13,8 +13,10 @@ ghost use Rattle.ovs_links.specs.Absorbing.{StepsGoOn, last_chain};
 ghost use Rattle.ovs_links.specs.StepChains.{start_of_steps};
 ghost use Rattle.ovs_node.specs.InStep.{HasShown, IsInStep, IsOneChain};
 ghost use Rattle.ovs_node.specs.Nodes.{NodeAtRest, NodeInStep};
+ghost use Rattle.ovs_node.specs.Counts.{AreCountsOf};
 ghost use Rattle.ovs_node.specs.Ledger.{IsAccountOf, KeepsPruning, TakesOne, TellsMore, WasSent, steps_in};
 
+use crate::counts::NodeCounts;
 use crate::intake::{ClosedIntake, Intake};
 use crate::node_link::NodeLink;
 use crate::refused::RefusedLink;
@@ -171,6 +173,13 @@ impl<K: NodeName, Q: FeedName, R: Wait + Drop> Node<K, Q, Handle<K, R>> {
         ensures value { result ≡ head_of self.now.intake.store }
     {
         self.intake.head()
+    }
+
+    /// How far it has come.
+    pub fn counts(&self) -> NodeCounts
+        ensures value { AreCountsOf self.now.intake result }
+    {
+        self.intake.counts()
     }
 
     /// What became of all that was sent, once all ends are back and a `fold_next` after that answered false.

@@ -82,7 +82,7 @@ fn source<R: NodeRuntime + Log>(
         trim_every: None,
         accepts: Some(MOST_CONNECTIONS),
     };
-    Ok(NodeServer::source(rt, alloc, listening, plan)?)
+    Ok(NodeServer::source(rt, alloc, listening, None, plan)?)
 }
 
 // A relay of the node at this address.
@@ -101,7 +101,7 @@ fn relay<R: NodeRuntime + Log>(
         ends_on_refusal: false,
         prunes: false,
     };
-    Ok(NodeServer::relay(rt, alloc, listening, plan)?)
+    Ok(NodeServer::relay(rt, alloc, listening, None, plan)?)
 }
 
 // What the client does.

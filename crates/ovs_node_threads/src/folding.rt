@@ -112,6 +112,9 @@ impl<'a, K: NodeName, Q: FeedName, B: Wake, O: FoldObserver, R: Wait> Folding<'a
             self.note_refused(&link);
         }
         self.note_folded(queued, &folded);
+        if folded.is_ok() {
+            self.observer.folded(node.counts());
+        }
         folded
     }
 

@@ -1,6 +1,6 @@
 //! Who is told of refusals and of threads that end, while a node runs.
 
-use ovs_node::RefusedLink;
+use ovs_node::{NodeCounts, RefusedLink};
 
 /// Is told of what a node's folder meets while the node runs.
 pub trait FoldObserver {
@@ -12,6 +12,9 @@ pub trait FoldObserver {
 
     /// There was no memory to fold or to publish links that came; both are tried again.
     fn put_off(&self);
+
+    /// What came is folded and published, and the node has come so far.
+    fn folded(&self, _counts: NodeCounts) {}
 
     /// No thread sends links to the folder any more, though readers are served.
     fn feeds_ended(&self);

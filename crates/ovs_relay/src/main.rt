@@ -2,6 +2,7 @@
 #![tactic(auto)]
 
 mod backlog;
+mod control;
 mod error_keeping_reader;
 mod log_lines;
 mod nodes;

@@ -1,6 +1,7 @@
 //! The commands `source` and `relay`.
 
 use crate::backlog::Backlog;
+use crate::control::{ControlThread, control_at, remove_control_file};
 use crate::log_lines::LogLines;
 use crate::saying::{complains, fails, says};
 use crate::schema_file::schema_of_file;
@@ -8,8 +9,8 @@ use log::{LevelFilter, Logged};
 use ovs_address::Address;
 use ovs_command_line::{Complaint, RelayOptions, SchemaOrigin, SourceOptions};
 use ovs_server::{
-    ExitReport, Listening, NodeRuntime, NodeServer, RelayPlan, ServerError, SourcePlan,
-    remove_socket_file, schema_of_upstream,
+    ControlSocket, ExitReport, Listening, NodeRuntime, NodeServer, NodeStatus, RelayPlan,
+    ServerError, SourcePlan, Stop, remove_socket_file, schema_of_upstream,
 };
 use ovs_types::Schema;
 use ovs_wire::MAX_MESSAGE_BYTES;
@@ -18,7 +19,7 @@ use std::fs::Files;
 use std::net::{Net, TcpListener, TcpStream};
 use std::process::ExitCode;
 use std::rt::Runtime;
-use std::sync::Wait;
+use std::sync::{Arc, Wait};
 use std::thread::Threads;
 use std::time::Clock;
 
@@ -105,12 +106,47 @@ fn begun_at<R: Files, T: Drop>(
     begun
 }
 
+// What serves the control socket of a node, if it has one, which is told of and stopped so.
+fn controls<R: NodeRuntime + 'static>(
+    rt: R,
+    alloc: Global,
+    control: Option<ControlSocket>,
+    status: Arc<NodeStatus>,
+    stop: Stop,
+    schema: &Schema,
+) -> Result<Option<ControlThread>, ServerError> {
+    match control {
+        Some(socket) => {
+            let thread = ControlThread::begin(rt, alloc, socket, status, stop, schema)?;
+            Ok(Some(thread))
+        }
+        None => Ok(None),
+    }
+}
+
+// Ends what belongs to a node that has come to its end, and says what it holds.
+fn ends<R: Print + Eprint + Clock + Wait + Threads + Files>(
+    rt: &R,
+    alloc: Global,
+    backlog: &Backlog,
+    address: &Address,
+    control: Option<ControlThread>,
+    ran: Result<ExitReport, ServerError>,
+) -> ExitCode {
+    if let Some(thread) = control {
+        thread.end(rt);
+    }
+    remove_socket_file(rt, address);
+    closes(rt, alloc, backlog, ran)
+}
+
 // A source of this schema, from its address to its end.
-fn source<R: NodeRuntime + Print + Eprint + Clock + Files + 'static>(
+fn source<R: NodeRuntime + Print + Eprint + Files + 'static>(
     rt: R,
     alloc: Global,
     schema: &Schema,
     options: &SourceOptions,
+    control: Option<ControlSocket>,
 ) -> Result<ExitCode, ServerError> {
     let plan = SourcePlan {
         first_commit: options.first_id,
@@ -123,15 +159,15 @@ fn source<R: NodeRuntime + Print + Eprint + Clock + Files + 'static>(
     let logged = Logged::new(rt, level, LogLines::new(rt, alloc, &*backlog));
     let listening = listens(&rt, alloc, &options.listen)?;
     let address = listening.address();
-    let server = begun_at(
-        &rt,
-        &address,
-        NodeServer::source(logged, alloc, listening, plan),
-    )?;
+    let server = NodeServer::source(logged, alloc, listening, control.as_ref(), plan);
+    let server = begun_at(&rt, &address, server)?;
     warns(&rt, alloc, &*backlog, &address);
+    let status = begun_at(&rt, &address, server.status())?;
+    let stop = begun_at(&rt, &address, server.stop())?;
+    let control = controls(rt, alloc, control, status, stop, schema);
+    let control = begun_at(&rt, &address, control)?;
     let ran = server.run(schema);
-    remove_socket_file(&rt, &address);
-    Ok(closes(&rt, alloc, &*backlog, ran))
+    Ok(ends(&rt, alloc, &*backlog, &address, control, ran))
 }
 
 // How many bytes a message from an upstream may have: as many as a reader's, where that isn't said.
@@ -143,7 +179,7 @@ fn most_bytes_of(options: &RelayOptions) -> usize {
 }
 
 // The schema of a relay, or the exit status of the program, once it has told why there is none.
-fn schema_of<R: NodeRuntime + Print + Eprint + Clock + Files + 'static>(
+fn schema_of<R: NodeRuntime + Print + Eprint + Files + 'static>(
     rt: R,
     alloc: Global,
     backlog: &Backlog,
@@ -163,11 +199,14 @@ fn schema_of<R: NodeRuntime + Print + Eprint + Clock + Files + 'static>(
     }
 }
 
-// A relay, from its schema to its end. It listens once it has the schema.
-fn relay<R: NodeRuntime + Print + Eprint + Clock + Files + 'static>(
+// A relay of this schema, from its address to its end.
+fn relay<R: NodeRuntime + Print + Eprint + Files + 'static>(
     rt: R,
     alloc: Global,
+    backlog: &Backlog,
+    schema: &Schema,
     options: &RelayOptions,
+    control: Option<ControlSocket>,
 ) -> Result<ExitCode, ServerError> {
     let plan = RelayPlan {
         upstreams: &options.upstreams,
@@ -178,24 +217,55 @@ fn relay<R: NodeRuntime + Print + Eprint + Clock + Files + 'static>(
         ends_on_refusal: options.end_on_refusal,
         prunes: options.prunes,
     };
+    let level = level_of(options.verbose, options.end_on_refusal);
+    let logged = Logged::new(rt, level, LogLines::new(rt, alloc, backlog));
+    let listening = listens(&rt, alloc, &options.listen)?;
+    let address = listening.address();
+    let server = NodeServer::relay(logged, alloc, listening, control.as_ref(), plan);
+    let server = begun_at(&rt, &address, server)?;
+    warns(&rt, alloc, backlog, &address);
+    let status = begun_at(&rt, &address, server.status())?;
+    let stop = begun_at(&rt, &address, server.stop())?;
+    let control = controls(rt, alloc, control, status, stop, schema);
+    let control = begun_at(&rt, &address, control)?;
+    let ran = server.run(schema);
+    Ok(ends(&rt, alloc, backlog, &address, control, ran))
+}
+
+// A source of this schema, with the control socket that it was asked for.
+fn controlled_source<R: NodeRuntime + Print + Eprint + Files + 'static>(
+    rt: R,
+    alloc: Global,
+    schema: &Schema,
+    options: &SourceOptions,
+) -> Result<ExitCode, ServerError> {
+    let control = match control_at(&rt, alloc, options.control) {
+        Ok(control) => control,
+        Err(status) => return Ok(status),
+    };
+    let ended = source(rt, alloc, schema, options, control);
+    remove_control_file(&rt, options.control);
+    ended
+}
+
+// A relay from its schema on, with the control socket that it was asked for. It listens once it has the schema.
+fn controlled_relay<R: NodeRuntime + Print + Eprint + Files + 'static>(
+    rt: R,
+    alloc: Global,
+    options: &RelayOptions,
+) -> Result<ExitCode, ServerError> {
     let backlog = Backlog::begin(rt, alloc)?;
     let schema = match schema_of(rt, alloc, &*backlog, options) {
         Ok(schema) => schema,
         Err(status) => return Ok(status),
     };
-    let level = level_of(options.verbose, options.end_on_refusal);
-    let logged = Logged::new(rt, level, LogLines::new(rt, alloc, &*backlog));
-    let listening = listens(&rt, alloc, &options.listen)?;
-    let address = listening.address();
-    let server = begun_at(
-        &rt,
-        &address,
-        NodeServer::relay(logged, alloc, listening, plan),
-    )?;
-    warns(&rt, alloc, &*backlog, &address);
-    let ran = server.run(&schema);
-    remove_socket_file(&rt, &address);
-    Ok(closes(&rt, alloc, &*backlog, ran))
+    let control = match control_at(&rt, alloc, options.control) {
+        Ok(control) => control,
+        Err(status) => return Ok(status),
+    };
+    let ended = relay(rt, alloc, &*backlog, &schema, options, control);
+    remove_control_file(&rt, options.control);
+    ended
 }
 
 /// Runs a source until all its threads have come to their ends. Its bounds are those of `NodeRuntime`, one by one: the checker doesn't
@@ -212,7 +282,7 @@ pub(crate) fn run_source<
         + 'static,
 >(rt: R, alloc: Global, options: &SourceOptions) -> ExitCode {
     match schema_of_file(&rt, alloc, options.schema.as_str()) {
-        Ok(schema) => match source(rt, alloc, &schema, options) {
+        Ok(schema) => match controlled_source(rt, alloc, &schema, options) {
             Ok(status) => status,
             Err(error) => unrun(&rt, &options.listen, error),
         },
@@ -232,7 +302,7 @@ pub(crate) fn run_relay<
         + Sync
         + 'static,
 >(rt: R, alloc: Global, options: &RelayOptions) -> ExitCode {
-    match relay(rt, alloc, options) {
+    match controlled_relay(rt, alloc, options) {
         Ok(status) => status,
         Err(error) => unrun(&rt, &options.listen, error),
     }

@@ -11,6 +11,7 @@ use crate::runtime::NodeRuntime;
 use crate::site::Site;
 use crate::sockets::{WORKERS, WorkerSockets};
 use crate::source::{SourcePlan, SourceRole, desk_of, run_source_node};
+use crate::status::NodeStatus;
 use crate::stop::Stop;
 use crate::upstreams::Upstreams;
 use log::Log;
@@ -19,12 +20,14 @@ use ovs_links::Step;
 use ovs_node::{FeedName, Handle, NodeName, OpenNode, Opened};
 use ovs_recorded_desk::DeskStep;
 use ovs_recorded_source::SourceStep;
-use ovs_sockets::{Listening, Shutdown, ShutdownFlag, SocketPoller};
+use ovs_sockets::{ControlSocket, Listening, Shutdown, ShutdownFlag, SocketPoller};
 use ovs_types::Schema;
 use ovs_worker::Poller;
 use std::alloc::Global;
 use std::marker::Brand;
+use std::mem;
 use std::net::Net;
+use std::sync::Arc;
 
 /// A node that listens, and is served once it runs.
 #[derive(Drop)]
@@ -56,8 +59,23 @@ impl<R: Net + Log + Drop> Role<R> {
     }
 }
 
+// What brings a node to its end, with a flag to be looked at: that of a control socket, whose thread it wakes, or one of its own.
+fn shutdown_of(
+    alloc: Global,
+    control: Option<&ControlSocket>,
+) -> Result<(Shutdown, ShutdownFlag), ServerError> {
+    let Some(control) = control else {
+        let shutdown_flag = ShutdownFlag::new(alloc)?;
+        return Ok((Shutdown::new(alloc, shutdown_flag.again()?), shutdown_flag));
+    };
+    let shutdown_flag = control.shutdown_flag().again()?;
+    let mut shutdown = Shutdown::new(alloc, shutdown_flag.again()?);
+    shutdown.add(&control.wakers()?)?;
+    Ok((shutdown, shutdown_flag))
+}
+
 impl<R: NodeRuntime + Log> NodeServer<R> {
-    /// A source, whose readers come in there.
+    /// A source, whose readers come in there. What ends it wakes the thread of the control socket, if there is one, too.
     ///
     /// # Errors
     /// `System`; `NoMemory`.
@@ -65,18 +83,20 @@ impl<R: NodeRuntime + Log> NodeServer<R> {
         rt: R,
         alloc: Global,
         listening: Listening,
+        control: Option<&ControlSocket>,
         plan: SourcePlan,
     ) -> Result<NodeServer<R>, ServerError> {
-        let shutdown_flag = ShutdownFlag::new(alloc)?;
+        let (shutdown, shutdown_flag) = shutdown_of(alloc, control)?;
+        let status = NodeStatus::new(listening.worker_group()?, Vec::new(alloc));
         let sockets = WorkerSockets::new(rt, alloc, listening, plan.accepts, &shutdown_flag)?;
         Ok(NodeServer {
             rt,
-            site: Site::new(alloc, sockets, Shutdown::new(alloc, shutdown_flag))?,
+            site: Site::new(alloc, sockets, shutdown, status)?,
             role: Role::Source(SourceRole::new(plan)),
         })
     }
 
-    /// A relay, whose readers come in there.
+    /// A relay, whose readers come in there. What ends it wakes the thread of the control socket, if there is one, too.
     ///
     /// # Errors
     /// `System`; `NoMemory`.
@@ -84,11 +104,13 @@ impl<R: NodeRuntime + Log> NodeServer<R> {
         rt: R,
         alloc: Global,
         listening: Listening,
+        control: Option<&ControlSocket>,
         plan: RelayPlan<'_>,
     ) -> Result<NodeServer<R>, ServerError> {
-        let shutdown_flag = ShutdownFlag::new(alloc)?;
+        let (mut shutdown, shutdown_flag) = shutdown_of(alloc, control)?;
+        let worker_group = listening.worker_group()?;
         let sockets = WorkerSockets::new(rt, alloc, listening, plan.accepts, &shutdown_flag)?;
-        let upstreams = Upstreams::new(
+        let mut upstreams = Upstreams::new(
             rt,
             alloc,
             plan.upstreams,
@@ -97,10 +119,11 @@ impl<R: NodeRuntime + Log> NodeServer<R> {
             plan.resyncs,
             &shutdown_flag,
         )?;
-        let mut shutdown = Shutdown::new(alloc, shutdown_flag);
         shutdown.add(&upstreams.wakers)?;
         shutdown.add(&upstreams.pause_wakers)?;
-        let site = Site::new(alloc, sockets, shutdown)?;
+        let notes = mem::replace(&mut upstreams.notes, Vec::new(alloc));
+        let status = NodeStatus::new(worker_group, notes);
+        let site = Site::new(alloc, sockets, shutdown, status)?;
         let role = RelayRole::new(alloc, upstreams, &site.shutdown, plan)?;
         Ok(NodeServer {
             rt,
@@ -115,6 +138,14 @@ impl<R: NodeRuntime + Log> NodeServer<R> {
     /// `NoMemory` alone.
     pub fn stop(&self) -> Result<Stop, ServerError> {
         Ok(Stop::new(self.site.shutdown.clone()?))
+    }
+
+    /// What its threads note of it.
+    ///
+    /// # Errors
+    /// `NoMemory` alone.
+    pub fn status(&self) -> Result<Arc<NodeStatus>, ServerError> {
+        Ok(self.site.status.clone()?)
     }
 
     /// Runs it until all its threads have come to their ends.

@@ -1,17 +1,20 @@
 //! What a node does when a link is refused, and when nobody sends it links any more.
 
+use crate::status::NodeStatus;
 use log::{Log, error, info, warn};
-use ovs_node::RefusedLink;
+use ovs_node::{NodeCounts, RefusedLink};
 use ovs_node_threads::FoldObserver;
 use ovs_sockets::Shutdown;
 use ovs_worker::Wake;
+use std::sync::Wait;
 use std::sync::atomic::{AtomicBool, Ordering};
 
-/// Tells what a node's users are to know of it, and brings all to its end where that is wanted then.
+/// Tells and notes what a node's users are to know of it, and brings all to its end where that is wanted then.
 #[derive(Drop)]
 pub(crate) struct LogObserver<'x, 'e, R: Log> {
     rt: &'x R,
     shutdown: &'e Shutdown,
+    status: &'e NodeStatus,
     // Whether the node comes to its end once a link was refused.
     ends_on_refusal: bool,
     // Whether it does once no thread sends links any more.
@@ -23,10 +26,11 @@ pub(crate) struct LogObserver<'x, 'e, R: Log> {
 }
 
 impl<'x, 'e, R: Log> LogObserver<'x, 'e, R> {
-    /// Says this once no thread sends links any more, and shuts the node down in these cases.
+    /// Says this once no thread sends links any more, and shuts the node down in these cases. How far the node has come is noted there.
     pub(crate) fn new(
         rt: &'x R,
         shutdown: &'e Shutdown,
+        status: &'e NodeStatus,
         unfed: &'static str,
         ends_on_refusal: bool,
         ends_unfed: bool,
@@ -34,6 +38,7 @@ impl<'x, 'e, R: Log> LogObserver<'x, 'e, R> {
         LogObserver {
             rt,
             shutdown,
+            status,
             ends_on_refusal,
             ends_unfed,
             unfed,
@@ -47,7 +52,7 @@ impl<'x, 'e, R: Log> LogObserver<'x, 'e, R> {
     }
 }
 
-impl<'x, 'e, R: Log> FoldObserver for LogObserver<'x, 'e, R> {
+impl<'x, 'e, R: Log + Wait> FoldObserver for LogObserver<'x, 'e, R> {
     fn unstarted(&self, threads: u64) {
         error!(self.rt; "threads that could not be started: {threads}");
     }
@@ -60,7 +65,12 @@ impl<'x, 'e, R: Log> FoldObserver for LogObserver<'x, 'e, R> {
     }
 
     fn put_off(&self) {
+        self.status.note_memory_short();
         info!(self.rt; "out of memory: what came is folded and published later");
+    }
+
+    fn folded(&self, counts: NodeCounts) {
+        self.status.note_counts(self.rt, counts);
     }
 
     // Where all is to end that is no news.

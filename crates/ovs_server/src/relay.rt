@@ -31,6 +31,7 @@ use ovs_worker::Poller;
 use std::alloc::Global;
 use std::net::Net;
 use std::sync::{Arc, Mutex, Wait};
+use std::time::Clock;
 
 // What a relay says once none of its upstreams is tried any more, while it serves readers.
 const UNFED: &str = "no upstream is tried any more";
@@ -64,7 +65,7 @@ pub(crate) struct RelayRole<R: Net + Log + Drop> {
     prunes: bool,
 }
 
-impl<R: Net + Log + Copy + Drop> RelayRole<R> {
+impl<R: Net + Clock + Log + Copy + Drop> RelayRole<R> {
     /// With these upstreams. That one of them can't be followed is noted there where the node is brought to its end.
     pub(crate) fn new(
         alloc: Global,
@@ -146,7 +147,14 @@ type RelaySocketThreads<'a, 'x, K, Q, N, R> = RelayThreads<
 >;
 
 // A worker for each of these pollers, with the last of the views.
-fn add_workers<'a, 'x, K: NodeName, Q: FeedName, N: DeskName + Send, R: Wait + Net + Log + Drop>(
+fn add_workers<
+    'a,
+    'x,
+    K: NodeName,
+    Q: FeedName,
+    N: DeskName + Send,
+    R: Wait + Net + Clock + Log + Drop,
+>(
     threads: RelaySocketThreads<'a, 'x, K, Q, N, R>,
     pollers: Vec<UnusedPoller<SocketPoller<R>>>,
     views: &mut Vec<View<K>>,
@@ -160,7 +168,14 @@ fn add_workers<'a, 'x, K: NodeName, Q: FeedName, N: DeskName + Send, R: Wait + N
 }
 
 // An upstream for each of these senders. The first is the source, to which the desk's requests go.
-fn add_upstreams<'a, 'x, K: NodeName, Q: FeedName, N: DeskName + Send, R: Wait + Net + Log + Drop>(
+fn add_upstreams<
+    'a,
+    'x,
+    K: NodeName,
+    Q: FeedName,
+    N: DeskName + Send,
+    R: Wait + Net + Clock + Log + Drop,
+>(
     alloc: Global,
     threads: RelaySocketThreads<'a, 'x, K, Q, N, R>,
     common: &'a RelayShared<'x, N, R>,
@@ -191,7 +206,7 @@ fn add_upstreams<'a, 'x, K: NodeName, Q: FeedName, N: DeskName + Send, R: Wait +
 }
 
 // What the upstreams send with.
-fn senders_of<K: NodeName, Q: FeedName, R: Net + Log + Drop>(
+fn senders_of<K: NodeName, Q: FeedName, R: Wait + Net + Clock + Log + Drop>(
     alloc: Global,
     ends: Vec<FeedEnd<NodeLink<K>, Q>>,
 ) -> Result<Vec<UpstreamSender<K, Q, UpstreamSockets<R>>>, ServerError>
@@ -205,7 +220,14 @@ fn senders_of<K: NodeName, Q: FeedName, R: Net + Log + Drop>(
 }
 
 // A thread for each upstream, and one for each worker.
-fn threads_of<'a, 'x, K: NodeName, Q: FeedName, N: DeskName + Send, R: Wait + Net + Log + Drop>(
+fn threads_of<
+    'a,
+    'x,
+    K: NodeName,
+    Q: FeedName,
+    N: DeskName + Send,
+    R: Wait + Net + Clock + Log + Drop,
+>(
     alloc: Global,
     common: &'a RelayShared<'x, N, R>,
     own: OwnParts<K, Q, R>,
@@ -256,6 +278,7 @@ pub(crate) fn run_relay_node<
         alloc,
         sockets,
         shutdown,
+        status,
     } = site;
     let RelayRole {
         upstreams,
@@ -281,7 +304,14 @@ pub(crate) fn run_relay_node<
         views,
     };
     let common = RelayShared::<'x, N, R>::new(rt, alloc, database, opened, wakers, uplink_wakers)?;
-    let observer = LogObserver::new(rt, &*shutdown, UNFED, ends_on_refusal, ends_on_refusal);
+    let observer = LogObserver::new(
+        rt,
+        &*shutdown,
+        &*status,
+        UNFED,
+        ends_on_refusal,
+        ends_on_refusal,
+    );
     let report = run_threads(
         rt, alloc, schema, &queue, &board, &common, &observer, node, own,
     )?;

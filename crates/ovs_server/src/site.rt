@@ -2,6 +2,7 @@
 
 use crate::error::ServerError;
 use crate::sockets::WorkerSockets;
+use crate::status::NodeStatus;
 use log::Log;
 use ovs_sockets::{Shutdown, SocketPoller};
 use ovs_worker::Poller;
@@ -21,14 +22,17 @@ where
     pub(crate) sockets: WorkerSockets<R>,
     /// What brings its threads to their ends.
     pub(crate) shutdown: Arc<Shutdown>,
+    /// What its threads note of it.
+    pub(crate) status: Arc<NodeStatus>,
 }
 
 impl<R: Net + Log + Drop> Site<R> {
-    /// With readers in these places. What ends the node wakes their threads, too.
+    /// With readers in these places. What ends the node wakes their threads, too. Its threads note there how far it has come.
     pub(crate) fn new(
         alloc: Global,
         sockets: WorkerSockets<R>,
         shutdown: Shutdown,
+        status: NodeStatus,
     ) -> Result<Site<R>, ServerError> {
         let mut shutdown = shutdown;
         shutdown.add(&sockets.wakers)?;
@@ -36,6 +40,7 @@ impl<R: Net + Log + Drop> Site<R> {
             alloc,
             sockets,
             shutdown: Arc::new(alloc, shutdown)?,
+            status: Arc::new(alloc, status)?,
         })
     }
 }

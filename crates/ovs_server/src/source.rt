@@ -157,6 +157,7 @@ pub(crate) fn run_source_node<
         alloc,
         sockets,
         shutdown,
+        status,
     } = site;
     let WorkerSockets {
         pollers,
@@ -171,7 +172,7 @@ pub(crate) fn run_source_node<
     };
     let end = ends.pop().ok_or(ServerError::Node(NodeError::BadCount))?;
     let threads = threads_of(alloc, end, TakenLinks::new(known), views, pollers)?;
-    let observer = LogObserver::new(rt, &*shutdown, UNFED, false, true);
+    let observer = LogObserver::new(rt, &*shutdown, &*status, UNFED, false, true);
     run_threads(rt, alloc, &queue, &board, &common, &observer, node, threads)
 }
 

@@ -1,5 +1,6 @@
 //! What brings a node to its end.
 
+use crate::error::ServerError;
 use ovs_sockets::Shutdown;
 use ovs_worker::Wake;
 use std::sync::Arc;
@@ -13,6 +14,14 @@ pub struct Stop {
 impl Stop {
     pub(crate) fn new(shutdown: Arc<Shutdown>) -> Stop {
         Stop { shutdown }
+    }
+
+    /// The same, for another thread.
+    ///
+    /// # Errors
+    /// `NoMemory` alone: no more can be counted.
+    pub fn again(&self) -> Result<Stop, ServerError> {
+        Ok(Stop::new(self.shutdown.clone()?))
     }
 
     /// Does so.

@@ -2,6 +2,7 @@
 
 use crate::error::ServerError;
 use crate::refusals::UpstreamRefusals;
+use crate::status::UpstreamNotes;
 use log::{Log, error, info};
 use ovs_address::Address;
 use ovs_follow::InputFault;
@@ -14,7 +15,8 @@ use ovs_wire::FrameError;
 use std::alloc::{AllocError, Global};
 use std::net::Net;
 use std::str;
-use std::sync::Arc;
+use std::sync::{Arc, Wait};
+use std::time::Clock;
 
 /// Connections over sockets with one upstream. They don't tell their bytes, so that any link may come of them.
 #[derive(Drop)]
@@ -28,6 +30,7 @@ pub(crate) struct UpstreamSockets<R: Net + Log + Drop> {
     // What was wrong with what it said in the session before, if anything was.
     fault: Option<InputFault>,
     refusals: Option<Arc<UpstreamRefusals>>,
+    notes: Arc<UpstreamNotes>,
 }
 
 // Whether an upstream of which this was refused can't be followed as long as it is as it is: it has another schema, or a database that
@@ -68,7 +71,7 @@ impl<R: Net + Log + Drop> UpstreamSockets<R> {
     }
 }
 
-impl<R: Net + Log + Drop> Connector for UpstreamSockets<R> {
+impl<R: Wait + Net + Clock + Log + Drop> Connector for UpstreamSockets<R> {
     type In = FromUpstream;
 
     type Out = ToUpstream;
@@ -90,7 +93,10 @@ impl<R: Net + Log + Drop> Connector for UpstreamSockets<R> {
     }
 
     fn open(&mut self, _asked: TxnId) -> Option<(FromUpstream, ToUpstream)> {
-        self.uplink.open()
+        let opened = self.uplink.open();
+        let address = self.uplink.address();
+        self.notes.note(&self.rt, address, opened.is_some());
+        opened
     }
 
     fn told_copy(&self, id: TxnId, rows: usize) {
@@ -104,6 +110,7 @@ impl<R: Net + Log + Drop> Connector for UpstreamSockets<R> {
 
     fn lost(&mut self, ended: Ended, fault: Option<InputFault>) {
         self.uplink.lost(ended);
+        self.notes.note(&self.rt, self.uplink.address(), false);
         if let Some(fault) = fault {
             self.tell(fault);
             if is_unfit(fault) {
@@ -120,9 +127,10 @@ pub(crate) struct Upstreams<R: Net + Log + Drop> {
     pub(crate) connectors: Vec<UpstreamSockets<R>>,
     pub(crate) wakers: Vec<SocketWaker>,
     pub(crate) pause_wakers: Vec<SocketWaker>,
+    pub(crate) notes: Vec<Arc<UpstreamNotes>>,
 }
 
-impl<R: Net + Log + Copy + Drop> Upstreams<R> {
+impl<R: Net + Clock + Log + Copy + Drop> Upstreams<R> {
     /// Each at its addresses, so many connections with each, or any number. A message of theirs may have `most_bytes`. A session with one of
     /// them goes on from a whole copy where it `resyncs`.
     pub(crate) fn new(
@@ -136,6 +144,7 @@ impl<R: Net + Log + Copy + Drop> Upstreams<R> {
     ) -> Result<Upstreams<R>, ServerError> {
         let mut connectors = Vec::new(alloc);
         let (mut wakers, mut pause_wakers) = (Vec::new(alloc), Vec::new(alloc));
+        let mut all_notes = Vec::new(alloc);
         for addresses in upstreams {
             let addresses = addresses.as_slice();
             let (uplink, woken_by) = Uplink::new(
@@ -146,6 +155,8 @@ impl<R: Net + Log + Copy + Drop> Upstreams<R> {
                 most_bytes,
                 shutdown_flag,
             )?;
+            let notes = Arc::new(alloc, UpstreamNotes::new(&rt, addresses.first().copied())?)?;
+            all_notes.push(notes.clone()?)?;
             connectors.push(UpstreamSockets {
                 rt,
                 most_bytes,
@@ -153,6 +164,7 @@ impl<R: Net + Log + Copy + Drop> Upstreams<R> {
                 uplink,
                 fault: None,
                 refusals: None,
+                notes,
             })?;
             let UpwardWakers { waker, pause_waker } = woken_by;
             wakers.push(waker)?;
@@ -162,6 +174,7 @@ impl<R: Net + Log + Copy + Drop> Upstreams<R> {
             connectors,
             wakers,
             pause_wakers,
+            notes: all_notes,
         })
     }
 

@@ -4,6 +4,7 @@
 mod allowance;
 mod channel;
 mod client;
+mod control;
 mod exchange;
 mod listener;
 mod listening;
@@ -17,8 +18,10 @@ mod waker;
 mod worker_group;
 
 pub use client::Half;
+pub use control::{ControlSocket, FromControl, ToControl};
 pub use listening::{Listening, remove_socket_file};
 pub use poller::SocketPoller;
 pub use shutdown::{Shutdown, ShutdownFlag};
 pub use uplink::{FromUpstream, ToUpstream, Uplink, UpwardWakers};
 pub use waker::SocketWaker;
+pub use worker_group::WorkerGroup;

@@ -9,7 +9,7 @@ use crate::shutdown::ShutdownFlag;
 use crate::worker_group::WorkerGroup;
 use log::Log;
 use ovs_address::Address;
-use std::alloc::Global;
+use std::alloc::{AllocError, Global};
 use std::fs::{self, Files};
 use std::io;
 use std::net::Net;
@@ -53,6 +53,14 @@ impl Listening {
     /// Where that is, with the port that the system chose where it was to.
     pub fn address(&self) -> Address {
         self.address
+    }
+
+    /// Its workers, which count their sessions.
+    ///
+    /// # Errors
+    /// No more can be counted.
+    pub fn worker_group(&self) -> Result<Arc<WorkerGroup>, AllocError> {
+        self.worker_group.clone()
     }
 
     /// What the worker of this number waits with, which takes so many of the connections at most, or any number.

@@ -4,7 +4,7 @@ use std::sync::atomic::{AtomicU64, Ordering};
 
 /// The workers that take connections at one address, and how many sessions they serve in all.
 #[derive(Drop)]
-pub(crate) struct WorkerGroup {
+pub struct WorkerGroup {
     workers: AtomicU64,
     // Those of them that take no more.
     closed: AtomicU64,
@@ -40,6 +40,11 @@ impl WorkerGroup {
     /// One session less.
     pub(crate) fn remove_session(&self) {
         self.sessions.fetch_sub(1, Ordering::SeqCst);
+    }
+
+    /// How many sessions they serve in all.
+    pub fn sessions(&self) -> u64 {
+        self.sessions.load(Ordering::SeqCst)
     }
 
     /// Whether so many sessions are more than a worker's part of all.

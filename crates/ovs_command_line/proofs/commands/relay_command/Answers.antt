@@ -18,9 +18,10 @@ returns c =
     let accepts = c.in_ok-command-5.ensures.value
     ∙ more (word_rule (codes "accepts")) (c.in_ok-command-4.ensures.value ∙ more (list_rule (codes "upstream")) listens) in
     let tries = c.in_ok-command-6.ensures.value ∙ more (word_rule (codes "tries")) accepts in
-    let words : app_of c.in_ok-command-7.command ≡ relay_words = c.in_ok-command-7.ensures.value ∙ more (word_rule (codes "most-bytes")) tries in
-    let tells = c.in_ok-command-8.ensures.value ∙ more (flag_rule (codes "verbose")) words in
-    let ends = c.in_ok-command-9.ensures.value ∙ more (flag_rule (codes "end-on-refusal")) tells in
-    let resyncs = c.in_ok-command-10.ensures.value ∙ more (flag_rule (codes "resync")) ends in
-    let prunes = c.in_ok-command-11.ensures.value ∙ more (flag_rule (codes "prune")) resyncs in
+    let most = c.in_ok-command-7.ensures.value ∙ more (word_rule (codes "most-bytes")) tries in
+    let words : app_of c.in_ok-command-8.command ≡ relay_words = c.in_ok-command-8.ensures.value ∙ more (word_rule (codes "control")) most in
+    let tells = c.in_ok-command-9.ensures.value ∙ more (flag_rule (codes "verbose")) words in
+    let ends = c.in_ok-command-10.ensures.value ∙ more (flag_rule (codes "end-on-refusal")) tells in
+    let resyncs = c.in_ok-command-11.ensures.value ∙ more (flag_rule (codes "resync")) ends in
+    let prunes = c.in_ok-command-12.ensures.value ∙ more (flag_rule (codes "prune")) resyncs in
     record { value = IfOk-weaker c.with_flag-5.result _ _ (λ m is. is ∙ more (flag_rule (codes "beyond-loopback")) prunes) c.with_flag-5.ensures.value }

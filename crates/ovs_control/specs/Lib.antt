@@ -1,0 +1,4 @@
+pub mod Commands
+pub mod Texts
+pub mod Answers
+pub mod Serving
