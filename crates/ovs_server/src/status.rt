@@ -14,6 +14,14 @@ use std::sync::atomic::{AtomicBool, Ordering};
 use std::sync::{Arc, Mutex, Wait};
 use std::time::{Clock, Instant};
 
+// An address as text, empty where there is none.
+fn address_text(alloc: Global, address: &Option<Address>) -> Result<String, NoMemory> {
+    match address {
+        Some(address) => Ok(format!(in alloc; "{address}")?),
+        None => Ok(String::new(alloc)),
+    }
+}
+
 // What is noted of an upstream.
 #[derive(Clone, Copy)]
 struct UpstreamNote {
@@ -60,10 +68,7 @@ impl UpstreamNotes {
     // What is told of it.
     fn status<R: Wait + Clock>(&self, rt: &R, alloc: Global) -> Result<UpstreamStatus, NoMemory> {
         let note = *self.note.lock(rt);
-        let address = match note.address {
-            Some(address) => format!(in alloc; "{address}")?,
-            None => String::new(alloc),
-        };
+        let address = address_text(alloc, &note.address)?;
         let seconds = match note.since.elapsed(rt) {
             Ok(elapsed) => elapsed.as_secs(),
             Err(_) => 0,
@@ -111,6 +116,24 @@ impl NodeStatus {
     pub(crate) fn note_memory_short(&self) {
         self.is_memory_short.store(true, Ordering::SeqCst);
     }
+
+    // How far it had come when it had memory last.
+    fn counts<R: Wait>(&self, rt: &R) -> NodeCounts {
+        *self.counts.lock(rt)
+    }
+
+    // What is told of its upstreams.
+    fn upstreams<R: Wait + Clock>(
+        &self,
+        rt: &R,
+        alloc: Global,
+    ) -> Result<Vec<UpstreamStatus>, NoMemory> {
+        let mut told = Vec::with_capacity(alloc, self.upstreams.len())?;
+        for notes in &self.upstreams {
+            told.push(notes.status(rt, alloc)?)?;
+        }
+        Ok(told)
+    }
 }
 
 /// Tells a node's status.
@@ -149,11 +172,7 @@ impl<R: Wait + Clock + Drop> StatusSource for StatusTeller<R> {
 
     fn status(&self, alloc: Global) -> Result<Status, NoMemory> {
         let node = &*self.node;
-        let mut upstreams = Vec::with_capacity(alloc, node.upstreams.len())?;
-        for notes in &node.upstreams {
-            upstreams.push(notes.status(&self.rt, alloc)?)?;
-        }
-        let counts = *node.counts.lock(&self.rt);
+        let counts = node.counts(&self.rt);
         Ok(Status {
             version: self.version,
             database: self.database.clone()?,
@@ -162,7 +181,7 @@ impl<R: Wait + Clock + Drop> StatusSource for StatusTeller<R> {
             chain: counts.chain,
             parked: counts.parked,
             refused: counts.refused,
-            upstreams,
+            upstreams: node.upstreams(&self.rt, alloc)?,
             sessions: node.worker_group.sessions(),
             is_memory_short: node.is_memory_short.load(Ordering::SeqCst),
         })
