@@ -10,7 +10,7 @@ use crate::observer::FoldObserver;
 use crate::role::run_scoped_with_views;
 use left_right::ReadHandle;
 use ovs_json::NoMemory;
-use ovs_node::{Node, NodeLink, RefusedLink};
+use ovs_node::{Node, NodeCounts, NodeLink, RefusedLink};
 use ovs_sync::feed::{FeedName, FeedQueue};
 use ovs_sync::threads::Work;
 use ovs_views::{Board, Handle, NodeName, PublishedCopy, StepPrefix};
@@ -112,9 +112,7 @@ impl<'a, K: NodeName, Q: FeedName, B: Wake, O: FoldObserver, R: Wait> Folding<'a
             self.note_refused(&link);
         }
         self.note_folded(queued, &folded);
-        if folded.is_ok() {
-            self.observer.folded(node.counts());
-        }
+        self.tell_counts(node.counts(), &folded);
         folded
     }
 
@@ -125,6 +123,13 @@ impl<'a, K: NodeName, Q: FeedName, B: Wake, O: FoldObserver, R: Wait> Folding<'a
             Ok(false) => self.counters.folded().note_all(self.rt, queued),
             // What was taken is folded later, and then all before it.
             Err(NoMemory) => {}
+        }
+    }
+
+    // Tells how far the node has come, unless there was no memory for what came.
+    fn tell_counts(&self, counts: NodeCounts, folded: &Result<bool, NoMemory>) {
+        if folded.is_ok() {
+            self.observer.folded(counts);
         }
     }
 
