@@ -23,7 +23,7 @@ pub struct NodeCounts {
 impl NodeCounts {
     /// Of a node to which nothing has come.
     pub fn none() -> NodeCounts
-        ensures value { result ≡ record { head = 0; links = 0; chain = 0; parked = 0; refused = 0 } }
+        ensures value { (result.head ≡ 0) × (result.links ≡ 0) × (result.chain ≡ 0) × (result.parked ≡ 0) × (result.refused ≡ 0) }
     {
         NodeCounts {
             head: TxnId::zero(),
