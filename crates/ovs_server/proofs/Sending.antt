@@ -1,7 +1,7 @@
 -- That a node may go to a thread, by its parts.
 use denote.RattleType.{RattleType}
-use denote.Param.Send.{IsSend, IsSync, sendable}
-use denote.Param.SendFields.{as_row_send, as_row_sync, declared_send, declared_sync, variants_send, variants_sync}
+use denote.Param.Send.{IsSend, sendable}
+use denote.Param.SendFields.{as_row_send, as_row_sync, declared_send, declared_sync, variants_send}
 use Rattle.std.proofs.Crossing as heap
 use Rattle.std.specs.declared.io.traits.Read as read
 use Rattle.std.specs.declared.io.traits.Write as write
@@ -13,8 +13,8 @@ use Rattle.ovs_sockets.specs.declared.poller.SocketPoller.{SocketPoller}
 use Rattle.ovs_server.specs.contracts.sockets.WorkerSockets as sockets
 use Rattle.ovs_server.specs.contracts.node.NodeServer as tier_node
 use Rattle.ovs_server.specs.contracts.site.Site as site
-use Rattle.ovs_server.specs.contracts.status.NodeStatus as node_status
 use Rattle.ovs_server.proofs.node.Role.TheSendSync as role
+use Rattle.ovs_server.proofs.status.NodeStatus.TheSendSync as node_status
 
 unused_pollers_send : (D I O : RattleType) (d : poller.Ghosts D.Denot I.Denot O.Denot) (r : read.Ghosts I.Denot) (w : write.Ghosts O.Denot)
     → IsSend D → IsSend (unused.the_row D I O d r w)
@@ -27,18 +27,12 @@ sockets_send R I O d r w rt =
     declared_send (sockets.the_type R I O d r w)
     (search (unused, sendable, heap.crosses) depth 30 fits 10000, (search (sendable, heap.crosses, as_row_send, as_row_sync, declared_send, declared_sync, variants_send) depth 30 fits 10000, tt))
 
-node_status_shares : IsSync node_status.the_row
-node_status_shares = search (sendable, heap.crosses, as_row_send, as_row_sync, declared_send, declared_sync, variants_send, variants_sync) depth 30 fits 10000
-
-node_status_sends : IsSend node_status.the_row
-node_status_sends = search (sendable, heap.crosses, as_row_send, as_row_sync, declared_send, declared_sync, variants_send, variants_sync) depth 30 fits 10000
-
 site_sends : (R I O : RattleType) (d : poller.Ghosts (SocketPoller R.Denot) I.Denot O.Denot) (r : read.Ghosts I.Denot) (w : write.Ghosts O.Denot)
     → IsSend R → IsSend (site.the_row R I O d r w)
 site_sends R I O d r w rt =
     let sockets = sockets_send R I O d r w rt in
     declared_send (site.the_type R I O d r w)
-    (search (sendable, heap.crosses, as_row_send) depth 20, (search sockets depth 20, (search (sendable, heap.crosses, as_row_send, declared_send, declared_sync) depth 30 fits 10000, (search (node_status_sends, node_status_shares, sendable, heap.crosses, as_row_send) depth 20, tt))))
+    (search (sendable, heap.crosses, as_row_send) depth 20, (search sockets depth 20, (search (sendable, heap.crosses, as_row_send, declared_send, declared_sync) depth 30 fits 10000, (search (node_status.the_send, node_status.the_sync, sendable, heap.crosses, as_row_send) depth 20, tt))))
 
 pub node_server_sends : (R S L I O : RattleType) (d : poller.Ghosts (SocketPoller R.Denot) I.Denot O.Denot) (r : read.Ghosts I.Denot) (w : write.Ghosts O.Denot)
     → IsSend R → IsSend (tier_node.the_row R S L I O d r w)
