@@ -107,12 +107,12 @@ impl<'a, K: NodeName, Q: FeedName, B: Wake, O: FoldObserver, R: Wait> Folding<'a
         let queued = self.counters.folded().queued();
         let folded = node.fold_next(self.rt, self.queue, self.board);
         self.counters.progress().note_head(node.head());
+        self.tell_counts(node.counts(), &folded);
         wakers.wake_for(node.published_len());
         for link in node.take_refused() {
             self.note_refused(&link);
         }
         self.note_folded(queued, &folded);
-        self.tell_counts(node.counts(), &folded);
         folded
     }
 
