@@ -70,14 +70,14 @@ def ovn_northd(lab):
         equal(len(bindings), ROUNDS * SWITCHES, "the ports at the relay")
 
 
-def switch(lab, southbound):
+def switch(lab, southbound, monitors_all="true"):
     """A local database with ports of ovn-controller's bridge, and what switches them, without a datapath of the system's."""
     local = alone(lab, schema_file("vswitch"))
     base = ["ovs-vsctl", f"--db={at(local)}", "--no-wait", "--timeout=15"]
     run(lab, *base, "init")
     words = [tool("ovs-vswitchd"), at(local), "--disable-system", "--enable-dummy=override", "--no-chdir", "-vsyslog:off"]
     lab.start([*words, f"--unixctl={lab.path('vswitchd')}"], "ovs-vswitchd", environment(lab))
-    settings = {"ovn-remote": at(southbound), "ovn-encap-type": "geneve", "ovn-encap-ip": "127.0.0.1", "ovn-monitor-all": "true"}
+    settings = {"ovn-remote": at(southbound), "ovn-encap-type": "geneve", "ovn-encap-ip": "127.0.0.1", "ovn-monitor-all": monitors_all}
     run(lab, *base, "set", "open", ".", *(f'external_ids:{name}="{value}"' for name, value in settings.items()))
     run(lab, *base, "add-br", "br-int", "--", "set", "bridge", "br-int", "datapath_type=dummy", "fail_mode=secure")
     for number in range(PORTS):
@@ -122,3 +122,30 @@ def ovn_controller(lab):
             twice += daemon.complaints().count("Claiming lport") > PORTS
     log.is_empty(f"ovn-controller, which claimed ports twice in {twice} rounds")
     equal(twice, 0, "the rounds in which a port was claimed twice")
+
+
+@check(LIMIT)
+def ovn_controller_of_its_own_datapaths(lab):
+    """ovn-controller without ovn-monitor-all claims its ports at a relay over one connection, whose conditions change meanwhile."""
+    server, relay = behind_a_cluster(lab, schema_file("ovn-sb"), "--verbose")
+    with_rows(server, "Southbound")
+    northbound = with_rows(clustered(lab, schema_file("ovn-nb")), "Northbound")
+    northd(lab, northbound, server)
+    ports = [word for number in range(PORTS) for word in ("--", "lsp-add", "s", f"p{number}")]
+    run(lab, "ovn-nbctl", f"--db={at(northbound)}", "--no-leader-only", "--wait=sb", "--timeout=15", "ls-add", "s", *ports)
+    local, base = switch(lab, relay, "false")
+    run(lab, *base, "set", "open", ".", "external_ids:system-id=chassis")
+    with relay.session() as session:
+        before = relay.child.complaints().count(" opened by ")
+        daemon = lab.start([tool("ovn-controller"), at(local), "--no-chdir", "-vsyslog:off"], "ovn-controller", environment(lab))
+        wait_until(lambda: claimed(session, "chassis") == PORTS, 20, "all ports are claimed")
+        run(lab, "ovn-nbctl", f"--db={at(northbound)}", "--no-leader-only", "--wait=sb", "--timeout=15", "ls-add", "t", "--", "lsp-add", "t", "q")
+        run(lab, *base, "add-port", "br-int", "w", "--", "set", "interface", "w", "external_ids:iface-id=q", "type=dummy")
+        wait_until(lambda: claimed(session, "chassis") == PORTS + 1, 20, "a port of another switch is claimed")
+        equal(relay.child.complaints().count(" opened by ") - before, 1, f"the connections that it took; {daemon.complaints()[-600:]}")
+        run(lab, "ovn-appctl", "-t", lab.path(f"ovn-controller.{daemon.process.pid}.ctl"), "exit")
+        equal(daemon.wait(20), 0, "its status")
+        daemon.is_stopped = True
+    log = Log()
+    log.add(daemon)
+    log.is_empty("ovn-controller")

@@ -20,7 +20,7 @@ import sys
 import tempfile
 import traceback
 
-import addresses, answers, bounds, calls, cases, closing, commands, copies, desk, ends, epochs, foreign, hostile, lasting, limits, locks, many, monitors, ovn, own_writes, pages, pruning, reach, refusals, resync, scripts, sessions, soak, tier, unix_sockets, upgrade, upstreams, ways, wire  # noqa: E401,F401
+import addresses, answers, bounds, calls, cases, closing, commands, conditions, copies, desk, ends, epochs, foreign, hostile, lasting, limits, locks, many, monitors, ovn, own_writes, pages, pruning, reach, refusals, resync, scripts, sessions, soak, tier, unix_sockets, upgrade, upstreams, ways, wire  # noqa: E401,F401
 from harness import CHECKS, Lab, Skip
 
 HERE = os.path.dirname(os.path.abspath(__file__))

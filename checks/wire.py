@@ -103,6 +103,6 @@ def length_of_messages(lab):
 def methods_that_are_unknown(lab):
     """A method that there isn't is refused by a reply, and the session goes on."""
     for node, session in both(lab):
-        for method in ("monitor_cond_change", "convert", "get_server_id", "", "Echo"):
+        for method in ("convert", "get_server_id", "", "Echo"):
             equal(refusal(session, method, "net"), "unknown method", f"{node.name}: {method!r}")
         equal(session.ask("get_schema", "net"), NET, f"{node.name}: the session goes on")

@@ -29,9 +29,24 @@ fn verb_text(verb: &Verb) -> &'static str {
     }
 }
 
+// What a monitor is told before the reply, if anything, and the reply.
+fn reply_text(
+    alloc: Global,
+    notice: Option<&Message>,
+    reply: &Message,
+) -> Result<String, CaseError> {
+    let Some(notice) = notice else {
+        return text_of(alloc, reply);
+    };
+    let mut told = text_of(alloc, notice)?;
+    told.push_str(" then ")?;
+    told.push_str(text_of(alloc, reply)?.as_str())?;
+    Ok(told)
+}
+
 fn turn_text(alloc: Global, turn: &Turn) -> Result<String, CaseError> {
     match (&turn.out, &turn.ask) {
-        (Some(message), None) => text_of(alloc, message),
+        (Some(message), None) => reply_text(alloc, turn.notice.as_ref(), message),
         (None, Some(ask)) => Ok(format!(in alloc; "ask {}", verb_text(&ask.verb))?),
         (None, None) => word(alloc, "nothing"),
         (Some(_), Some(_)) => Err(CaseError::Malformed),

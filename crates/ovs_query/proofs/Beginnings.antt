@@ -10,7 +10,6 @@ use Rattle.ovs_types.specs.declared.schema.Table.{Table}
 use Rattle.ovs_rows.specs.declared.row_key.RowKey.{RowKey}
 use Rattle.ovs_rows.specs.declared.row.Row.{Row}
 use Rattle.ovs_rows.specs.declared.change.Action.{Action}
-use Rattle.ovs_rows.specs.declared.change.Action.TheVariants.{Insert}
 use Rattle.ovs_rows.specs.RowKey.{place_cmp, place_total, place_exact}
 use Rattle.ovs_rows.specs.Row.{Rows, columns_at, AreRowsOf}
 use Rattle.ovs_rows.specs.Change.{Actions, IsChangeOf}
@@ -19,36 +18,39 @@ use Rattle.ovs_rows.proofs.Laws.{get-after}
 use Rattle.ovs_data.proofs.Maps.{All-entries}
 use Rattle.ovs_rows.proofs.Combining.{get-combined}
 use Rattle.ovs_rows.proofs.RowSteps.{row_after_kept}
+use Rattle.ovs_query.specs.declared.monitor.Kind.TheVariants as kinds
 use Rattle.ovs_query.specs.declared.monitor.Watched.{Watched}
-use Rattle.ovs_query.specs.RowUpdates.{New}
-use Rattle.ovs_query.specs.View.{view, watched_at, shown_by, shown_at}
+use Rattle.ovs_query.specs.Conditions.{admits}
+use Rattle.ovs_query.specs.Projected.{shown_data}
+use Rattle.ovs_query.specs.View.{view, shown_of, watched_at, shown_by, shown_at}
 use Rattle.ovs_query.specs.Mirror.{carry, mirror_at, mirror, replace_row, replace}
-use Rattle.ovs_query.specs.Updates.{touched_at, IsStepAt, IsStep, IsRowOf, AreTouchedOf, asked_first, first_rows, first_updates, first_row_updates, AsksFirst}
+use Rattle.ovs_query.specs.Updates.{touched_at, IsStepAt, IsStep, IsRowOf, AreTouchedOf, asked_first, first_rows, first_action, first_row_update, first_updates, first_row_updates, AsksFirstOf, AsksFirst}
+use Rattle.ovs_query.proofs.Asking.{all_data}
 use Rattle.ovs_query.proofs.ShownData.{if_some}
 use Rattle.ovs_query.proofs.Touching.{same_place, get-view}
 use Rattle.ovs_query.proofs.Mirroring.{carried_all}
 
 -- ---- the first rows
 
-module _ {U : Type 0} (made : List Datum → U) where
+module _ {U : Type 0} (made : Watched → List Datum → U) where
   pub get-first_rows : (watches : List (Option Watched)) (rows : Rows) (p : RowKey) → get (first_rows made watches rows) p ≡ option_and_then (asked_first made (watched_at watches p.table)) (shown_at watches p (get rows p))
   unfolding first_rows
   get-first_rows watches rows p =
       get-combined place_total place_exact (λ p row nothing. option_and_then (asked_first made (watched_at watches p.table)) (shown_at watches p row)) (λ p. refl) rows (empty {X = Row}) p
 
   -- where a row can be made it is, if it is shown
-  module _ (f : Option (List Datum) → Option U → Option (Option (List Datum))) (nothing : f None None ≡ Some None) (makes : (xs : List Datum) → f None (Some (made xs)) ≡ Some (Some xs)) where
-    first_shown : (watched : Option Watched) (id : ℕ) (row : Option Row) → IfSome watched (λ w. w.kinds.initial ≡ true)
+  module _ (f : Option (List Datum) → Option U → Option (Option (List Datum))) (nothing : f None None ≡ Some None) (makes : (w : Watched) → AsksFirstOf w → (id : ℕ) (row : Row) → f None (Some (made w (shown_data (shown_of w) id row))) ≡ Some (Some (shown_data (shown_of w) id row))) where
+    first_shown : (watched : Option Watched) (id : ℕ) (row : Option Row) → IfSome watched AsksFirstOf
         → f None (option_and_then (asked_first made watched) (shown_by watched id row)) ≡ Some (shown_by watched id row)
     first_shown watched id None h = nothing
     first_shown None id (Some row) h = nothing
-    first_shown (Some w) id (Some row) h = by (shown_by (Some w) id (Some row))
+    first_shown (Some w) id (Some row) h = by (admits w.clauses id row)
       where
-        by : (o : Option (List Datum)) → f None (option_and_then (asked_first made (Some w)) o) ≡ Some o
-        by None = nothing
-        by (Some xs) = ap (λ b. f None (cond b (Some (made xs)) None)) h ∙ makes xs
+        by : (b : Bool) → f None (option_and_then (asked_first made (Some w)) (cond b (Some (shown_data (shown_of w) id row)) None)) ≡ Some (cond b (Some (shown_data (shown_of w) id row)) None)
+        by false = nothing
+        by true = ap (λ b. f None (cond b (Some (made w (shown_data (shown_of w) id row))) None)) h.0 ∙ makes w h id row
 
-  module _ (f : RowKey → Option (List Datum) → Option U → Option (Option (List Datum))) (nothing : (p : RowKey) → f p None None ≡ Some None) (makes : (p : RowKey) (xs : List Datum) → f p None (Some (made xs)) ≡ Some (Some xs)) where
+  module _ (f : RowKey → Option (List Datum) → Option U → Option (Option (List Datum))) (nothing : (p : RowKey) → f p None None ≡ Some None) (makes : (p : RowKey) (w : Watched) → AsksFirstOf w → (id : ℕ) (row : Row) → f p None (Some (made w (shown_data (shown_of w) id row))) ≡ Some (Some (shown_data (shown_of w) id row))) where
     -- a copy of nothing that gets the first rows is what is shown
     first_carried : (watches : List (Option Watched)) (rows : Rows) → AsksFirst watches → carry f empty (first_rows made watches rows) ≡ Some (view watches rows)
     first_carried watches rows all = carried_all f nothing empty (view watches rows) (first_rows made watches rows) (λ p.
@@ -58,10 +60,10 @@ module _ {U : Type 0} (made : List Datum → U) where
         ∙ ap Some (sym (get-view watches rows p)))
 
 pub first_mirrored : (watches : List (Option Watched)) (rows : Rows) → AsksFirst watches → mirror watches empty (first_updates watches rows) ≡ Some (view watches rows)
-first_mirrored watches = first_carried Insert (mirror_at watches) (λ p. refl) (λ p xs. refl) watches
+first_mirrored watches = first_carried first_action (mirror_at watches) (λ p. refl) (λ p w h id row. ap (λ xs. Some (Some xs)) (all_data kinds.Initial w.columns h.1 id row)) watches
 
 pub first_replaced : (watches : List (Option Watched)) (rows : Rows) → AsksFirst watches → replace empty (first_row_updates watches rows) ≡ Some (view watches rows)
-first_replaced watches = first_carried New (λ p. replace_row) (λ p. refl) (λ p xs. refl) watches
+first_replaced watches = first_carried first_row_update (λ p. replace_row) (λ p. refl) (λ p w h id row. refl) watches
 
 -- ---- applying a change is a step
 

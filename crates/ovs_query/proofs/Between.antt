@@ -1,7 +1,7 @@
 -- Updates as relations, and the kinds that are left out.
 use Rattle.std.proofs.Common.{◌≡◌, ℕ, List, [], ◌∷◌, Bool, true, false, cond, ◌||◌, true≢false, Option, Some, None, refl, sym, ap, subst, ◌∙◌}
-use Rattle.std.specs.Prelude.{IfSome, is_some, option_map, slice_get}
-use Rattle.std.specs.List.{list_any}
+use Rattle.std.specs.Prelude.{IfSome, is_some, map, option_map, slice_get}
+use Rattle.std.specs.List.{AllByRecursion, list_any}
 use Rattle.std.specs.Option.{option_and_then}
 use Rattle.std.specs.FinMap.{get}
 use Rattle.std.proofs.lemmas.Option.{slice_get-map}
@@ -19,13 +19,17 @@ use Rattle.ovs_rows.specs.Applied.{AscendByPlace}
 use Rattle.ovs_rows.specs.DatabaseDifference.{edits_between, modified, IsActionBetween}
 use Rattle.ovs_rows.proofs.Data.{same_datum, same_itself}
 use Rattle.ovs_rows.proofs.RowSteps.{action_between_is}
-use Rattle.ovs_query.specs.declared.monitor.Kinds.{Kinds}
+use Rattle.ovs_query.specs.declared.monitor.Monitored.{Monitored}
 use Rattle.ovs_query.specs.declared.monitor.Watched.{Watched}
+use Rattle.ovs_query.specs.declared.projected.Projected.{Projected}
+use Rattle.ovs_query.specs.Conditions.{admits}
+use Rattle.ovs_query.specs.Projected.{shown_columns, shown_data}
 use Rattle.ovs_query.specs.RowUpdates.{Changed, previous, row_update_between}
-use Rattle.ovs_query.specs.View.{view, watched_at, columns_of, columns_watched, shown_by, shown_at, IsMonitorOf}
-use Rattle.ovs_query.specs.UpdateMeaning.{IsUpdateBetween, AreUpdatesBetween, IsPrevious, ArePrevious, IsRowUpdateBetween, AreRowUpdatesBetween, asking_of, asking_all}
-use Rattle.ovs_query.specs.Updates.{touched_at, IsStepAt, IsStep, update_between, is_asked, is_row_asked, asked, action_told, row_update_told, told_of, told_by_place, updates, row_updates, AsksAll}
-use Rattle.ovs_query.proofs.Mirroring.{row_of, none_previous, some_asked, all_asked, action_asked, row_asked}
+use Rattle.ovs_query.specs.View.{view, watched_at, parts_of, columns_of, columns_watched, shown_by, shown_at, IsMonitorOf}
+use Rattle.ovs_query.specs.UpdateMeaning.{IsUpdateBetween, AreUpdatesBetween, IsPrevious, ArePrevious, IsRowUpdateBetween, AreRowUpdatesBetween, asking_column, asking_of, asking_all}
+use Rattle.ovs_query.specs.Updates.{touched_at, IsStepAt, IsStep, update_between, as_asked, row_as_asked, asked, action_told, row_update_told, told_of, told_by_place, updates, row_updates, AreAll, AsksAllOf, AsksAll}
+use Rattle.ovs_query.proofs.Mirroring.{row_of, none_previous}
+use Rattle.ovs_query.proofs.Asking.{actions_all, row_updates_all}
 use Rattle.ovs_query.proofs.ShownData.{if_some, shown_at_data}
 use Rattle.ovs_query.proofs.Touching.{get-view, touched_place, get-by_place}
 
@@ -37,7 +41,7 @@ as_update cs xs ys (Some (Insert made)) h = h
 as_update cs xs ys (Some Delete) h = h
 as_update cs xs ys (Some (Modify edits)) h = h
 
-update_between_is : (cs : List NamedColumn) (old new : Option (List Datum)) → IfSome old (AreDataOf cs) → IfSome new (AreDataOf cs) → IsUpdateBetween cs old new (update_between cs old new)
+pub update_between_is : (cs : List NamedColumn) (old new : Option (List Datum)) → IfSome old (AreDataOf cs) → IfSome new (AreDataOf cs) → IsUpdateBetween cs old new (update_between cs old new)
 update_between_is cs None None h k = refl
 update_between_is cs None (Some ys) h k = refl
 update_between_is cs (Some xs) None h k = refl
@@ -103,13 +107,13 @@ module _ (tables : List Table) (watches : List (Option Watched)) (m : IsMonitorO
   pub step_between : AreUpdatesBetween watches a b (updates watches ts)
   step_between = step_related action_told (λ p. IsUpdateBetween (columns_watched watches p.table)) (λ p. nothing_between (columns_watched watches p.table)) watches a b ts sorted step (λ p.
       subst (IsUpdateBetween (columns_watched watches p.table) (shown_at watches p (get a p)) (shown_at watches p (get b p)))
-      (sym (all_asked is_asked (update_between (columns_watched watches p.table)) refl (watched_at watches p.table) p.id (get a p) (get b p) (if_some (watched_at watches p.table) _ (λ w e. action_asked w (all p.table w e)))))
+      (sym (actions_all (watched_at watches p.table) p.id (get a p) (get b p) (if_some (watched_at watches p.table) _ (λ w e. all p.table w e))))
       (update_between_is (columns_watched watches p.table) (shown_at watches p (get a p)) (shown_at watches p (get b p)) (shown_at_data tables watches a m h p) (shown_at_data tables watches b m k p)))
 
   pub step_row_between : AreRowUpdatesBetween watches a b (row_updates watches ts)
   step_row_between = step_related row_update_told (λ p. IsRowUpdateBetween) (λ p. no_row_update) watches a b ts sorted step (λ p.
       subst (IsRowUpdateBetween (shown_at watches p (get a p)) (shown_at watches p (get b p)))
-      (sym (all_asked is_row_asked row_update_between refl (watched_at watches p.table) p.id (get a p) (get b p) (if_some (watched_at watches p.table) _ (λ w e. row_asked w (all p.table w e)))))
+      (sym (row_updates_all (watched_at watches p.table) p.id (get a p) (get b p) (if_some (watched_at watches p.table) _ (λ w e. all p.table w e))))
       (row_update_between_is (columns_watched watches p.table) (shown_at watches p (get a p)) (shown_at watches p (get b p)) (shown_at_data tables watches a m h p) (shown_at_data tables watches b m k p)))
 
 -- ---- kinds that are not asked for
@@ -122,20 +126,27 @@ asking_at watches n = ap (option_and_then (λ o. o)) (slice_get-map (option_map 
     by (Some None) = refl
     by (Some (Some w)) = refl
 
-module _ {U : Type 0} (t : Kinds → U → Bool) where
-  asked_twice : (w : Watched) → ((u : U) → t (asking_of w).kinds u ≡ true) → (u : Option U) → option_and_then (asked t (Some w)) u ≡ option_and_then (asked t (Some w)) (option_and_then (asked t (Some (asking_of w))) u)
-  asked_twice w every u = ap (option_and_then (asked t (Some w))) (sym (some_asked t (asking_of w) every u))
+none_asked : {U : Type 0} (t : Watched → U → Option U) (u : Option U) → option_and_then (asked t None) u ≡ None
+none_asked t None = refl
+none_asked t (Some u) = refl
 
-  none_asked : (u : Option U) → option_and_then (asked t None) u ≡ None
-  none_asked None = refl
-  none_asked (Some u) = refl
+asking_parts : (ms : List Monitored) → parts_of (map asking_column ms) ≡ parts_of ms
+asking_parts [] = refl
+asking_parts (m ∷ ms) = ap (λ (ps : List Projected). m.part ∷ ps) (asking_parts ms)
+
+asking_columns : (ms : List Monitored) → AllByRecursion (λ m. AreAll m.kinds) (map asking_column ms)
+asking_columns [] = tt
+asking_columns (m ∷ ms) = ((refl, refl, refl), asking_columns ms)
+
+asking_asks : (w : Watched) → AsksAllOf (asking_of w)
+asking_asks w = ((refl, refl, refl), asking_columns w.columns)
 
 -- the same rows are shown
-asking_shows : (w : Watched) (id : ℕ) (row : Option Row) → shown_by (Some w) id row ≡ shown_by (Some (asking_of w)) id row
+asking_shows : (w : Watched) (id : ℕ) (row : Option Row) → shown_by (Some (asking_of w)) id row ≡ shown_by (Some w) id row
 asking_shows w id None = refl
-asking_shows w id (Some row) = refl
+asking_shows w id (Some row) = ap (λ ps. cond (admits w.clauses id row) (Some (shown_data ps id row)) None) (asking_parts w.columns)
 
-module _ {U : Type 0} (t : Kinds → U → Bool) (told : Option Watched → ℕ → Option Row → Option Row → Option U)
+module _ {U : Type 0} (t : Watched → U → Option U) (told : Option Watched → ℕ → Option Row → Option Row → Option U)
     (kept : (watched : Option Watched) (id : ℕ) (before after : Option Row) → told watched id before after ≡ option_and_then (asked t watched) (told (option_map asking_of watched) id before after)) where
   -- those that are told are those of the kinds that are asked for
   left_out : (watches : List (Option Watched)) (ts : List TouchedRow) (p : RowKey) → AscendByPlace ts
@@ -152,26 +163,33 @@ module _ {U : Type 0} (t : Kinds → U → Bool) (told : Option Watched → ℕ 
           ∙ ap (λ w. option_and_then (asked t (watched_at watches s.place.table)) (told w s.place.id s.before s.after)) (sym (asking_at watches s.place.table))
           ∙ ap (λ q. option_and_then (asked t (watched_at watches q.table)) (told_of told (asking_all watches) s)) (touched_place ts p s is)
 
-kept_action : (watched : Option Watched) (id : ℕ) (before after : Option Row) → action_told watched id before after ≡ option_and_then (asked is_asked watched) (action_told (option_map asking_of watched) id before after)
+kept_action : (watched : Option Watched) (id : ℕ) (before after : Option Row) → action_told watched id before after ≡ option_and_then (asked as_asked watched) (action_told (option_map asking_of watched) id before after)
 kept_action None id before after =
-    none_asked is_asked (update_between [] (shown_by None id before) (shown_by None id after)) ∙ sym (none_asked is_asked (action_told None id before after))
+    none_asked as_asked (update_between [] (shown_by None id before) (shown_by None id after)) ∙ sym (none_asked as_asked (action_told None id before after))
 kept_action (Some w) id before after =
-    asked_twice is_asked w (action_asked (asking_of w) (refl, refl, refl)) (update_between (columns_of (Some w)) (shown_by (Some w) id before) (shown_by (Some w) id after))
-    ∙ ap (λ o. option_and_then (asked is_asked (Some w)) (option_and_then (asked is_asked (Some (asking_of w))) (update_between (columns_of (Some w)) o (shown_by (Some w) id after)))) (asking_shows w id before)
-    ∙ ap (λ o. option_and_then (asked is_asked (Some w)) (option_and_then (asked is_asked (Some (asking_of w))) (update_between (columns_of (Some w)) (shown_by (Some (asking_of w)) id before) o))) (asking_shows w id after)
+    let all = asking_of w in
+    ap (option_and_then (as_asked w)) (sym (
+    actions_all (Some all) id before after (asking_asks w)
+    ∙ ap (λ ps. update_between (shown_columns ps) (shown_by (Some all) id before) (shown_by (Some all) id after)) (asking_parts w.columns)
+    ∙ ap (λ o. update_between (columns_of (Some w)) o (shown_by (Some all) id after)) (asking_shows w id before)
+    ∙ ap (update_between (columns_of (Some w)) (shown_by (Some w) id before)) (asking_shows w id after)
+    ))
 
-kept_row_update : (watched : Option Watched) (id : ℕ) (before after : Option Row) → row_update_told watched id before after ≡ option_and_then (asked is_row_asked watched) (row_update_told (option_map asking_of watched) id before after)
+kept_row_update : (watched : Option Watched) (id : ℕ) (before after : Option Row) → row_update_told watched id before after ≡ option_and_then (asked row_as_asked watched) (row_update_told (option_map asking_of watched) id before after)
 kept_row_update None id before after =
-    none_asked is_row_asked (row_update_between (shown_by None id before) (shown_by None id after)) ∙ sym (none_asked is_row_asked (row_update_told None id before after))
+    none_asked row_as_asked (row_update_between (shown_by None id before) (shown_by None id after)) ∙ sym (none_asked row_as_asked (row_update_told None id before after))
 kept_row_update (Some w) id before after =
-    asked_twice is_row_asked w (row_asked (asking_of w) (refl, refl, refl)) (row_update_between (shown_by (Some w) id before) (shown_by (Some w) id after))
-    ∙ ap (λ o. option_and_then (asked is_row_asked (Some w)) (option_and_then (asked is_row_asked (Some (asking_of w))) (row_update_between o (shown_by (Some w) id after)))) (asking_shows w id before)
-    ∙ ap (λ o. option_and_then (asked is_row_asked (Some w)) (option_and_then (asked is_row_asked (Some (asking_of w))) (row_update_between (shown_by (Some (asking_of w)) id before) o))) (asking_shows w id after)
+    let all = asking_of w in
+    ap (option_and_then (row_as_asked w)) (sym (
+    row_updates_all (Some all) id before after (asking_asks w)
+    ∙ ap (λ o. row_update_between o (shown_by (Some all) id after)) (asking_shows w id before)
+    ∙ ap (row_update_between (shown_by (Some w) id before)) (asking_shows w id after)
+    ))
 
 pub updates_left_out : (watches : List (Option Watched)) (ts : List TouchedRow) (p : RowKey) → AscendByPlace ts
-    → get (updates watches ts) p ≡ option_and_then (asked is_asked (watched_at watches p.table)) (get (updates (asking_all watches) ts) p)
-updates_left_out = left_out is_asked action_told kept_action
+    → get (updates watches ts) p ≡ option_and_then (asked as_asked (watched_at watches p.table)) (get (updates (asking_all watches) ts) p)
+updates_left_out = left_out as_asked action_told kept_action
 
 pub row_updates_left_out : (watches : List (Option Watched)) (ts : List TouchedRow) (p : RowKey) → AscendByPlace ts
-    → get (row_updates watches ts) p ≡ option_and_then (asked is_row_asked (watched_at watches p.table)) (get (row_updates (asking_all watches) ts) p)
-row_updates_left_out = left_out is_row_asked row_update_told kept_row_update
+    → get (row_updates watches ts) p ≡ option_and_then (asked row_as_asked (watched_at watches p.table)) (get (row_updates (asking_all watches) ts) p)
+row_updates_left_out = left_out row_as_asked row_update_told kept_row_update

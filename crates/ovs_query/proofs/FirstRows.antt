@@ -9,11 +9,9 @@ use Rattle.std.specs.Ordering.{eq_by_cmp}
 use Rattle.std.specs.FinMap.{find, entries, get-entries, same_map}
 use Rattle.serde_json.specs.Data.{Data}
 use Rattle.ovs_data.specs.declared.datum.Datum.{Datum}
-use Rattle.ovs_types.specs.declared.schema.NamedColumn.{NamedColumn}
 use Rattle.ovs_types.specs.Id.{id_text}
 use Rattle.ovs_rows.specs.declared.row_key.RowKey.{RowKey}
 use Rattle.ovs_rows.specs.declared.row.Row.{Row}
-use Rattle.ovs_rows.specs.declared.change.Action.TheVariants.{Insert}
 use Rattle.ovs_rows.specs.After.{TouchedRow}
 use Rattle.ovs_rows.specs.Applied.{AscendByPlace}
 use Rattle.ovs_rows.specs.RowKey.{place_cmp, place_total, place_exact}
@@ -23,12 +21,10 @@ use Rattle.ovs_data.proofs.Maps.{entries_ascend}
 use Rattle.ovs_query.specs.declared.monitor.Notation.{Notation}
 use Rattle.ovs_query.specs.declared.monitor.Notation.TheVariants.{Update, Update2, Update3}
 use Rattle.ovs_query.specs.declared.monitor.Watched.{Watched}
-use Rattle.ovs_query.specs.RowUpdates.{New}
-use Rattle.ovs_query.specs.Projected.{shown_columns}
 use Rattle.ovs_query.specs.View.{watched_at, shown_by, shown_at, presented}
 use Rattle.ovs_query.specs.Telling.{first_members, touched_in}
-use Rattle.ovs_query.specs.Updates.{touched_at, told_of, told_by_place, asked_first, first_rows}
-use Rattle.ovs_query.specs.UpdateWriting.{row_update_json, first_json, tables_json, update_members, initial_json}
+use Rattle.ovs_query.specs.Updates.{touched_at, told_of, told_by_place, asked_first, first_rows, first_action, first_row_update}
+use Rattle.ovs_query.specs.UpdateWriting.{first_row_json, first_action_json, tables_json, update_members, initial_json}
 use Rattle.ovs_query.proofs.Touching.{same_place, get-by_place}
 use Rattle.ovs_query.proofs.Beginnings.{get-first_rows}
 use Rattle.ovs_query.proofs.Telling.{tables_alike, written, members_told}
@@ -48,7 +44,7 @@ arrival_places (e ∷ es) = ap (λ ps. e.0 ∷ ps) (arrival_places es)
 arrivals_ascend : (rows : Rows) → AscendByPlace (arrivals rows)
 arrivals_ascend rows = subst (IsStrictlySortedBy place_cmp) (sym (arrival_places (entries rows))) (entries_ascend place_total place_exact rows)
 
-module _ {U : Type 0} (made : List Datum → U) where
+module _ {U : Type 0} (made : Watched → List Datum → U) where
   -- what is told of a row that arrives
   abbrev begun : Option Watched → ℕ → Option Row → Option Row → Option U
   begun watched id before after = option_and_then (asked_first made watched) (shown_by watched id after)
@@ -72,23 +68,23 @@ module _ {U : Type 0} (made : List Datum → U) where
 
   -- ---- one table
 
-  module _ (json : List NamedColumn → U → Data) (number : ℕ) (w : Watched) where
+  module _ (json : Watched → U → Data) (number : ℕ) (w : Watched) where
     abbrev row_member : RowKey × Row → Option (List ℕ × Data)
-    row_member e = option_map (λ d. (id_text e.0.id, d)) (option_map (λ xs. json (shown_columns w.shown) (made xs)) (presented e.0.id e.1 w))
+    row_member e = option_map (λ d. (id_text e.0.id, d)) (option_map (λ xs. json w (made w xs)) (presented e.0.id e.1 w))
 
     abbrev in_table : List (RowKey × Row) → List (RowKey × Row)
     in_table = filter (λ e. e.0.table == number)
 
     abbrev first_written : Bool → RowKey × Row → Option (List ℕ × Data)
-    first_written k e = option_map (λ d. (id_text e.0.id, d)) (option_map (json (shown_columns w.shown)) (option_and_then (λ xs. cond k (Some (made xs)) None) (presented e.0.id e.1 w)))
+    first_written k e = option_map (λ d. (id_text e.0.id, d)) (option_map (json w) (option_and_then (λ xs. cond k (Some (made w xs)) None) (presented e.0.id e.1 w)))
 
     asked_for : (es : List (RowKey × Row)) → filter_map (first_written true) es ≡ filter_map row_member es
     asked_for [] = refl
     asked_for (e ∷ es) = by (presented e.0.id e.1 w) ∙ ap (cons_option (row_member e)) (asked_for es)
       where
         by : (o : Option (List Datum))
-            → cons_option (option_map (λ d. (id_text e.0.id, d)) (option_map (json (shown_columns w.shown)) (option_and_then (λ xs. cond true (Some (made xs)) None) o))) (filter_map (first_written true) es)
-            ≡ cons_option (option_map (λ d. (id_text e.0.id, d)) (option_map (λ xs. json (shown_columns w.shown) (made xs)) o)) (filter_map (first_written true) es)
+            → cons_option (option_map (λ d. (id_text e.0.id, d)) (option_map (json w) (option_and_then (λ xs. cond true (Some (made w xs)) None) o))) (filter_map (first_written true) es)
+            ≡ cons_option (option_map (λ d. (id_text e.0.id, d)) (option_map (λ xs. json w (made w xs)) o)) (filter_map (first_written true) es)
         by None = refl
         by (Some xs) = refl
 
@@ -97,7 +93,7 @@ module _ {U : Type 0} (made : List Datum → U) where
     not_asked_for (e ∷ es) = by (presented e.0.id e.1 w) ∙ not_asked_for es
       where
         by : (o : Option (List Datum))
-            → cons_option (option_map (λ d. (id_text e.0.id, d)) (option_map (json (shown_columns w.shown)) (option_and_then (λ xs. cond false (Some (made xs)) None) o))) (filter_map (first_written false) es) ≡ filter_map (first_written false) es
+            → cons_option (option_map (λ d. (id_text e.0.id, d)) (option_map (json w) (option_and_then (λ xs. cond false (Some (made w xs)) None) o))) (filter_map (first_written false) es) ≡ filter_map (first_written false) es
         by None = refl
         by (Some xs) = refl
 
@@ -128,6 +124,6 @@ module _ {U : Type 0} (made : List Datum → U) where
 
 -- what is written of each table at first is what is written of all
 pub first_told : (notation : Notation) (watches : List (Option Watched)) (rows : Rows) → tables_json (first_members notation rows) watches ≡ initial_json notation watches rows
-first_told Update watches rows = sym (tables_alike _ _ watches (λ n w is. first_in_table New row_update_json n w watches rows is))
-first_told Update2 watches rows = sym (tables_alike _ _ watches (λ n w is. first_in_table Insert first_json n w watches rows is))
-first_told Update3 watches rows = sym (tables_alike _ _ watches (λ n w is. first_in_table Insert first_json n w watches rows is))
+first_told Update watches rows = sym (tables_alike _ _ watches (λ n w is. first_in_table first_row_update first_row_json n w watches rows is))
+first_told Update2 watches rows = sym (tables_alike _ _ watches (λ n w is. first_in_table first_action first_action_json n w watches rows is))
+first_told Update3 watches rows = sym (tables_alike _ _ watches (λ n w is. first_in_table first_action first_action_json n w watches rows is))

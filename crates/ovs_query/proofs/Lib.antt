@@ -13,6 +13,7 @@ pub mod Watching
 pub mod ShownData
 pub mod Touching
 pub mod Mirroring
+pub mod Asking
 pub mod Beginnings
 pub mod Telling
 pub mod FirstRows
@@ -21,3 +22,10 @@ pub mod NoFloat
 pub mod Between
 pub mod Whole
 pub mod Shares
+pub mod Turning
+pub mod Changing
+pub mod NewConditionsWithin
+pub mod NewConditionsLaws
+pub mod NewConditionsFaulty
+pub mod TurnedBetween
+pub mod ToldEdits

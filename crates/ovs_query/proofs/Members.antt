@@ -14,8 +14,9 @@ use Rattle.ovs_rows.proofs.Writings.{zip_empty}
 use Rattle.ovs_rows.specs.ChangeWriting.{cell_members, as_edited, with_some, AreSpelled}
 use Rattle.ovs_rows.proofs.ChangeWritingLemmas.{spelled_end}
 use Rattle.ovs_query.specs.declared.monitor.Watched.{Watched}
-use Rattle.ovs_query.specs.declared.projected.Projected.{Projected}
+use Rattle.ovs_query.specs.declared.monitor.Monitored.{Monitored}
 use Rattle.ovs_query.specs.Projected.{shown_columns}
+use Rattle.ovs_query.specs.View.{parts_of}
 use Rattle.ovs_query.specs.Telling.{some_object}
 use Rattle.ovs_query.specs.UpdateWriting.{rows_by_id, table_member}
 
@@ -24,16 +25,16 @@ pub members_end : {X : Type 0} (f : X → List ℕ × Data) (xs : List X) (i : �
 members_end f xs i ms all done whole = rw (drop_of_length-le xs done) at whole
 
 -- at the end of one of the two lists no cell is left
-pub edits_end : (shown : List Projected) (edits : List (Option Datum)) (ms all : Members) → (shown ≡ []) ⊎ (edits ≡ []) → fold with_member ms (cell_members as_edited (shown_columns shown) edits) ≡ all → ms ≡ all
-edits_end shown edits ms all done whole = rw (zip_empty (shown_columns shown) edits (named done)) at whole
+pub edits_end : (columns : List Monitored) (edits : List (Option Datum)) (ms all : Members) → (columns ≡ []) ⊎ (edits ≡ []) → fold with_member ms (cell_members as_edited (shown_columns (parts_of columns)) edits) ≡ all → ms ≡ all
+edits_end columns edits ms all done whole = rw (zip_empty (shown_columns (parts_of columns)) edits (named done)) at whole
   where
-    named : (shown ≡ []) ⊎ (edits ≡ []) → (shown_columns shown ≡ []) ⊎ (edits ≡ [])
-    named (inl none) = inl (ap shown_columns none)
+    named : (columns ≡ []) ⊎ (edits ≡ []) → (shown_columns (parts_of columns) ≡ []) ⊎ (edits ≡ [])
+    named (inl none) = inl (ap (λ ms. shown_columns (parts_of ms)) none)
     named (inr none) = inr none
 
-pub edits_spelled_end : (shown : List Projected) (edits : List (Option Datum)) → (shown ≡ []) ⊎ (edits ≡ []) → AreSpelled as_edited (shown_columns shown) edits
-edits_spelled_end shown edits (inl none) = spelled_end as_edited (shown_columns shown) edits (inl (ap shown_columns none))
-edits_spelled_end shown edits (inr none) = spelled_end as_edited (shown_columns shown) edits (inr none)
+pub edits_spelled_end : (columns : List Monitored) (edits : List (Option Datum)) → (columns ≡ []) ⊎ (edits ≡ []) → AreSpelled as_edited (shown_columns (parts_of columns)) edits
+edits_spelled_end columns edits (inl none) = spelled_end as_edited (shown_columns (parts_of columns)) edits (inl (ap (λ ms. shown_columns (parts_of ms)) none))
+edits_spelled_end columns edits (inr none) = spelled_end as_edited (shown_columns (parts_of columns)) edits (inr none)
 
 -- ---- members that may be left out
 

@@ -20,12 +20,12 @@ use Rattle.ovs_rows.specs.DatabaseDifference.{edits_between}
 use Rattle.ovs_rows.proofs.Data.{same_datum}
 use Rattle.ovs_rows.proofs.Combining.{get-combined}
 use Rattle.ovs_rows.proofs.RowSteps.{row_after_between}
-use Rattle.ovs_query.specs.declared.monitor.Kinds.{Kinds}
 use Rattle.ovs_query.specs.declared.monitor.Watched.{Watched}
-use Rattle.ovs_query.specs.View.{View, view, watched_at, columns_watched, shown_by, shown_at, IsMonitorOf}
+use Rattle.ovs_query.specs.View.{View, view, watched_at, columns_watched, shown_at, IsMonitorOf}
 use Rattle.ovs_query.specs.RowUpdates.{RowUpdate, New, Gone, Changed, previous, row_update_between}
 use Rattle.ovs_query.specs.Mirror.{is_carried, carried, carry, mirror_row, mirror_at, mirror, replace_row, replace}
-use Rattle.ovs_query.specs.Updates.{touched_at, IsStepAt, IsStep, update_between, is_asked, is_row_asked, asked, action_told, row_update_told, by_place, updates, row_updates, AsksAllOf, AsksAll}
+use Rattle.ovs_query.specs.Updates.{touched_at, IsStepAt, IsStep, update_between, action_told, row_update_told, by_place, updates, row_updates, AsksAll}
+use Rattle.ovs_query.proofs.Asking.{actions_all, row_updates_all}
 use Rattle.ovs_query.proofs.ShownData.{if_some, shown_at_data}
 use Rattle.ovs_query.proofs.Touching.{get-view, touched_place, get-by_place}
 
@@ -77,7 +77,7 @@ modified_leads cs xs ys es true e = ap (λ o. Some (option_map (λ (r : Row). r.
 modified_leads cs xs ys es false e = ap (λ o. Some (option_map (λ (r : Row). r.columns) o)) e
 
 -- the update between two leads from the one to the other
-update_leads : (cs : List NamedColumn) (old new : Option (List Datum)) → IfSome old (AreDataOf cs) → IfSome new (AreDataOf cs) → mirror_row cs old (update_between cs old new) ≡ Some new
+pub update_leads : (cs : List NamedColumn) (old new : Option (List Datum)) → IfSome old (AreDataOf cs) → IfSome new (AreDataOf cs) → mirror_row cs old (update_between cs old new) ≡ Some new
 update_leads cs None None h k = refl
 update_leads cs None (Some ys) h k = refl
 update_leads cs (Some xs) None h k = refl
@@ -110,32 +110,6 @@ row_update_leads cs (Some xs) (Some ys) h k = by (list_any is_some (previous xs 
     by true e = refl
     by false e = ap (λ zs. Some (Some zs)) (none_previous cs xs ys h k e)
 
--- ---- what is asked for
-
-module _ {U : Type 0} (t : Kinds → U → Bool) where
-  pub some_asked : (w : Watched) → ((u : U) → t w.kinds u ≡ true) → (u : Option U) → option_and_then (asked t (Some w)) u ≡ u
-  some_asked w h None = refl
-  some_asked w h (Some u) = ap (λ b. cond b (Some u) None) (h u)
-
-  -- where all kinds are asked for nothing is left out; of a table that isn't watched nothing is shown
-  pub all_asked : (g : Option (List Datum) → Option (List Datum) → Option U) → g None None ≡ None → (watched : Option Watched) (id : ℕ) (old new : Option Row) → IfSome watched (λ w. (u : U) → t w.kinds u ≡ true)
-      → option_and_then (asked t watched) (g (shown_by watched id old) (shown_by watched id new)) ≡ g (shown_by watched id old) (shown_by watched id new)
-  all_asked g none None id None None h = ap (option_and_then (asked t None)) none ∙ sym none
-  all_asked g none None id None (Some new) h = ap (option_and_then (asked t None)) none ∙ sym none
-  all_asked g none None id (Some old) None h = ap (option_and_then (asked t None)) none ∙ sym none
-  all_asked g none None id (Some old) (Some new) h = ap (option_and_then (asked t None)) none ∙ sym none
-  all_asked g none (Some w) id old new h = some_asked w h (g (shown_by (Some w) id old) (shown_by (Some w) id new))
-
-pub action_asked : (w : Watched) → AsksAllOf w → (a : Action) → is_asked w.kinds a ≡ true
-action_asked w h (Insert made) = h.0
-action_asked w h Delete = h.1
-action_asked w h (Modify edits) = h.2
-
-pub row_asked : (w : Watched) → AsksAllOf w → (u : RowUpdate) → is_row_asked w.kinds u ≡ true
-row_asked w h (New new) = h.0
-row_asked w h (Gone old) = h.1
-row_asked w h (Changed previous new) = h.2
-
 -- ---- the laws
 
 module _ (tables : List Table) (watches : List (Option Watched)) (m : IsMonitorOf tables watches) (all : AsksAll watches) (a b : Rows) (ts : List TouchedRow)
@@ -144,13 +118,13 @@ module _ (tables : List Table) (watches : List (Option Watched)) (m : IsMonitorO
   pub step_mirrored : mirror watches (view watches a) (updates watches ts) ≡ Some (view watches b)
   step_mirrored = step_carried (mirror_at watches) (λ p held. refl) watches (λ p. action_told (watched_at watches p.table) p.id) a b ts
       (λ p. ap (mirror_at watches p (shown_at watches p (get a p)))
-      (all_asked is_asked (update_between (columns_watched watches p.table)) refl (watched_at watches p.table) p.id (get a p) (get b p) (if_some (watched_at watches p.table) _ (λ w e. action_asked w (all p.table w e))))
+      (actions_all (watched_at watches p.table) p.id (get a p) (get b p) (if_some (watched_at watches p.table) _ (λ w e. all p.table w e)))
       ∙ update_leads (columns_watched watches p.table) (shown_at watches p (get a p)) (shown_at watches p (get b p)) (shown_at_data tables watches a m h p) (shown_at_data tables watches b m k p))
       sorted step
 
   pub step_replaced : replace (view watches a) (row_updates watches ts) ≡ Some (view watches b)
   step_replaced = step_carried (λ p. replace_row) (λ p held. refl) watches (λ p. row_update_told (watched_at watches p.table) p.id) a b ts
       (λ p. ap (replace_row (shown_at watches p (get a p)))
-      (all_asked is_row_asked row_update_between refl (watched_at watches p.table) p.id (get a p) (get b p) (if_some (watched_at watches p.table) _ (λ w e. row_asked w (all p.table w e))))
+      (row_updates_all (watched_at watches p.table) p.id (get a p) (get b p) (if_some (watched_at watches p.table) _ (λ w e. all p.table w e)))
       ∙ row_update_leads (columns_watched watches p.table) (shown_at watches p (get a p)) (shown_at watches p (get b p)) (shown_at_data tables watches a m h p) (shown_at_data tables watches b m k p))
       sorted step

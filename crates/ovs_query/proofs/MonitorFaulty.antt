@@ -1,28 +1,31 @@
 -- The fault that reading a monitor gives is the worst that the value has.
-use Rattle.std.proofs.Common.{◌≡◌, ℕ, List, Bool, Option, Some, None, Ok, inl, inr, refl, ap, arith}
-use Rattle.std.specs.Prelude.{codes, ◌⊎◌, slice_get, slice_set}
-use Rattle.serde_json.specs.Data.{Data, Items, no_items, item, Members, no_members, member}
+use Rattle.std.proofs.Common.{◌≡◌, ℕ, List, Bool, true, false, true≢false, cond, Option, Some, None, Ok, Err, inl, inr, refl, sym, ap, subst, ◌∙◌, arith}
+use Rattle.std.specs.Prelude.{codes, ◌⊎◌, slice_set, IfSome}
+use Rattle.serde_json.specs.Data.{Data, Items, Members, no_members, member}
 use Rattle.serde_json.specs.Find.{get, as_array, as_bool, as_object}
 use Rattle.ovs_json.specs.FirstFault.{both}
 use Rattle.ovs_json.specs.Members.{SomeMember}
-use Rattle.ovs_json.specs.Results.{result_map}
+use Rattle.ovs_json.specs.Items.{SpellsEach}
+use Rattle.ovs_json.specs.Results.{◌>>=◌, result_map}
+use Rattle.ovs_json.proofs.Found.{some_is}
+use Rattle.ovs_json.proofs.Steps.{same_value}
 use Rattle.ovs_json.proofs.FaultOrder.{map_worst, both_worst, spelled_worst}
 use Rattle.ovs_types.specs.declared.schema.NamedColumn.{NamedColumn}
 use Rattle.ovs_types.specs.declared.schema.Table.{Table}
 use Rattle.ovs_types.specs.Finding.{table_named}
 use Rattle.ovs_query.specs.declared.clauses.Clause.TheVariants.{Where}
 use Rattle.ovs_query.specs.declared.error.QueryError.{QueryError}
-use Rattle.ovs_query.specs.declared.error.QueryError.TheVariants.{UnknownTable, BadCondition, ManyRequests, BadSelect}
+use Rattle.ovs_query.specs.declared.error.QueryError.TheVariants.{UnknownTable, BadCondition, BadSelect}
 use Rattle.ovs_query.specs.declared.monitor.Notation.{Notation}
 use Rattle.ovs_query.specs.declared.monitor.Watched.{Watched}
 use Rattle.ovs_query.specs.Faults.{Read, rank}
 use Rattle.ovs_query.specs.ConditionReading.{plain, read_condition, all_but_id, read_columns}
-use Rattle.ovs_query.specs.MonitorReading.{read_kinds, read_clause_or, read_clause, read_each_clause, read_clauses, where_in, read_parts, read_request, read_each_request, at_most_one, read_array, read_requests_or, read_requests, read_table, with_table, read_tables, nothing_watched, read_all_tables, read_watches, read_monitor}
-use Rattle.ovs_query.specs.MonitorSpelling.{SpellsKinds}
+use Rattle.ovs_query.specs.MonitorReading.{read_kinds, read_clause_or, read_clause, read_each_clause, read_clauses, where_in, read_parts, monitored, read_request, requests_in, read_each_request, together, repeats, unless_repeated, read_requests, read_table, with_table, read_tables, nothing_watched, read_all_tables, read_watches, read_monitor}
+use Rattle.ovs_query.specs.MonitorSpelling.{SpellsKinds, SpellsRequest}
 use Rattle.ovs_query.specs.QueryFaults.{InOptional, SomeItem, InColumns, InPlain, InCondition}
-use Rattle.ovs_query.specs.MonitorFaults.{InKinds, InClauseOr, InClause, InClauses, InParts, InRequest, InMany, InListed, InRequestsOr, InTable, InMonitor}
-use Rattle.ovs_query.proofs.Items.{worst_as, items_worst}
-use Rattle.ovs_query.proofs.MonitorLaws.{kinds_found, kinds_only, kinds_fault}
+use Rattle.ovs_query.specs.MonitorFaults.{InKinds, InClauseOr, InClause, InClauses, InParts, InRequest, InTogether, InRequests, InTable, InMonitor}
+use Rattle.ovs_query.proofs.Items.{worst_as, items_found, items_only, items_worst}
+use Rattle.ovs_query.proofs.MonitorLaws.{kinds_found, kinds_only, kinds_fault, request_found, request_only}
 use Rattle.ovs_query.proofs.QueryFaulty.{Worst, needed_worst, columns_worst, condition_worst, plain_worst}
 
 kinds_worst : (o : Option Data) → Worst (InKinds o) (read_kinds o)
@@ -35,7 +38,7 @@ module _ (columns : List NamedColumn) where
   clause_by d (Some truth) = λ e none. none
   clause_by d None = map_worst rank (InCondition InPlain columns d) Where (read_condition plain columns d) (condition_worst plain InPlain plain_worst columns d)
 
-  clause_worst : (d : Data) → Worst (InClause columns d) (read_clause columns d)
+  pub clause_worst : (d : Data) → Worst (InClause columns d) (read_clause columns d)
   clause_worst d = clause_by d (as_bool d)
 
   clauses_worst : (o : Option Data) → Worst (InOptional (InClauses columns) o) (read_clauses columns o)
@@ -58,33 +61,63 @@ module _ (notation : Notation) where
     request_worst : (d : Data) → Worst (InRequest notation table.columns d) (read_request notation table d)
     request_worst d =
         needed_worst BadSelect
-        (λ members. result_map (λ p. record { name = table.name; shown = p.0.0; clauses = p.0.1; kinds = p.1 }) (read_parts notation table.columns d))
+        (λ members. result_map (λ p. record { name = table.name; columns = monitored p.1 p.0.0; clauses = p.0.1; kinds = p.1 }) (read_parts notation table.columns d))
         (λ members. InParts notation table.columns d)
-        (λ members. map_worst rank (InParts notation table.columns d) (λ p. record { name = table.name; shown = p.0.0; clauses = p.0.1; kinds = p.1 }) (read_parts notation table.columns d) (parts_worst table.columns d))
+        (λ members. map_worst rank (InParts notation table.columns d) (λ p. record { name = table.name; columns = monitored p.1 p.0.0; clauses = p.0.1; kinds = p.1 }) (read_parts notation table.columns d) (parts_worst table.columns d))
         (as_object d)
 
-    many_worst : (ds : Items) → Worst (InMany ds) (at_most_one ds)
-    many_worst no_items = λ e none. none
-    many_worst (item d no_items) = λ e none. none
-    many_worst (item d (item f ds)) = (refl, λ f h. (let same : rank f ≡ rank ManyRequests = ap rank h in omega arith))
+    module _ (ds : Items) where
+      abbrev Read_as : List Watched → Type 0
+      Read_as ws = read_each_request notation table ds ≡ Ok ws
 
-    listed_worst : (ds : Items) → Worst (InListed notation table.columns ds) (read_array notation table ds)
-    listed_worst ds =
-        map_worst rank (InListed notation table.columns ds) (λ p. slice_get p.0 0) (both rank (read_each_request notation table ds) (at_most_one ds))
-        (both_worst rank (SomeItem (InRequest notation table.columns) ds) (InMany ds) (read_each_request notation table ds) (at_most_one ds)
-        (items_worst (read_request notation table) (InRequest notation table.columns) request_worst ds) (many_worst ds))
+      as_read : (ws : List Watched) → SpellsEach (SpellsRequest notation table) ds ws → Read_as ws
+      as_read ws each = items_only (read_request notation table) (SpellsRequest notation table) (request_only notation table) ds ws each
 
-    requests_by : (d : Data) (o : Option Items) → Worst (InRequestsOr notation table.columns d o) (read_requests_or notation table d o)
-    requests_by d None = map_worst rank (InRequest notation table.columns d) Some (read_request notation table d) (request_worst d)
-    requests_by d (Some ds) = listed_worst ds
+      -- the requests that are read are those in which a column may stand twice
+      twice_there : (ws : List Watched) → Read_as ws → (e : QueryError) → InTogether notation table ds e → (w : Watched) × (together ws ≡ Some w) × (repeats w.columns ≡ true)
+      twice_there ws is e (fault, (us, w, each, at, twice)) =
+          let same : us ≡ ws = same_value ws us (sym is ∙ as_read us each) in
+          (w, subst (λ us. together us ≡ Some w) same at, twice)
+
+      none_there : (ws : List Watched) (o : Option Watched) → together ws ≡ o → Read_as ws → IfSome o (λ w. repeats w.columns ≡ false) → (e : QueryError) → InTogether notation table ds e → ⊥
+      none_there ws None at is once e h =
+          let there = twice_there ws is e h in
+          let no : ◌≡◌ {A = Option Watched} None (Some there.0) = sym at ∙ there.1 in absurd cc
+      none_there ws (Some w) at is once e h =
+          let there = twice_there ws is e h in
+          let same : w ≡ there.0 = some_is w there.0 (sym at ∙ there.1) in
+          true≢false (sym there.2 ∙ ap (λ (v : Watched). repeats v.columns) (sym same) ∙ once)
+
+      together_worst : (ws : List Watched) → Read_as ws → Worst (SomeItem (InRequest notation table.columns) ds) (Ok ws) → (o : Option Watched) → together ws ≡ o
+          → Worst (InRequests notation table ds) (unless_repeated o)
+      together_worst ws is worst None at = λ e h. elim h [ inl has ↦ worst e has | inr has ↦ none_there ws None at is tt e has ]
+      together_worst ws is worst (Some w) at = by (repeats w.columns) refl
+        where
+          by : (b : Bool) → repeats w.columns ≡ b → Worst (InRequests notation table ds) (cond b (Err BadSelect) (Ok (Some w)))
+          by true twice = (
+            inr (refl, (ws, w, items_found (read_request notation table) (SpellsRequest notation table) (request_found notation table) ds ws is, at, twice)),
+            λ f h. elim h [ inl has ↦ absurd (worst f has) | inr has ↦ (let same : rank f ≡ rank BadSelect = ap rank has.0 in omega arith) ],
+          )
+          by false once = λ e h. elim h [ inl has ↦ worst e has | inr has ↦ none_there ws (Some w) at is once e has ]
+
+      all_worst_by : (r : Read (List Watched)) → read_each_request notation table ds ≡ r → Worst (SomeItem (InRequest notation table.columns) ds) r
+          → Worst (InRequests notation table ds) (r >>= λ ws. unless_repeated (together ws))
+      all_worst_by (Ok ws) is worst = together_worst ws is worst (together ws) refl
+      all_worst_by (Err f) is worst = (
+        inl worst.0,
+        λ g h. elim h [ inl has ↦ worst.1 g has | inr has ↦ (let no : ◌≡◌ {A = Read (List Watched)} (Err f) (Ok has.1.0) = sym is ∙ as_read has.1.0 has.1.2 in absurd cc) ],
+      )
+
+      requests_worst : Worst (InRequests notation table ds) (read_each_request notation table ds >>= λ ws. unless_repeated (together ws))
+      requests_worst = all_worst_by (read_each_request notation table ds) refl (items_worst (read_request notation table) (InRequest notation table.columns) request_worst ds)
 
   -- ---- tables
 
   module _ (tables : List Table) where
     table_worst : (name : List ℕ) (d : Data) → Worst (λ e. InTable notation tables e name d) (read_table notation tables name d)
     table_worst name d =
-        needed_worst UnknownTable _ (λ table. InRequestsOr notation table.1.columns d (as_array d))
-        (λ table. map_worst rank (InRequestsOr notation table.1.columns d (as_array d)) (λ w. (table.0, w)) (read_requests notation table.1 d) (requests_by table.1 d (as_array d)))
+        needed_worst UnknownTable _ (λ table. InRequests notation table.1 (requests_in d))
+        (λ table. map_worst rank (InRequests notation table.1 (requests_in d)) (λ w. (table.0, w)) (read_requests notation table.1 d) (requests_worst table.1 (requests_in d)))
         (table_named tables name)
 
     -- of what was asked so far and the tables that are left

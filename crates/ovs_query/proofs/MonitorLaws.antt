@@ -1,11 +1,10 @@
 -- What is read as a monitor is spelled so, and what is spelled so is read.
-use Rattle.std.proofs.Common.{◌≡◌, ℕ, ◌<◌, List, [], ◌∷◌, length, Bool, true, Option, Some, None, Ok, Err, inl, inr, refl, sym, ap, subst, ◌∙◌}
-use Rattle.std.specs.Prelude.{codes, slice_get, slice_set, IfOk}
+use Rattle.std.proofs.Common.{◌≡◌, ℕ, ◌<◌, List, [], ◌∷◌, length, Bool, true, false, cond, Option, Some, None, Ok, Err, refl, sym, ap, subst, ◌∙◌}
+use Rattle.std.specs.Prelude.{codes, slice_set, IfOk, IfSome}
 use Rattle.std.specs.Option.{ok_or}
-use Rattle.serde_json.specs.Data.{Data, array, Items, no_items, item, Members, no_members, member}
+use Rattle.serde_json.specs.Data.{Data, Members, no_members, member}
 use Rattle.serde_json.specs.Find.{get, as_array, as_bool, as_object}
 use Rattle.ovs_json.specs.FirstFault.{both}
-use Rattle.ovs_json.specs.Items.{SpellsEach}
 use Rattle.ovs_json.specs.Results.{◌>>=◌, result_map}
 use Rattle.ovs_json.proofs.Steps.{bind_found, map_found, ok_or_found, same_value, array_of, object_of, boolean_of}
 use Rattle.ovs_json.proofs.FaultOrder.{both_found}
@@ -17,20 +16,20 @@ use Rattle.ovs_types.proofs.Finders.{found_within}
 use Rattle.ovs_query.specs.declared.clauses.Clause.{Clause}
 use Rattle.ovs_query.specs.declared.clauses.Clause.TheVariants.{Always, Where}
 use Rattle.ovs_query.specs.declared.error.QueryError.{QueryError}
-use Rattle.ovs_query.specs.declared.error.QueryError.TheVariants.{UnknownTable, BadCondition, ManyRequests, BadSelect}
+use Rattle.ovs_query.specs.declared.error.QueryError.TheVariants.{UnknownTable, BadCondition, BadSelect}
 use Rattle.ovs_query.specs.declared.monitor.Kinds.{Kinds}
 use Rattle.ovs_query.specs.declared.monitor.Monitor.{Monitor}
 use Rattle.ovs_query.specs.declared.monitor.Notation.{Notation}
 use Rattle.ovs_query.specs.declared.monitor.Watched.{Watched}
 use Rattle.ovs_query.specs.Faults.{Read, rank}
 use Rattle.ovs_query.specs.ConditionReading.{plain, read_condition, all_but_id, read_columns}
-use Rattle.ovs_query.specs.MonitorReading.{read_kind, read_each_kind, all_kinds, read_kinds, read_clause_or, read_clause, read_each_clause, read_clauses, where_in, read_parts, read_request, read_each_request, at_most_one, read_array, read_requests_or, read_requests, read_table, with_table, read_tables, nothing_watched, read_all_tables, read_watches, read_monitor}
+use Rattle.ovs_query.specs.MonitorReading.{read_kind, read_each_kind, all_kinds, read_kinds, read_clause_or, read_clause, read_each_clause, read_clauses, where_in, read_parts, monitored, read_request, requests_in, read_each_request, together, repeats, unless_repeated, read_requests, read_table, with_table, read_tables, nothing_watched, read_all_tables, read_watches, read_monitor}
 use Rattle.ovs_query.specs.MonitorSpelling.{SpellsKind, SpellsKinds, SpellsClause, SpellsClauses, SpellsRequest, SpellsRequests, SpellsTable, SpellsMonitor}
 use Rattle.ovs_query.proofs.Items.{items_found, items_only}
 use Rattle.ovs_query.proofs.SelectLaws.{read_so, columns_found, columns_only, condition_found, condition_only, plain_found, plain_only}
 use Rattle.ovs_query.proofs.TableSteps.{Leads, spelled_watches, leading_watches}
 
-abbrev fine : {X : Type 0} → X → Read X
+abbrev pub fine : {X : Type 0} → X → Read X
 fine x = Ok x
 
 -- ---- kinds
@@ -107,10 +106,10 @@ module _ (columns : List NamedColumn) where
       let p = map_found Where (read_condition plain columns d) c e in
       subst (SpellsClause columns d) (sym p.2) (condition_found plain Spells plain_found columns d p.0 p.1)
 
-  clause_found : (d : Data) (c : Clause) → read_clause columns d ≡ Ok c → SpellsClause columns d c
+  pub clause_found : (d : Data) (c : Clause) → read_clause columns d ≡ Ok c → SpellsClause columns d c
   clause_found d c e = clause_by d (as_bool d) refl c e
 
-  clause_only : (d : Data) (c : Clause) → SpellsClause columns d c → read_clause columns d ≡ Ok c
+  pub clause_only : (d : Data) (c : Clause) → SpellsClause columns d c → read_clause columns d ≡ Ok c
   clause_only d (Always truth) e = rw e refl
   clause_only d (Where c) spelled = ap (λ f. read_clause_or columns d (as_bool f)) spelled.4 ∙ ap (result_map Where) (condition_only plain Spells plain_only columns d c spelled)
 
@@ -126,71 +125,57 @@ module _ (columns : List NamedColumn) where
 
 -- ---- requests
 
+-- where no column stands twice
+unless_found : (asked o : Option Watched) → unless_repeated asked ≡ Ok o → (o ≡ asked) × IfSome o (λ w. repeats w.columns ≡ false)
+unless_found None o e = let same : o ≡ None = same_value None o e in (same, subst (λ o. IfSome o (λ w. repeats w.columns ≡ false)) (sym same) tt)
+unless_found (Some w) o e = by (repeats w.columns) refl e
+  where
+    by : (b : Bool) → repeats w.columns ≡ b → cond b (Err BadSelect) (fine (Some w)) ≡ Ok o → (o ≡ Some w) × IfSome o (λ w. repeats w.columns ≡ false)
+    by true twice e = absurd cc
+    by false once e = let same : o ≡ Some w = same_value (Some w) o e in (same, subst (λ o. IfSome o (λ w. repeats w.columns ≡ false)) (sym same) once)
+
+unless_only : (o : Option Watched) → IfSome o (λ w. repeats w.columns ≡ false) → unless_repeated o ≡ Ok o
+unless_only None once = refl
+unless_only (Some w) once = ap (λ b. cond b (Err BadSelect) (fine (Some w))) once
+
 module _ (notation : Notation) (table : Table) where
-  request_found : (d : Data) (w : Watched) → read_request notation table d ≡ Ok w → SpellsRequest notation table d w
+  pub request_found : (d : Data) (w : Watched) → read_request notation table d ≡ Ok w → SpellsRequest notation table d w
   request_found d w e =
       let columns = table.columns in
       let members = bind_found (ok_or (as_object d) BadSelect) _ w e in
-      let p = map_found (λ p. record { name = table.name; shown = p.0.0; clauses = p.0.1; kinds = p.1 }) (read_parts notation columns d) w members.2 in
+      let p = map_found (λ p. record { name = table.name; columns = monitored p.1 p.0.0; clauses = p.0.1; kinds = p.1 }) (read_parts notation columns d) w members.2 in
       let q = both_found rank (both rank (read_columns BadSelect (all_but_id columns) columns (get (codes "columns") d)) (read_clauses columns (where_in notation d))) (read_kinds (get (codes "select") d)) p.0 p.1 in
       let r = both_found rank (read_columns BadSelect (all_but_id columns) columns (get (codes "columns") d)) (read_clauses columns (where_in notation d)) p.0.0 q.0 in
       subst (SpellsRequest notation table d) (sym p.2) (
         members.0,
         object_of d members.0 (ok_or_found (as_object d) BadSelect members.0 members.1),
         refl,
-        columns_found BadSelect columns (all_but_id columns) (get (codes "columns") d) p.0.0.0 r.0,
+        (p.0.0.0, columns_found BadSelect columns (all_but_id columns) (get (codes "columns") d) p.0.0.0 r.0, refl),
         clauses_found columns (where_in notation d) p.0.0.1 r.1,
         kinds_found (get (codes "select") d) p.0.1 q.1,
       )
 
-  request_only : (d : Data) (w : Watched) → SpellsRequest notation table d w → read_request notation table d ≡ Ok w
-  request_only d w (fields, is, name, shown, clauses, kinds) =
-      ap (λ o. ok_or o BadSelect >>= λ members. result_map (λ p. record { name = table.name; shown = p.0.0; clauses = p.0.1; kinds = p.1 }) (read_parts notation table.columns d)) (ap as_object is)
+  pub request_only : (d : Data) (w : Watched) → SpellsRequest notation table d w → read_request notation table d ≡ Ok w
+  request_only d w (fields, is, name, (listed, shown, columns), clauses, kinds) =
+      ap (λ o. ok_or o BadSelect >>= λ members. result_map (λ p. record { name = table.name; columns = monitored p.1 p.0.0; clauses = p.0.1; kinds = p.1 }) (read_parts notation table.columns d)) (ap as_object is)
       ∙ rw (
-        columns_only BadSelect table.columns (all_but_id table.columns) (get (codes "columns") d) w.shown shown,
+        columns_only BadSelect table.columns (all_but_id table.columns) (get (codes "columns") d) listed shown,
         clauses_only table.columns (where_in notation d) w.clauses clauses,
         kinds_only (get (codes "select") d) w.kinds kinds,
         ← name,
+        ← columns,
       ) refl
 
-  -- the request of an array, or none
-  abbrev Listed : Items → Option Watched → Type 0
-  Listed ds None = ds ≡ no_items
-  Listed ds (Some w) = (request : Data) × (ds ≡ item request no_items) × SpellsRequest notation table request w
-
-  one_listed : (d : Data) (ws : List Watched) (o : Option Watched) → o ≡ slice_get ws 0 → SpellsEach (SpellsRequest notation table) (item d no_items) ws → Listed (item d no_items) o
-  one_listed d [] o is each = absurd each
-  one_listed d (w ∷ ws) o is each = subst (Listed (item d no_items)) (sym is) (d, refl, each.0)
-
-  listed_found : (ds : Items) (o : Option Watched) → read_array notation table ds ≡ Ok o → Listed ds o
-  listed_found no_items o e = subst (Listed no_items) (sym (same_value None o e)) refl
-  listed_found (item d no_items) o e =
-      let p = map_found (λ p. slice_get p.0 0) (both rank (read_each_request notation table (item d no_items)) (at_most_one (item d no_items))) o e in
-      let q = both_found rank (read_each_request notation table (item d no_items)) (at_most_one (item d no_items)) p.0 p.1 in
-      one_listed d p.0.0 o p.2 (items_found (read_request notation table) (SpellsRequest notation table) request_found (item d no_items) p.0.0 q.0)
-  listed_found (item d (item f ds)) o e =
-      let all = item d (item f ds) in
-      let p = map_found (λ p. slice_get p.0 0) (both rank (read_each_request notation table all) (at_most_one all)) o e in
-      let q = both_found rank (read_each_request notation table all) (at_most_one all) p.0 p.1 in
-      let many : ◌≡◌ {A = Read (Unit {0})} (Err ManyRequests) (Ok p.0.1) = q.1 in absurd cc
-
-  listed_spells : (d : Data) (ds : Items) (o : Option Watched) → d ≡ array ds → Listed ds o → SpellsRequests notation table d o
-  listed_spells d ds None is none = is ∙ ap array none
-  listed_spells d ds (Some w) is (request, one, spelled) = inr (request, is ∙ ap array one, spelled)
-
-  requests_by : (d : Data) (a : Option Items) → as_array d ≡ a → (o : Option Watched) → read_requests_or notation table d a ≡ Ok o → SpellsRequests notation table d o
-  requests_by d None is o e =
-      let p = map_found Some (read_request notation table d) o e in
-      subst (SpellsRequests notation table d) (sym p.2) (inl (request_found d p.0 p.1))
-  requests_by d (Some ds) is o e = listed_spells d ds o (array_of d ds is) (listed_found ds o e)
-
   requests_found : (d : Data) (o : Option Watched) → read_requests notation table d ≡ Ok o → SpellsRequests notation table d o
-  requests_found d o e = requests_by d (as_array d) refl o e
+  requests_found d o e =
+      let all = bind_found (read_each_request notation table (requests_in d)) (λ ws. unless_repeated (together ws)) o e in
+      let kept = unless_found (together all.0) o all.2 in
+      (all.0, items_found (read_request notation table) (SpellsRequest notation table) request_found (requests_in d) all.0 all.1, kept.0, kept.1)
 
   requests_only : (d : Data) (o : Option Watched) → SpellsRequests notation table d o → read_requests notation table d ≡ Ok o
-  requests_only d None e = rw e refl
-  requests_only d (Some w) (inl spelled) = ap (λ f. read_requests_or notation table d (as_array f)) spelled.1 ∙ ap (result_map Some) (request_only d w spelled)
-  requests_only d (Some w) (inr (request, is, spelled)) = rw (is, request_only request w spelled) refl
+  requests_only d o (ws, each, is, once) =
+      ap (λ r. r >>= λ ws. unless_repeated (together ws)) (items_only (read_request notation table) (SpellsRequest notation table) request_only (requests_in d) ws each)
+      ∙ ap unless_repeated (sym is) ∙ unless_only o once
 
 -- ---- tables
 

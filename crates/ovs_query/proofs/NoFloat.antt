@@ -16,15 +16,19 @@ use Rattle.ovs_rows.specs.declared.change.Action.TheVariants.{Insert, Delete, Mo
 use Rattle.ovs_rows.specs.RowKey.{place_cmp}
 use Rattle.ovs_rows.specs.Row.{Rows}
 use Rattle.ovs_rows.specs.ChangeWriting.{beside_default, as_edited, cell_member, cell_members, insert_json, modify_json, action_json, with_some}
-use Rattle.ovs_rows.specs.Writing.{with_member, object_of, column_member}
+use Rattle.ovs_rows.specs.Writing.{with_member, object_of}
 use Rattle.ovs_rows.proofs.Writings.{none, put_no_float, fold_no_float}
+use Rattle.ovs_query.specs.declared.monitor.Kind.{Kind}
+use Rattle.ovs_query.specs.declared.monitor.Kind.TheVariants as kinds
+use Rattle.ovs_query.specs.declared.monitor.Monitored.{Monitored}
 use Rattle.ovs_query.specs.declared.monitor.Notation.{Notation}
 use Rattle.ovs_query.specs.declared.monitor.Notation.TheVariants.{Update, Update2, Update3}
 use Rattle.ovs_query.specs.declared.monitor.Watched.{Watched}
 use Rattle.ovs_query.specs.RowUpdates.{RowUpdate, New, Gone, Changed}
 use Rattle.ovs_query.specs.Projected.{shown_columns}
-use Rattle.ovs_query.specs.Updates.{first_updates, first_row_updates}
-use Rattle.ovs_query.specs.UpdateWriting.{whole_json, row_update_json, first_json, rows_by_id, table_member, update_member, update_members, updates_json, initial_json}
+use Rattle.ovs_query.specs.Updates.{told_edits, first_updates, first_row_updates}
+use Rattle.ovs_query.specs.View.{parts_of, shown_of}
+use Rattle.ovs_query.specs.UpdateWriting.{whole_json, row_update_json, first_row_json, first_json, told_action_json, first_action_json, rows_by_id, table_member, update_member, update_members, updates_json, initial_json}
 use Rattle.ovs_query.proofs.Members.{one_more}
 
 option_no_float : (o : Option (List ℕ × Data)) (ms : Members) → IfSome o (λ m. has_float m.1 ≡ false) → members_have_float ms ≡ false → members_have_float (with_some ms o) ≡ false
@@ -44,8 +48,8 @@ cell_no_float c (Some x) = has_float-datum x
 cells_no_float : {X : Type 0} (cell : NamedColumn → X → Option Datum) (cs : List NamedColumn) (xs : List X) → has_float (object_of (cell_members cell cs xs)) ≡ false
 cells_no_float cell cs xs = some_no_float (λ p. cell_member p.0 (cell p.0 p.1)) (λ p. cell_no_float p.0 (cell p.0 p.1)) (zip cs xs) no_members refl
 
-whole_no_float : (cs : List NamedColumn) (xs : List Datum) → has_float (whole_json cs xs) ≡ false
-whole_no_float cs xs = fold_no_float column_member (λ c. has_float-datum c.1) (zip cs xs) no_members refl
+whole_no_float : (kind : Kind) (ms : List Monitored) (xs : List Datum) → has_float (whole_json kind ms xs) ≡ false
+whole_no_float kind ms xs = cells_no_float as_edited (shown_columns (parts_of ms)) (told_edits kind ms (map Some xs))
 
 pub action_no_float : (cs : List NamedColumn) (a : Action) → has_float (action_json cs a) ≡ false
 action_no_float cs (Insert made) = none (has_float (insert_json cs made)) false (cells_no_float beside_default cs made) refl
@@ -57,31 +61,45 @@ first_no_float cs (Insert made) = none (has_float (insert_json cs made)) false (
 first_no_float cs Delete = refl
 first_no_float cs (Modify edits) = action_no_float cs (Modify edits)
 
-pub row_update_no_float : (cs : List NamedColumn) (u : RowUpdate) → has_float (row_update_json cs u) ≡ false
-row_update_no_float cs (New new) = none (has_float (whole_json cs new)) false (whole_no_float cs new) refl
-row_update_no_float cs (Gone old) = none (has_float (whole_json cs old)) false (whole_no_float cs old) refl
-row_update_no_float cs (Changed previous new) =
-    put_no_float (codes "old") (modify_json cs previous) (put (codes "new") (whole_json cs new) no_members) (cells_no_float as_edited cs previous)
-    (put_no_float (codes "new") (whole_json cs new) no_members (whole_no_float cs new) refl)
+pub told_no_float : (w : Watched) (a : Action) → has_float (told_action_json w a) ≡ false
+told_no_float w a = action_no_float (shown_columns (shown_of w)) a
+
+first_told_no_float : (w : Watched) (a : Action) → has_float (first_action_json w a) ≡ false
+first_told_no_float w a = first_no_float (shown_columns (shown_of w)) a
+
+pub row_update_no_float : (w : Watched) (u : RowUpdate) → has_float (row_update_json w u) ≡ false
+row_update_no_float w (New new) = none (has_float (whole_json kinds.Insert w.columns new)) false (whole_no_float kinds.Insert w.columns new) refl
+row_update_no_float w (Gone old) = none (has_float (whole_json kinds.Delete w.columns old)) false (whole_no_float kinds.Delete w.columns old) refl
+row_update_no_float w (Changed previous new) =
+    let cs = shown_columns (shown_of w) in
+    let told = told_edits kinds.Modify w.columns previous in
+    let whole = whole_json kinds.Modify w.columns new in
+    put_no_float (codes "old") (modify_json cs told) (put (codes "new") whole no_members) (cells_no_float as_edited cs told)
+    (put_no_float (codes "new") whole no_members (whole_no_float kinds.Modify w.columns new) refl)
+
+first_row_no_float : (w : Watched) (u : RowUpdate) → has_float (first_row_json w u) ≡ false
+first_row_no_float w (New new) = none (has_float (whole_json kinds.Initial w.columns new)) false (whole_no_float kinds.Initial w.columns new) refl
+first_row_no_float w (Gone old) = row_update_no_float w (Gone old)
+first_row_no_float w (Changed previous new) = row_update_no_float w (Changed previous new)
 
 -- ---- all tables
 
-module _ {U : Type 0} (json : List NamedColumn → U → Data) (each : (cs : List NamedColumn) (u : U) → has_float (json cs u) ≡ false) where
-  rows_no_float : (name : List ℕ) (cs : List NamedColumn) (es : List (RowKey × U)) → IfSome {T = List ℕ × Data} (option_map (λ d. (name, d)) (rows_by_id (map (update_member json cs) es))) (λ m. has_float m.1 ≡ false)
-  rows_no_float name cs [] = tt
-  rows_no_float name cs (e ∷ es) = fold_no_float (update_member json cs) (λ f. each cs f.1) (e ∷ es) no_members refl
+module _ {U : Type 0} (json : Watched → U → Data) (each : (w : Watched) (u : U) → has_float (json w u) ≡ false) where
+  rows_no_float : (name : List ℕ) (w : Watched) (es : List (RowKey × U)) → IfSome {T = List ℕ × Data} (option_map (λ d. (name, d)) (rows_by_id (map (update_member json w) es))) (λ m. has_float m.1 ≡ false)
+  rows_no_float name w [] = tt
+  rows_no_float name w (e ∷ es) = fold_no_float (update_member json w) (λ f. each w f.1) (e ∷ es) no_members refl
 
   table_no_float : (us : FinMap place_cmp U) (t : ℕ × Option Watched) → IfSome (table_member (update_members json us) t) (λ m. has_float m.1 ≡ false)
   table_no_float us (n, None) = tt
-  table_no_float us (n, Some w) = rows_no_float w.name (shown_columns w.shown) (filter (λ e. e.0.table == n) (entries us))
+  table_no_float us (n, Some w) = rows_no_float w.name w (filter (λ e. e.0.table == n) (entries us))
 
   pub updates_no_float : (watches : List (Option Watched)) (us : FinMap place_cmp U) → has_float (updates_json json watches us) ≡ false
   updates_no_float watches us = some_no_float (table_member (update_members json us)) (table_no_float us) (enumerate_from 0 watches) no_members refl
 
 pub initial_no_float : (notation : Notation) (watches : List (Option Watched)) (rows : Rows) → has_float (initial_json notation watches rows) ≡ false
-initial_no_float Update watches rows = updates_no_float row_update_json row_update_no_float watches (first_row_updates watches rows)
-initial_no_float Update2 watches rows = updates_no_float first_json first_no_float watches (first_updates watches rows)
-initial_no_float Update3 watches rows = updates_no_float first_json first_no_float watches (first_updates watches rows)
+initial_no_float Update watches rows = updates_no_float first_row_json first_row_no_float watches (first_row_updates watches rows)
+initial_no_float Update2 watches rows = updates_no_float first_action_json first_told_no_float watches (first_updates watches rows)
+initial_no_float Update3 watches rows = updates_no_float first_action_json first_told_no_float watches (first_updates watches rows)
 
 -- ---- a value that a call gives
 

@@ -22,7 +22,7 @@ use Rattle.ovs_query.specs.declared.projected.Projected.{Projected}
 use Rattle.ovs_query.specs.declared.monitor.Watched.{Watched}
 use Rattle.ovs_query.specs.Projected.{id_column, shown_datum, shown_data, shown_columns}
 use Rattle.ovs_query.specs.Conditions.{admits}
-use Rattle.ovs_query.specs.View.{watched_at, columns_of, columns_watched, presented, shown_by, shown_at, IsField, IsShownOf, IsMonitorOf}
+use Rattle.ovs_query.specs.View.{watched_at, shown_of, columns_of, columns_watched, presented, shown_by, shown_at, IsField, IsShownOf, IsMonitorOf}
 
 id_kind : (n : ℕ) (x : Atom) → contains x (Uuid n ∷ []) ≡ true → kind_of x ≡ kinds.Uuid
 id_kind n (Integer z) h = absurd (true≢false (sym h))
@@ -53,14 +53,14 @@ pub shown_are_data : (columns : List NamedColumn) (id : ℕ) (row : Row) → Are
 shown_are_data columns id row h [] all = tt
 shown_are_data columns id row h (s ∷ shown) all = (field_datum columns id row h s.field s.named all.0, shown_are_data columns id row h shown all.1)
 
-presented_data : (columns : List NamedColumn) (id : ℕ) (row : Row) → AreDataOf columns row.columns → (w : Watched) → AllByRecursion (IsShownOf columns) w.shown → IfSome (presented id row w) (AreDataOf (shown_columns w.shown))
+presented_data : (columns : List NamedColumn) (id : ℕ) (row : Row) → AreDataOf columns row.columns → (w : Watched) → AllByRecursion (IsShownOf columns) (shown_of w) → IfSome (presented id row w) (AreDataOf (shown_columns (shown_of w)))
 presented_data columns id row h w all = by (admits w.clauses id row)
   where
-    by : (b : Bool) → IfSome (cond b (Some (shown_data w.shown id row)) None) (AreDataOf (shown_columns w.shown))
-    by true = shown_are_data columns id row h w.shown all
+    by : (b : Bool) → IfSome (cond b (Some (shown_data (shown_of w) id row)) None) (AreDataOf (shown_columns (shown_of w)))
+    by true = shown_are_data columns id row h (shown_of w) all
     by false = tt
 
-shown_by_data : (columns : List NamedColumn) (id : ℕ) (watched : Option Watched) (row : Option Row) → IfSome watched (λ w. AllByRecursion (IsShownOf columns) w.shown) → IfSome row (λ r. AreDataOf columns r.columns)
+shown_by_data : (columns : List NamedColumn) (id : ℕ) (watched : Option Watched) (row : Option Row) → IfSome watched (λ w. AllByRecursion (IsShownOf columns) (shown_of w)) → IfSome row (λ r. AreDataOf columns r.columns)
     → IfSome (shown_by watched id row) (AreDataOf (columns_of watched))
 shown_by_data columns id watched None all h = tt
 shown_by_data columns id None (Some row) all h = tt

@@ -1,7 +1,7 @@
--- What is shown of a row, written whole; and the touched rows of a table that is watched.
+-- The touched rows of a table that is watched.
 use Rattle.std.proofs.Common.{◌≡◌, ℕ, ◌<◌, length, get_or, List, [], ◌∷◌, true, Option, Some, None, refl, sym, ap, subst, ◌∙◌, map}
 use Rattle.std.specs.Prelude.{◌==◌, IfSome}
-use Rattle.std.specs.List.{AllByRecursion, zip}
+use Rattle.std.specs.List.{AllByRecursion}
 use Rattle.std.specs.Option.{option_and_then}
 use Rattle.std.proofs.lemmas.Bool.{eqb-true}
 use Rattle.std.proofs.lemmas.Option.{slice_get-get_or}
@@ -9,27 +9,14 @@ use Rattle.ovs_types.specs.declared.schema.Table.{Table}
 use Rattle.ovs_rows.specs.declared.row.Row.{Row}
 use Rattle.ovs_rows.specs.After.{TouchedRow}
 use Rattle.ovs_rows.specs.Row.{AreDataOf, columns_at}
-use Rattle.ovs_rows.specs.Writing.{object_of, column_member}
 use Rattle.ovs_rows.proofs.Writings.{filter_kept}
 use Rattle.ovs_query.specs.declared.monitor.Notation.{Notation}
 use Rattle.ovs_query.specs.declared.monitor.Notation.TheVariants.{Update, Update2, Update3}
 use Rattle.ovs_query.specs.declared.monitor.Watched.{Watched}
-use Rattle.ovs_query.specs.declared.projected.Projected.{Projected}
-use Rattle.ovs_query.specs.RowWriting.{shown_member, shown_json}
-use Rattle.ovs_query.specs.Projected.{shown_data, shown_columns}
 use Rattle.ovs_query.specs.Telling.{AreShown, IsTellable, AreTellable, touched_in}
 use Rattle.ovs_query.specs.Updates.{IsRowOf, AreTouchedOf}
-use Rattle.ovs_query.specs.UpdateWriting.{whole_json}
-use Rattle.ovs_query.specs.View.{IsShownOf, IsMonitorOf}
+use Rattle.ovs_query.specs.View.{IsShownOf, IsMonitorOf, shown_of}
 use Rattle.ovs_query.proofs.ShownData.{if_some, shown_are_data}
-
-members_whole : (id : ℕ) (row : Row) (shown : List Projected) → map (shown_member id row) shown ≡ map column_member (zip (shown_columns shown) (shown_data shown id row))
-members_whole id row [] = refl
-members_whole id row (s ∷ shown) = ap (λ ms. shown_member id row s ∷ ms) (members_whole id row shown)
-
--- a row's shown columns under their names are all of its columns that are shown
-pub shown_whole : (shown : List Projected) (id : ℕ) (row : Row) → shown_json shown id row ≡ whole_json (shown_columns shown) (shown_data shown id row)
-shown_whole shown id row = ap object_of (members_whole id row shown)
 
 -- ---- touched rows
 
@@ -39,10 +26,10 @@ row_tellable Update w t h = tt
 row_tellable Update2 w t h = h
 row_tellable Update3 w t h = h
 
-module _ (tables : List Table) (number : ℕ) (w : Watched) (all : AllByRecursion (IsShownOf (columns_at tables number)) w.shown) where
-  one_shown : (n id : ℕ) (row : Option Row) → n ≡ number → IsRowOf (columns_at tables n) row → AreShown w id row
+module _ (tables : List Table) (number : ℕ) (w : Watched) (all : AllByRecursion (IsShownOf (columns_at tables number)) (shown_of w)) where
+  pub one_shown : (n id : ℕ) (row : Option Row) → n ≡ number → IsRowOf (columns_at tables n) row → AreShown w id row
   one_shown n id None at h = tt
-  one_shown n id (Some row) at h = shown_are_data (columns_at tables number) id row (subst (λ m. AreDataOf (columns_at tables m) row.columns) at h) w.shown all
+  one_shown n id (Some row) at h = shown_are_data (columns_at tables number) id row (subst (λ m. AreDataOf (columns_at tables m) row.columns) at h) (shown_of w) all
 
   each_tellable : (notation : Notation) (ts : List TouchedRow) → AreTouchedOf tables ts → AllByRecursion (λ t. (t.place.table == number) ≡ true → IsTellable notation w t) ts
   each_tellable notation [] h = tt

@@ -8,24 +8,21 @@ use Rattle.std.specs.declared.cmp.Ordering.TheVariants.{Less}
 use Rattle.std.specs.FinMap.{entries}
 use Rattle.std.proofs.lemmas.Bool.{eqb-true}
 use Rattle.serde_json.specs.Data.{Data}
-use Rattle.ovs_types.specs.declared.schema.NamedColumn.{NamedColumn}
 use Rattle.ovs_types.specs.Id.{id_text}
 use Rattle.ovs_rows.specs.declared.row_key.RowKey.{RowKey}
 use Rattle.ovs_rows.specs.declared.row.Row.{Row}
 use Rattle.ovs_rows.specs.After.{TouchedRow}
 use Rattle.ovs_rows.specs.Applied.{AscendByPlace}
-use Rattle.ovs_rows.specs.ChangeWriting.{action_json}
 use Rattle.ovs_rows.specs.RowKey.{place_cmp, place_total, place_exact}
 use Rattle.ovs_rows.specs.Writing.{object_of}
 use Rattle.ovs_data.proofs.Maps.{entries-from_ordered}
 use Rattle.ovs_query.specs.declared.monitor.Notation.{Notation}
 use Rattle.ovs_query.specs.declared.monitor.Notation.TheVariants.{Update, Update2}
 use Rattle.ovs_query.specs.declared.monitor.Watched.{Watched}
-use Rattle.ovs_query.specs.Projected.{shown_columns}
 use Rattle.ovs_query.specs.View.{watched_at}
 use Rattle.ovs_query.specs.Telling.{told_members, touched_in}
 use Rattle.ovs_query.specs.Updates.{action_told, row_update_told, listed, by_place, told_of, told_by_place, updates, row_updates}
-use Rattle.ovs_query.specs.UpdateWriting.{row_update_json, table_member, tables_json, update_member, update_members, update1_json, update2_json}
+use Rattle.ovs_query.specs.UpdateWriting.{row_update_json, told_action_json, table_member, tables_json, update_member, update_members, update1_json, update2_json}
 
 -- ---- tables of which the same is written
 
@@ -70,45 +67,53 @@ module _ {U : Type 0} (f : TouchedRow → Option U) where
   pub entries-by_place : (ts : List TouchedRow) → AscendByPlace ts → entries (by_place f ts) ≡ listed f ts
   entries-by_place ts sorted = entries-from_ordered place_total place_exact (listed f ts) (listed_ascend ts sorted)
 
-module _ {U : Type 0} (json : List NamedColumn → U → Data) (told : Option Watched → ℕ → Option Row → Option Row → Option U) (watches : List (Option Watched)) (number : ℕ) (w : Watched) where
+module _ {U : Type 0} (json : Watched → U → Data) (f g : TouchedRow → Option U) (number : ℕ) (w : Watched) (same : (t : TouchedRow) → t.place.table ≡ number → f t ≡ g t) where
   -- what is written of a row of the table
-  abbrev pub written : TouchedRow → Option (List ℕ × Data)
-  written t = option_map (λ d. (id_text t.place.id, d)) (option_map (json (shown_columns w.shown)) (told (Some w) t.place.id t.before t.after))
+  abbrev pub row_written : TouchedRow → Option (List ℕ × Data)
+  row_written t = option_map (λ d. (id_text t.place.id, d)) (option_map (json w) (g t))
 
   abbrev members_of : List (RowKey × U) → List (List ℕ × Data)
-  members_of es = map (update_member json (shown_columns w.shown)) (filter (λ e. e.0.table == number) es)
+  members_of es = map (update_member json w) (filter (λ e. e.0.table == number) es)
 
   more_in : (t : TouchedRow) (es : List (RowKey × U)) → (t.place.table == number) ≡ true → (u : Option U)
-      → members_of (cons_option (option_map (λ a. (t.place, a)) u) es) ≡ cons_option (option_map (λ d. (id_text t.place.id, d)) (option_map (json (shown_columns w.shown)) u)) (members_of es)
+      → members_of (cons_option (option_map (λ a. (t.place, a)) u) es) ≡ cons_option (option_map (λ d. (id_text t.place.id, d)) (option_map (json w) u)) (members_of es)
   more_in t es at None = refl
-  more_in t es at (Some a) = ap (λ b. map (update_member json (shown_columns w.shown)) (cond b ((t.place, a) ∷ filter (λ e. e.0.table == number) es) (filter (λ e. e.0.table == number) es))) at
+  more_in t es at (Some a) = ap (λ b. map (update_member json w) (cond b ((t.place, a) ∷ filter (λ e. e.0.table == number) es) (filter (λ e. e.0.table == number) es))) at
 
   more_outside : (t : TouchedRow) (es : List (RowKey × U)) → (t.place.table == number) ≡ false → (u : Option U) → members_of (cons_option (option_map (λ a. (t.place, a)) u) es) ≡ members_of es
   more_outside t es at None = refl
-  more_outside t es at (Some a) = ap (λ b. map (update_member json (shown_columns w.shown)) (cond b ((t.place, a) ∷ filter (λ e. e.0.table == number) es) (filter (λ e. e.0.table == number) es))) at
+  more_outside t es at (Some a) = ap (λ b. map (update_member json w) (cond b ((t.place, a) ∷ filter (λ e. e.0.table == number) es) (filter (λ e. e.0.table == number) es))) at
 
-  module _ (is : watched_at watches number ≡ Some w) where
-    in_table : (ts : List TouchedRow) → members_of (listed (told_of told watches) ts) ≡ filter_map written (touched_in number ts)
-    in_table [] = refl
-    in_table (t ∷ ts) = by (t.place.table == number) refl (in_table ts)
-      where
-        by : (b : Bool) → (t.place.table == number) ≡ b → members_of (listed (told_of told watches) ts) ≡ filter_map written (touched_in number ts)
-            → members_of (cons_option (option_map (λ a. (t.place, a)) (told_of told watches t)) (listed (told_of told watches) ts))
-            ≡ filter_map written (cond b (t ∷ touched_in number ts) (touched_in number ts))
-        by true at rest =
-            let same : told_of told watches t ≡ told (Some w) t.place.id t.before t.after = ap (λ o. told o t.place.id t.before t.after) (ap (watched_at watches) (eqb-true t.place.table number at) ∙ is) in
-            ap (λ u. members_of (cons_option (option_map (λ a. (t.place, a)) u) (listed (told_of told watches) ts))) same
-            ∙ more_in t (listed (told_of told watches) ts) at (told (Some w) t.place.id t.before t.after)
-            ∙ ap (cons_option (option_map (λ d. (id_text t.place.id, d)) (option_map (json (shown_columns w.shown)) (told (Some w) t.place.id t.before t.after)))) rest
-        by false at rest = more_outside t (listed (told_of told watches) ts) at (told_of told watches t) ∙ rest
+  in_table : (ts : List TouchedRow) → members_of (listed f ts) ≡ filter_map row_written (touched_in number ts)
+  in_table [] = refl
+  in_table (t ∷ ts) = by (t.place.table == number) refl (in_table ts)
+    where
+      by : (b : Bool) → (t.place.table == number) ≡ b → members_of (listed f ts) ≡ filter_map row_written (touched_in number ts)
+          → members_of (cons_option (option_map (λ a. (t.place, a)) (f t)) (listed f ts))
+          ≡ filter_map row_written (cond b (t ∷ touched_in number ts) (touched_in number ts))
+      by true at rest =
+          ap (λ u. members_of (cons_option (option_map (λ a. (t.place, a)) u) (listed f ts))) (same t (eqb-true t.place.table number at))
+          ∙ more_in t (listed f ts) at (g t)
+          ∙ ap (cons_option (option_map (λ d. (id_text t.place.id, d)) (option_map (json w) (g t)))) rest
+      by false at rest = more_outside t (listed f ts) at (f t) ∙ rest
 
-    pub members_told : (ts : List TouchedRow) → AscendByPlace ts → update_members json (told_by_place told watches ts) number w ≡ filter_map written (touched_in number ts)
-    members_told ts sorted = ap members_of (entries-by_place (told_of told watches) ts sorted) ∙ in_table ts
+  pub members_listed : (ts : List TouchedRow) → AscendByPlace ts → update_members json (by_place f ts) number w ≡ filter_map row_written (touched_in number ts)
+  members_listed ts sorted = ap members_of (entries-by_place f ts sorted) ∙ in_table ts
+
+module _ {U : Type 0} (json : Watched → U → Data) (told : Option Watched → ℕ → Option Row → Option Row → Option U) (watches : List (Option Watched)) (number : ℕ) (w : Watched) where
+  -- the same by what is watched of the table
+  abbrev pub written : TouchedRow → Option (List ℕ × Data)
+  written t = option_map (λ d. (id_text t.place.id, d)) (option_map (json w) (told (Some w) t.place.id t.before t.after))
+
+  pub members_told : watched_at watches number ≡ Some w → (ts : List TouchedRow) → AscendByPlace ts → update_members json (told_by_place told watches ts) number w ≡ filter_map written (touched_in number ts)
+  members_told is =
+      members_listed json (told_of told watches) (λ t. told (Some w) t.place.id t.before t.after) number w
+      (λ t at. ap (λ o. told o t.place.id t.before t.after) (ap (watched_at watches) at ∙ is))
 
 -- ---- what is written of a step
 
 pub step_told2 : (watches : List (Option Watched)) (ts : List TouchedRow) → AscendByPlace ts → tables_json (told_members Update2 ts) watches ≡ update2_json watches (updates watches ts)
-step_told2 watches ts sorted = sym (tables_alike _ _ watches (λ n w is. members_told action_json action_told watches n w is ts sorted))
+step_told2 watches ts sorted = sym (tables_alike _ _ watches (λ n w is. members_told told_action_json action_told watches n w is ts sorted))
 
 pub step_told1 : (watches : List (Option Watched)) (ts : List TouchedRow) → AscendByPlace ts → tables_json (told_members Update ts) watches ≡ update1_json watches (row_updates watches ts)
 step_told1 watches ts sorted = sym (tables_alike _ _ watches (λ n w is. members_told row_update_json row_update_told watches n w is ts sorted))

@@ -33,12 +33,12 @@ use Rattle.ovs_query.specs.declared.monitor.Notation.TheVariants.{Update2}
 use Rattle.ovs_query.specs.declared.monitor.Watched.{Watched}
 use Rattle.ovs_query.specs.Projected.{shown_columns}
 use Rattle.ovs_query.specs.Telling.{touched_in, IsSpelledRow, IsSpelledTable, AreSpelledTables}
-use Rattle.ovs_query.specs.Updates.{IsStep, AsksAllOf, update_between, is_asked, action_told, listed, told_of, updates}
-use Rattle.ovs_query.specs.UpdateWriting.{rows_by_id, table_member, update_member, update_members, update2_json}
-use Rattle.ovs_query.specs.View.{view, columns_of, columns_watched, shown_at, watched_at}
+use Rattle.ovs_query.specs.Updates.{IsStep, AsksAllOf, update_between, action_told, listed, told_of, updates}
+use Rattle.ovs_query.specs.UpdateWriting.{rows_by_id, table_member, told_action_json, update_member, update_members, update2_json}
+use Rattle.ovs_query.specs.View.{view, shown_of, columns_of, columns_watched, shown_at, watched_at}
 use Rattle.ovs_query.specs.Whole.{IsWatchedWhole, IsWhole}
 use Rattle.ovs_query.proofs.Between.{step_related}
-use Rattle.ovs_query.proofs.Mirroring.{all_asked, action_asked}
+use Rattle.ovs_query.proofs.Asking.{actions_all}
 use Rattle.ovs_query.proofs.ShownData.{if_some}
 use Rattle.ovs_query.proofs.Telling.{entries-by_place}
 use Rattle.ovs_query.proofs.Touching.{get-view}
@@ -113,8 +113,8 @@ module _ (tables : List Table) (watches : List (Option Watched)) (whole : IsWhol
         let columns = columns_alike tables watches whole.watched p.table in
         let told = step_related action_told (λ p x y u. u ≡ update_between (columns_watched watches p.table) x y)
         (λ p o. sym (nothing_told (columns_watched watches p.table) o)) watches old new ts sorted step
-        (λ p. all_asked is_asked (update_between (columns_watched watches p.table)) refl (watched_at watches p.table) p.id (get old p) (get new p)
-        (if_some (watched_at watches p.table) _ (λ w e. action_asked w (asked_at tables watches whole.watched p.table w e)))) p in
+        (λ p. actions_all (watched_at watches p.table) p.id (get old p) (get new p)
+        (if_some (watched_at watches p.table) _ (λ w e. asked_at tables watches whole.watched p.table w e))) p in
         told
         ∙ ap (λ cs. update_between cs (get (view watches old) p) (get (view watches new) p)) columns
         ∙ ap (λ x. update_between (columns_at tables p.table) x (get (view watches new) p)) (get-view watches old p ∙ row_shown old before p (get old p) refl)
@@ -127,25 +127,25 @@ module _ (tables : List Table) (watches : List (Option Watched)) (whole : IsWhol
 
 -- ---- what is written of them
 
-rows_alike : (cs : List NamedColumn) (es : List (RowKey × Action)) → rows_by_id (map (update_member changes.action_json cs) es) ≡ changes.updates_json cs es
-rows_alike cs [] = refl
-rows_alike cs (e ∷ es) = refl
+rows_alike : (w : Watched) (es : List (RowKey × Action)) → rows_by_id (map (update_member told_action_json w) es) ≡ changes.updates_json (shown_columns (shown_of w)) es
+rows_alike w [] = refl
+rows_alike w (e ∷ es) = refl
 
 tables_alike : (change : Actions) (n : ℕ) (ts : List Table) (ws : List (Option Watched)) → AllZip IsWatched ts ws
-    → filter_map (table_member (update_members changes.action_json change)) (enumerate_from n ws) ≡ filter_map (changes.table_update change) (enumerate_from n ts)
+    → filter_map (table_member (update_members told_action_json change)) (enumerate_from n ws) ≡ filter_map (changes.table_update change) (enumerate_from n ts)
 tables_alike change n [] [] all = refl
 tables_alike change n [] (o ∷ ws) all = absurd all
 tables_alike change n (t ∷ ts) [] all = absurd all
 tables_alike change n (t ∷ ts) (o ∷ ws) all =
-    ap (λ m. cons_option m (filter_map (table_member (update_members changes.action_json change)) (enumerate_from (n + 1) ws))) one
+    ap (λ m. cons_option m (filter_map (table_member (update_members told_action_json change)) (enumerate_from (n + 1) ws))) one
     ∙ ap (cons_option (changes.table_update change (n, t))) (tables_alike change (n + 1) ts ws all.1)
   where
-    one : table_member (update_members changes.action_json change) (n, o) ≡ changes.table_update change (n, t)
+    one : table_member (update_members told_action_json change) (n, o) ≡ changes.table_update change (n, t)
     one =
         let w = all.0.0 in
         let es = changes.actions_in n change in
-        ap (λ o. table_member (update_members changes.action_json change) (n, o)) all.0.1
-        ∙ ap (option_map {T = Data} {U = List ℕ × Data} (λ d. (w.name, d))) (rows_alike (shown_columns w.shown) es)
+        ap (λ o. table_member (update_members told_action_json change) (n, o)) all.0.1
+        ∙ ap (option_map {T = Data} {U = List ℕ × Data} (λ d. (w.name, d))) (rows_alike w es)
         ∙ ap (λ cs. option_map {T = Data} {U = List ℕ × Data} (λ d. (w.name, d)) (changes.updates_json cs es)) all.0.2.columns
         ∙ ap (λ name. option_map {T = Data} {U = List ℕ × Data} (λ d. (name, d)) (changes.updates_json t.columns es)) all.0.2.name
 
@@ -156,15 +156,15 @@ json_whole tables watches whole change = ap object_of (tables_alike change 0 tab
 
 module _ (watches : List (Option Watched)) (number : ℕ) (w : Watched) (is : watched_at watches number ≡ Some w) where
   abbrev AreOwn : List (RowKey × Action) → Type 0
-  AreOwn es = AllByRecursion (changes.IsSpelledUpdate (shown_columns w.shown)) (filter (λ e. e.0.table == number) es)
+  AreOwn es = AllByRecursion (changes.IsSpelledUpdate (shown_columns (shown_of w))) (filter (λ e. e.0.table == number) es)
 
-  with_own : (t : TouchedRow) (b : Bool) → (t.place.table == number) ≡ b → (a : Option Action) → (b ≡ true → IfSome a (λ a. changes.IsSpelledUpdate (shown_columns w.shown) (t.place, a)))
+  with_own : (t : TouchedRow) (b : Bool) → (t.place.table == number) ≡ b → (a : Option Action) → (b ≡ true → IfSome a (λ a. changes.IsSpelledUpdate (shown_columns (shown_of w)) (t.place, a)))
       → (es : List (RowKey × Action)) → AreOwn es → AreOwn (cons_option (option_map (λ a. (t.place, a)) a) es)
   with_own t b at None spelled es own = own
   with_own t true at (Some a) spelled es own =
-      subst (λ b. AllByRecursion (changes.IsSpelledUpdate (shown_columns w.shown)) (cond b ((t.place, a) ∷ filter (λ e. e.0.table == number) es) (filter (λ e. e.0.table == number) es))) (sym at) (spelled refl, own)
+      subst (λ b. AllByRecursion (changes.IsSpelledUpdate (shown_columns (shown_of w))) (cond b ((t.place, a) ∷ filter (λ e. e.0.table == number) es) (filter (λ e. e.0.table == number) es))) (sym at) (spelled refl, own)
   with_own t false at (Some a) spelled es own =
-      subst (λ b. AllByRecursion (changes.IsSpelledUpdate (shown_columns w.shown)) (cond b ((t.place, a) ∷ filter (λ e. e.0.table == number) es) (filter (λ e. e.0.table == number) es))) (sym at) own
+      subst (λ b. AllByRecursion (changes.IsSpelledUpdate (shown_columns (shown_of w))) (cond b ((t.place, a) ∷ filter (λ e. e.0.table == number) es) (filter (λ e. e.0.table == number) es))) (sym at) own
 
   own_spelled : (ts : List TouchedRow) → AllByRecursion (IsSpelledRow Update2 w) (touched_in number ts) → AreOwn (listed (told_of action_told watches) ts)
   own_spelled [] all = tt
@@ -174,7 +174,7 @@ module _ (watches : List (Option Watched)) (number : ℕ) (w : Watched) (is : wa
           → AreOwn (listed (told_of action_told watches) (t ∷ ts))
       by others true at all =
           let same : told_of action_told watches t ≡ action_told (Some w) t.place.id t.before t.after = ap (λ o. action_told o t.place.id t.before t.after) (ap (watched_at watches) (eqb-true t.place.table number at) ∙ is) in
-          with_own t true at (told_of action_told watches t) (λ e. subst (λ a. IfSome a (λ a. changes.IsSpelledUpdate (shown_columns w.shown) (t.place, a))) (sym same) all.0)
+          with_own t true at (told_of action_told watches t) (λ e. subst (λ a. IfSome a (λ a. changes.IsSpelledUpdate (shown_columns (shown_of w)) (t.place, a))) (sym same) all.0)
           (listed (told_of action_told watches) ts) (others all.1)
       by others false at all =
           with_own t false at (told_of action_told watches t) (λ e. absurd cc) (listed (told_of action_told watches) ts) (others all)
@@ -192,7 +192,7 @@ module _ (watches : List (Option Watched)) (touched : List TouchedRow) (sorted :
       let own = own_spelled watches n w is touched (subst (λ o. IsSpelledTable Update2 touched (n, o)) all.0.1 spelled.0) in
       let table : AllByRecursion (changes.IsSpelledUpdate t.columns) (changes.actions_in n (updates watches touched))
       = subst (λ cs. AllByRecursion (changes.IsSpelledUpdate cs) (changes.actions_in n (updates watches touched))) all.0.2.columns
-      (subst (λ es. AllByRecursion (changes.IsSpelledUpdate (shown_columns w.shown)) (filter (λ e. e.0.table == n) es)) (sym (entries-by_place (told_of action_told watches) touched sorted)) own) in (
+      (subst (λ es. AllByRecursion (changes.IsSpelledUpdate (shown_columns (shown_of w))) (filter (λ e. e.0.table == n) es)) (sym (entries-by_place (told_of action_told watches) touched sorted)) own) in (
         (ascending.0, table),
         each_spelled (n + 1) ts ws (λ j u e. (let moved : n + suc j ≡ n + 1 + j = omega arith in subst (λ m. watched_at watches m ≡ Some u) moved (at (suc j) u e))) all.1 ascending.1 spelled.1,
       )

@@ -9,6 +9,10 @@ pub mod Whole
 pub mod UpdateWriting
 pub mod UpdateMeaning
 pub mod Telling
+pub mod Turned
+pub mod TurnedMeaning
+pub mod Earlier
+pub mod Changing
 pub mod Faults
 pub mod ConditionReading
 pub mod SelectReading
@@ -16,5 +20,7 @@ pub mod SelectSpelling
 pub mod QueryFaults
 pub mod Answer
 pub mod MonitorReading
+pub mod NewConditions
 pub mod MonitorSpelling
 pub mod MonitorFaults
+pub mod NewConditionsSpelling

@@ -1,17 +1,19 @@
 -- Why a JSON value isn't the requests of a monitor: which faults it has, wherever they stand in it.
-use Rattle.std.specs.Prelude.{◌≡◌, ◌⊎◌, ℕ, List, Bool, Option, Some, None, codes}
-use Rattle.serde_json.specs.Data.{Data, Items, no_items, item}
+use Rattle.std.specs.Prelude.{◌≡◌, ◌⊎◌, ℕ, List, Bool, true, Option, Some, None, codes}
+use Rattle.serde_json.specs.Data.{Data, Items}
 use Rattle.serde_json.specs.Find.{get, as_array, as_bool, as_object}
+use Rattle.ovs_json.specs.Items.{SpellsEach}
 use Rattle.ovs_json.specs.Members.{SomeMember}
 use Rattle.ovs_types.specs.declared.schema.NamedColumn.{NamedColumn}
 use Rattle.ovs_types.specs.declared.schema.Table.{Table}
 use Rattle.ovs_types.specs.Finding.{table_named}
 use Rattle.ovs_query.specs.declared.error.QueryError.{QueryError}
-use Rattle.ovs_query.specs.declared.error.QueryError.TheVariants.{UnknownTable, BadCondition, ManyRequests, BadSelect}
+use Rattle.ovs_query.specs.declared.error.QueryError.TheVariants.{UnknownTable, BadCondition, BadSelect}
 use Rattle.ovs_query.specs.declared.monitor.Kinds.{Kinds}
 use Rattle.ovs_query.specs.declared.monitor.Notation.{Notation}
-use Rattle.ovs_query.specs.MonitorReading.{where_in}
-use Rattle.ovs_query.specs.MonitorSpelling.{SpellsKinds}
+use Rattle.ovs_query.specs.declared.monitor.Watched.{Watched}
+use Rattle.ovs_query.specs.MonitorReading.{where_in, requests_in, together, repeats}
+use Rattle.ovs_query.specs.MonitorSpelling.{SpellsKinds, SpellsRequest}
 use Rattle.ovs_query.specs.QueryFaults.{InNeeded, InOptional, SomeItem, InColumns, InPlain, InCondition}
 
 -- "select" that stands for no kinds of updates
@@ -39,24 +41,18 @@ InParts notation columns d e =
 abbrev pub InRequest : Notation → List NamedColumn → Data → QueryError → Type 0
 InRequest notation columns d = InNeeded BadSelect (λ members. InParts notation columns d) (as_object d)
 
--- an array of more than one request
-abbrev pub InMany : Items → QueryError → Type 0
-InMany no_items e = ⊥
-InMany (item d no_items) e = ⊥
-InMany (item d (item f ds)) e = e ≡ ManyRequests
+-- requests that are read one by one, and in which a column stands twice
+abbrev pub InTogether : Notation → Table → Items → QueryError → Type 0
+InTogether notation table ds e =
+    (e ≡ BadSelect) × ((ws : List Watched) × (w : Watched) × SpellsEach (SpellsRequest notation table) ds ws × (together ws ≡ Some w) × (repeats w.columns ≡ true))
 
--- an array of requests, of which each counts, and which has one at most
-abbrev pub InListed : Notation → List NamedColumn → Items → QueryError → Type 0
-InListed notation columns ds e = SomeItem (InRequest notation columns) ds e ⊎ InMany ds e
-
--- a request alone, or in an array
-abbrev pub InRequestsOr : Notation → List NamedColumn → Data → Option Items → QueryError → Type 0
-InRequestsOr notation columns d None = InRequest notation columns d
-InRequestsOr notation columns d (Some ds) = InListed notation columns ds
+-- requests of a table, of which each counts
+abbrev pub InRequests : Notation → Table → Items → QueryError → Type 0
+InRequests notation table ds e = SomeItem (InRequest notation table.columns) ds e ⊎ InTogether notation table ds e
 
 -- what is asked under a name, which is a table's
 abbrev pub InTable : Notation → List Table → QueryError → List ℕ → Data → Type 0
-InTable notation tables e name d = InNeeded UnknownTable (λ table. InRequestsOr notation table.1.columns d (as_array d)) (table_named tables name) e
+InTable notation tables e name d = InNeeded UnknownTable (λ table. InRequests notation table.1 (requests_in d)) (table_named tables name) e
 
 -- an object of tables' names, each with what is asked of the table
 abbrev pub InMonitor : Notation → List Table → Data → QueryError → Type 0

@@ -1,5 +1,6 @@
 -- The monitors that JSON values stand for, with the first fault of those that stand for none (ovsdb-server(7)).
-use Rattle.std.specs.Prelude.{ℕ, List, [], Bool, true, Option, Some, None, Ok, Err, codes, map, slice_get, slice_set}
+use Rattle.std.specs.Prelude.{ℕ, List, [], ◌∷◌, ◌++◌, ◌==◌, ◌||◌, Bool, true, false, Option, Some, None, Ok, Err, if◌then◌else◌, codes, fold, map, slice_set}
+use Rattle.std.specs.List.{list_any}
 use Rattle.std.specs.Option.{ok_or}
 use Rattle.serde_json.specs.Data.{Data, Items, no_items, item, Members, no_members, member}
 use Rattle.serde_json.specs.Find.{get, as_array, as_bool, as_object}
@@ -10,12 +11,15 @@ use Rattle.ovs_types.specs.declared.schema.Table.{Table}
 use Rattle.ovs_types.specs.Finding.{table_named}
 use Rattle.ovs_query.specs.declared.clauses.Clause.{Clause}
 use Rattle.ovs_query.specs.declared.clauses.Clause.TheVariants.{Always, Where}
-use Rattle.ovs_query.specs.declared.error.QueryError.TheVariants.{UnknownTable, BadCondition, ManyRequests, BadSelect}
+use Rattle.ovs_query.specs.declared.error.QueryError.TheVariants.{UnknownTable, BadCondition, BadSelect}
 use Rattle.ovs_query.specs.declared.monitor.Kinds.{Kinds}
 use Rattle.ovs_query.specs.declared.monitor.Monitor.{Monitor}
+use Rattle.ovs_query.specs.declared.monitor.Monitored.{Monitored}
 use Rattle.ovs_query.specs.declared.monitor.Notation.{Notation}
 use Rattle.ovs_query.specs.declared.monitor.Notation.TheVariants.{Update, Update2, Update3}
 use Rattle.ovs_query.specs.declared.monitor.Watched.{Watched}
+use Rattle.ovs_query.specs.declared.projected.Field.{Field}
+use Rattle.ovs_query.specs.declared.projected.Field.TheVariants.{Id, Version, Column as Numbered}
 use Rattle.ovs_query.specs.declared.projected.Projected.{Projected}
 use Rattle.ovs_query.specs.Faults.{Read, rank}
 use Rattle.ovs_query.specs.ConditionReading.{read_items, plain, read_condition, all_but_id, read_columns}
@@ -78,33 +82,68 @@ read_parts notation columns d =
     both rank (both rank (read_columns BadSelect (all_but_id columns) columns (get (codes "columns") d)) (read_clauses columns (where_in notation d)))
     (read_kinds (get (codes "select") d))
 
--- what is asked of a table
+-- columns that are told of in updates of these kinds
+abbrev pub monitored : Kinds → List Projected → List Monitored
+monitored asked shown = map (λ s. record { part = s; kinds = asked }) shown
+
+-- what a request asks of a table
 abbrev pub read_request : Notation → Table → Data → Read Watched
 read_request notation table d = do
   members ← ok_or (as_object d) BadSelect
-  result_map (λ p. record { name = table.name; shown = p.0.0; clauses = p.0.1; kinds = p.1 }) (read_parts notation table.columns d)
+  result_map (λ p. record { name = table.name; columns = monitored p.1 p.0.0; clauses = p.0.1; kinds = p.1 }) (read_parts notation table.columns d)
+
+-- a request stands alone, or in an array
+abbrev pub requests_or : Data → Option Items → Items
+requests_or d None = item d no_items
+requests_or d (Some ds) = ds
+
+abbrev pub requests_in : Data → Items
+requests_in d = requests_or d (as_array d)
 
 -- the requests of an array, all of which are looked at
 abbrev pub read_each_request : Notation → Table → Items → Read (List Watched)
 read_each_request notation table = read_items (read_request notation table) (Ok [])
 
--- an array has one request at most
-abbrev pub at_most_one : Items → Read (Unit {0})
-at_most_one no_items = Ok tt
-at_most_one (item d no_items) = Ok tt
-at_most_one (item d (item e ds)) = Err ManyRequests
+-- ---- requests of one table
 
--- the request of an array, if it has one, or the first of the faults of all its requests and its own
-abbrev pub read_array : Notation → Table → Items → Read (Option Watched)
-read_array notation table ds = result_map (λ p. slice_get p.0 0) (both rank (read_each_request notation table ds) (at_most_one ds))
+-- the kinds that either asks for
+abbrev pub either : Kinds → Kinds → Kinds
+either j k = record { initial = j.initial || k.initial; insert = j.insert || k.insert; delete = j.delete || k.delete; modify = j.modify || k.modify }
 
--- a request stands alone, or in an array
-abbrev pub read_requests_or : Notation → Table → Data → Option Items → Read (Option Watched)
-read_requests_or notation table d None = result_map Some (read_request notation table d)
-read_requests_or notation table d (Some ds) = read_array notation table ds
+-- a table of which one request more is made: its columns are shown too, and the "where" of the first stays
+abbrev pub with_request : Watched → Watched → Watched
+with_request w more = record { name = w.name; columns = w.columns ++ more.columns; clauses = w.clauses; kinds = either w.kinds more.kinds }
 
+abbrev pub with_next : Option Watched → Watched → Option Watched
+with_next None next = Some next
+with_next (Some w) next = Some (with_request w next)
+
+-- all requests of a table, if there are any
+abbrev pub together : List Watched → Option Watched
+together ws = fold with_next None ws
+
+abbrev pub is_same_field : Field → Field → Bool
+is_same_field Id Id = true
+is_same_field Version Version = true
+is_same_field (Numbered j) (Numbered k) = j == k
+is_same_field f g = false
+
+abbrev pub has_field : Field → List Monitored → Bool
+has_field field = list_any (λ m. is_same_field field m.part.field)
+
+-- whether a column stands twice
+abbrev pub repeats : List Monitored → Bool
+repeats [] = false
+repeats (m ∷ ms) = has_field m.part.field ms || repeats ms
+
+-- no column may stand twice
+abbrev pub unless_repeated : Option Watched → Read (Option Watched)
+unless_repeated None = Ok None
+unless_repeated (Some w) = if repeats w.columns then Err BadSelect else Ok (Some w)
+
+-- what is asked of a table, if anything is
 abbrev pub read_requests : Notation → Table → Data → Read (Option Watched)
-read_requests notation table d = read_requests_or notation table d (as_array d)
+read_requests notation table d = read_each_request notation table (requests_in d) >>= λ ws. unless_repeated (together ws)
 
 -- ---- tables
 

@@ -1,7 +1,7 @@
 -- The JSON values that stand for the requests of a monitor (RFC 7047 section 4.1.5; ovsdb-server(7)).
-use Rattle.std.specs.Prelude.{◌≡◌, ◌<◌, ◌⊎◌, ◌==◌, ℕ, List, [], Bool, true, Option, Some, None, codes, filter, length, option_and_then, slice_get}
+use Rattle.std.specs.Prelude.{◌≡◌, ◌<◌, ◌==◌, ℕ, List, [], Bool, true, false, Option, Some, None, IfSome, codes, filter, length, option_and_then, slice_get}
 use Rattle.std.specs.List.{last_or}
-use Rattle.serde_json.specs.Data.{Data, boolean, array, object, Items, no_items, item, Members}
+use Rattle.serde_json.specs.Data.{Data, boolean, array, object, Items, Members}
 use Rattle.serde_json.specs.Find.{get}
 use Rattle.ovs_json.specs.Items.{SpellsEach}
 use Rattle.ovs_json.specs.Members.{EachSpells}
@@ -15,8 +15,9 @@ use Rattle.ovs_query.specs.declared.monitor.Kinds.{Kinds}
 use Rattle.ovs_query.specs.declared.monitor.Monitor.{Monitor}
 use Rattle.ovs_query.specs.declared.monitor.Notation.{Notation}
 use Rattle.ovs_query.specs.declared.monitor.Watched.{Watched}
+use Rattle.ovs_query.specs.declared.projected.Projected.{Projected}
 use Rattle.ovs_query.specs.ConditionReading.{all_but_id}
-use Rattle.ovs_query.specs.MonitorReading.{all_kinds, where_in}
+use Rattle.ovs_query.specs.MonitorReading.{all_kinds, where_in, monitored, requests_in, together, repeats}
 use Rattle.ovs_query.specs.SelectSpelling.{SpellsColumns, SpellsCondition}
 use Rattle.ovs_query.specs.View.{watched_at}
 
@@ -42,23 +43,23 @@ abbrev pub SpellsClauses : List NamedColumn → Option Data → List Clause → 
 SpellsClauses columns None clauses = clauses ≡ []
 SpellsClauses columns (Some d) clauses = (ds : Items) × (d ≡ array ds) × SpellsEach (SpellsClause columns) ds clauses
 
--- a request of a table: an object of "columns", by default all but `_uuid`, "where" and "select"
+-- a request of a table: an object of "columns", by default all but `_uuid`, "where" and "select", which is for all of its columns
 abbrev pub SpellsRequest : Notation → Table → Data → Watched → Type 0
 SpellsRequest notation table d w =
-    (members : Members) × (d ≡ object members) × (w.name ≡ table.name) × SpellsColumns (all_but_id table.columns) table.columns (get (codes "columns") d) w.shown
+    (members : Members) × (d ≡ object members) × (w.name ≡ table.name) × ((shown : List Projected) × SpellsColumns (all_but_id table.columns) table.columns (get (codes "columns") d) shown × (w.columns ≡ monitored w.kinds shown))
     × SpellsClauses table.columns (where_in notation d) w.clauses × SpellsKinds (get (codes "select") d) w.kinds
 
--- a request alone or in an array, or an array of none
+-- a request alone, or an array of any number of them, in which no column stands twice
 abbrev pub SpellsRequests : Notation → Table → Data → Option Watched → Type 0
-SpellsRequests notation table d None = d ≡ array no_items
-SpellsRequests notation table d (Some w) = SpellsRequest notation table d w ⊎ ((request : Data) × (d ≡ array (item request no_items)) × SpellsRequest notation table request w)
+SpellsRequests notation table d asked =
+    (ws : List Watched) × SpellsEach (SpellsRequest notation table) (requests_in d) ws × (asked ≡ together ws) × IfSome asked (λ w. repeats w.columns ≡ false)
 
 -- a member names a table and spells what is watched of it
 abbrev pub SpellsTable : Notation → List Table → List ℕ → Data → ℕ × Option Watched → Type 0
 SpellsTable notation tables name d asked = (table : Table) × (table_named tables name ≡ Some (asked.0, table)) × SpellsRequests notation table d asked.1
 
 -- what is last asked of the table of this number. In an object that was parsed no name stands twice; of other members the last counts
-abbrev pub last_for : ℕ → List (ℕ × Option Watched) → Option Watched
+abbrev pub last_for : {X : Type 0} → ℕ → List (ℕ × Option X) → Option X
 last_for number all = option_and_then (λ asked. asked.1) (last_or None (filter (λ asked. asked.0 == number) all))
 
 -- the members ask for tables, and of each table of the schema that is watched which is asked of it

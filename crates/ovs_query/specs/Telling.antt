@@ -3,31 +3,28 @@ use Rattle.std.specs.Prelude.{◌≡◌, ℕ, List, [], Option, Some, None, IfSo
 use Rattle.std.specs.List.{AllByRecursion, enumerate_from, filter_map}
 use Rattle.serde_json.specs.Data.{Data, Members, no_members, member, object}
 use Rattle.ovs_data.specs.declared.datum.Datum.{Datum}
-use Rattle.ovs_types.specs.declared.schema.NamedColumn.{NamedColumn}
 use Rattle.ovs_types.specs.Id.{id_text}
 use Rattle.ovs_rows.specs.declared.row_key.RowKey.{RowKey}
-use Rattle.ovs_rows.specs.declared.change.Action.TheVariants.{Insert}
 use Rattle.ovs_rows.specs.declared.row.Row.{Row}
 use Rattle.ovs_rows.specs.After.{TouchedRow}
-use Rattle.ovs_rows.specs.ChangeWriting.{action_json, IsSpelledAction, IsSpelledUpdate}
+use Rattle.ovs_rows.specs.ChangeWriting.{IsSpelledAction, IsSpelledUpdate}
 use Rattle.ovs_rows.specs.Row.{Rows, AreDataOf}
 use Rattle.ovs_rows.specs.Writing.{rows_in}
 use Rattle.ovs_query.specs.declared.monitor.Notation.{Notation}
 use Rattle.ovs_query.specs.declared.monitor.Notation.TheVariants.{Update, Update2, Update3}
 use Rattle.ovs_query.specs.declared.monitor.Watched.{Watched}
 use Rattle.ovs_query.specs.Projected.{shown_columns, shown_data}
-use Rattle.ovs_query.specs.RowUpdates.{New}
-use Rattle.ovs_query.specs.View.{presented, watched_at}
-use Rattle.ovs_query.specs.Updates.{action_told, row_update_told}
-use Rattle.ovs_query.specs.UpdateWriting.{row_update_json, first_json}
+use Rattle.ovs_query.specs.View.{presented, shown_of, watched_at}
+use Rattle.ovs_query.specs.Updates.{action_told, row_update_told, first_action, first_row_update}
+use Rattle.ovs_query.specs.UpdateWriting.{row_update_json, first_row_json, told_action_json, first_action_json}
 
 -- ---- a step
 
 -- what is written of a touched row of a table that is watched so
 abbrev pub told_json : Notation → Watched → TouchedRow → Option Data
-told_json Update w t = option_map (row_update_json (shown_columns w.shown)) (row_update_told (Some w) t.place.id t.before t.after)
-told_json Update2 w t = option_map (action_json (shown_columns w.shown)) (action_told (Some w) t.place.id t.before t.after)
-told_json Update3 w t = option_map (action_json (shown_columns w.shown)) (action_told (Some w) t.place.id t.before t.after)
+told_json Update w t = option_map (row_update_json w) (row_update_told (Some w) t.place.id t.before t.after)
+told_json Update2 w t = option_map (told_action_json w) (action_told (Some w) t.place.id t.before t.after)
+told_json Update3 w t = option_map (told_action_json w) (action_told (Some w) t.place.id t.before t.after)
 
 -- its id and that
 abbrev pub told_member : Notation → Watched → TouchedRow → Option (List ℕ × Data)
@@ -42,7 +39,7 @@ told_members notation ts number w = filter_map (told_member notation w) (touched
 
 -- what is shown of a row, if it is there, are data of the shown columns
 abbrev pub AreShown : Watched → ℕ → Option Row → Type 0
-AreShown w id row = IfSome row (λ r. AreDataOf (shown_columns w.shown) (shown_data w.shown id r))
+AreShown w id row = IfSome row (λ r. AreDataOf (shown_columns (shown_of w)) (shown_data (shown_of w) id r))
 
 -- the same of a touched row where differences are told, which are between data of a column
 abbrev pub IsTellable : Notation → Watched → TouchedRow → Type 0
@@ -59,14 +56,14 @@ AreTellable notation watches ts = (number : ℕ) (w : Watched) → watched_at wa
 -- where changes are told, what is written of a touched row stands for its action
 abbrev pub IsSpelledTold : Notation → Watched → TouchedRow → Type 0
 IsSpelledTold Update w t = Unit {0}
-IsSpelledTold Update2 w t = IfSome (action_told (Some w) t.place.id t.before t.after) (IsSpelledAction (shown_columns w.shown))
-IsSpelledTold Update3 w t = IfSome (action_told (Some w) t.place.id t.before t.after) (IsSpelledAction (shown_columns w.shown))
+IsSpelledTold Update2 w t = IfSome (action_told (Some w) t.place.id t.before t.after) (IsSpelledAction (shown_columns (shown_of w)))
+IsSpelledTold Update3 w t = IfSome (action_told (Some w) t.place.id t.before t.after) (IsSpelledAction (shown_columns (shown_of w)))
 
 -- and its id's text for the id
 abbrev pub IsSpelledRow : Notation → Watched → TouchedRow → Type 0
 IsSpelledRow Update w t = Unit {0}
-IsSpelledRow Update2 w t = IfSome (action_told (Some w) t.place.id t.before t.after) (λ a. IsSpelledUpdate (shown_columns w.shown) (t.place, a))
-IsSpelledRow Update3 w t = IfSome (action_told (Some w) t.place.id t.before t.after) (λ a. IsSpelledUpdate (shown_columns w.shown) (t.place, a))
+IsSpelledRow Update2 w t = IfSome (action_told (Some w) t.place.id t.before t.after) (λ a. IsSpelledUpdate (shown_columns (shown_of w)) (t.place, a))
+IsSpelledRow Update3 w t = IfSome (action_told (Some w) t.place.id t.before t.after) (λ a. IsSpelledUpdate (shown_columns (shown_of w)) (t.place, a))
 
 -- the same of the rows of a table, if it is watched, and of all tables
 abbrev pub IsSpelledTable : Notation → List TouchedRow → ℕ × Option Watched → Type 0
@@ -77,14 +74,14 @@ AreSpelledTables notation watches ts = AllByRecursion (IsSpelledTable notation t
 
 -- ---- the first rows
 
-abbrev pub first_row_json : Notation → List NamedColumn → List Datum → Data
-first_row_json Update columns made = row_update_json columns (New made)
-first_row_json Update2 columns made = first_json columns (Insert made)
-first_row_json Update3 columns made = first_json columns (Insert made)
+abbrev pub first_told_json : Notation → Watched → List Datum → Data
+first_told_json Update w shown = first_row_json w (first_row_update w shown)
+first_told_json Update2 w shown = first_action_json w (first_action w shown)
+first_told_json Update3 w shown = first_action_json w (first_action w shown)
 
 -- what is written of a row, if it is shown
 abbrev pub first_json_of : Notation → Watched → ℕ → Row → Option Data
-first_json_of notation w id row = option_map (first_row_json notation (shown_columns w.shown)) (presented id row w)
+first_json_of notation w id row = option_map (first_told_json notation w) (presented id row w)
 
 -- its id and that
 abbrev pub first_member : Notation → Watched → RowKey × Row → Option (List ℕ × Data)

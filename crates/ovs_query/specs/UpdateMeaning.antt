@@ -1,5 +1,5 @@
 -- What updates say of each row, as relations between what was shown and what is shown.
-use Rattle.std.specs.Prelude.{◌≡◌, ◌≢◌, List, [], ◌∷◌, true, Option, Some, None, map, option_map}
+use Rattle.std.specs.Prelude.{◌≡◌, ◌≢◌, List, [], ◌∷◌, Option, Some, None, map, option_map}
 use Rattle.std.specs.FinMap.{FinMap, get}
 use Rattle.ovs_data.specs.declared.datum.Datum.{Datum}
 use Rattle.ovs_types.specs.declared.schema.NamedColumn.{NamedColumn}
@@ -10,7 +10,9 @@ use Rattle.ovs_rows.specs.RowKey.{place_cmp}
 use Rattle.ovs_rows.specs.Row.{Rows}
 use Rattle.ovs_rows.specs.Change.{Actions}
 use Rattle.ovs_rows.specs.DatabaseDifference.{AreEdits}
+use Rattle.ovs_query.specs.declared.monitor.Monitored.{Monitored}
 use Rattle.ovs_query.specs.declared.monitor.Watched.{Watched}
+use Rattle.ovs_query.specs.MonitorReading.{all_kinds}
 use Rattle.ovs_query.specs.RowUpdates.{RowUpdate, New, Gone, Changed}
 use Rattle.ovs_query.specs.View.{view, columns_watched}
 
@@ -59,9 +61,12 @@ AreRowUpdatesBetween watches old new updates = (p : RowKey) → IsRowUpdateBetwe
 
 -- ---- kinds of updates
 
--- the same monitor, asking for all kinds
+-- the same monitor, asking for all kinds of each column
+abbrev pub asking_column : Monitored → Monitored
+asking_column m = record { part = m.part; kinds = all_kinds }
+
 abbrev pub asking_of : Watched → Watched
-asking_of w = record { name = w.name; shown = w.shown; clauses = w.clauses; kinds = record { initial = true; insert = true; delete = true; modify = true } }
+asking_of w = record { name = w.name; columns = map asking_column w.columns; clauses = w.clauses; kinds = all_kinds }
 
 abbrev pub asking_all : List (Option Watched) → List (Option Watched)
 asking_all = map (option_map asking_of)

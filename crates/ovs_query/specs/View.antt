@@ -1,5 +1,5 @@
 -- What a monitor shows of a database: the monitored columns of the rows that match.
-use Rattle.std.specs.Prelude.{◌≡◌, ℕ, List, [], Option, Some, None, if◌then◌else◌, slice_get}
+use Rattle.std.specs.Prelude.{◌≡◌, ℕ, List, [], Option, Some, None, if◌then◌else◌, map, slice_get}
 use Rattle.std.specs.List.{AllByRecursion}
 use Rattle.std.specs.Option.{option_and_then}
 use Rattle.std.specs.FinMap.{FinMap, empty}
@@ -14,6 +14,7 @@ use Rattle.ovs_rows.specs.Combined.{combined}
 use Rattle.ovs_query.specs.declared.projected.Field.{Field}
 use Rattle.ovs_query.specs.declared.projected.Field.TheVariants.{Id, Version, Column as Numbered}
 use Rattle.ovs_query.specs.declared.projected.Projected.{Projected}
+use Rattle.ovs_query.specs.declared.monitor.Monitored.{Monitored}
 use Rattle.ovs_query.specs.declared.monitor.Watched.{Watched}
 use Rattle.ovs_query.specs.Projected.{id_column, shown_data, shown_columns}
 use Rattle.ovs_query.specs.Conditions.{admits}
@@ -26,17 +27,24 @@ View = FinMap place_cmp (List Datum)
 abbrev pub watched_at : List (Option Watched) → ℕ → Option Watched
 watched_at watches number = option_and_then (λ w. w) (slice_get watches number)
 
+-- what is shown of a row
+abbrev pub parts_of : List Monitored → List Projected
+parts_of = map (λ m. m.part)
+
+abbrev pub shown_of : Watched → List Projected
+shown_of w = parts_of w.columns
+
 -- the columns that are shown of a table
 abbrev pub columns_of : Option Watched → List NamedColumn
 columns_of None = []
-columns_of (Some w) = shown_columns w.shown
+columns_of (Some w) = shown_columns (shown_of w)
 
 abbrev pub columns_watched : List (Option Watched) → ℕ → List NamedColumn
 columns_watched watches number = columns_of (watched_at watches number)
 
 -- a row that matches is shown
 abbrev pub presented : ℕ → Row → Watched → Option (List Datum)
-presented id row w = if admits w.clauses id row then Some (shown_data w.shown id row) else None
+presented id row w = if admits w.clauses id row then Some (shown_data (shown_of w) id row) else None
 
 -- what is shown of a row of a table that is watched so, if it stands there
 abbrev pub shown_by : Option Watched → ℕ → Option Row → Option (List Datum)
@@ -63,4 +71,4 @@ IsShownOf columns s = IsField columns s.field s.named
 
 -- a monitor of these tables
 abbrev pub IsMonitorOf : List Table → List (Option Watched) → Type 0
-IsMonitorOf tables watches = (number : ℕ) (w : Watched) → watched_at watches number ≡ Some w → AllByRecursion (IsShownOf (columns_at tables number)) w.shown
+IsMonitorOf tables watches = (number : ℕ) (w : Watched) → watched_at watches number ≡ Some w → AllByRecursion (IsShownOf (columns_at tables number)) (shown_of w)

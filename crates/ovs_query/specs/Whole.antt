@@ -8,12 +8,12 @@ use Rattle.ovs_rows.specs.Row.{AreDataOf}
 use Rattle.ovs_query.specs.declared.monitor.Watched.{Watched}
 use Rattle.ovs_query.specs.Projected.{shown_columns}
 use Rattle.ovs_query.specs.Updates.{AsksAllOf}
-use Rattle.ovs_query.specs.View.{presented}
+use Rattle.ovs_query.specs.View.{presented, shown_of}
 
 -- all kinds of updates of the table's rows are asked for, and of each row all columns are shown
 pub record IsWatchedWhole (t : Table) (w : Watched) : Type 0 where
   pub name : w.name ≡ t.name
-  pub columns : shown_columns w.shown ≡ t.columns
+  pub columns : shown_columns (shown_of w) ≡ t.columns
   pub rows : (id : ℕ) (row : Row) → AreDataOf t.columns row.columns → presented id row w ≡ Some row.columns
   pub kinds : AsksAllOf w
 

@@ -24,10 +24,11 @@ pub enum QueryError {
     /// A name that stands for no id, told where names are read alone.
     #[error("no such name")]
     UnknownName,
-    /// More than one request for a table.
+    /// More than one request for a table. Several are read, so it isn't told.
     #[error("more than one request for a table")]
     ManyRequests,
-    /// Requests that are no object, a request that is none, or columns or kinds of updates in one that are none.
+    /// Requests that are no object, a request that is none, columns or kinds of updates in one that are none, or a column
+    /// that stands twice in the requests of a table.
     #[error("not the requests of a monitor")]
     BadSelect,
     /// An operation without a table's name or conditions, or whose columns are no list of names.

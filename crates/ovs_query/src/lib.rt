@@ -13,7 +13,7 @@ mod transact;
 
 pub use conditions::Conditions;
 pub use error::QueryError;
-pub use monitor::{Monitor, Notation};
+pub use monitor::{EarlierRows, Monitor, NewConditions, Notation};
 pub use select::Select;
-pub use theorems::{monitor_laws, update_laws};
+pub use theorems::{changing_laws, monitor_laws, update_laws};
 pub use transact::{read_only, transact_read};

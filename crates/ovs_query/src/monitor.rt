@@ -11,21 +11,31 @@ ghost use Rattle.ovs_rows.specs.DatabaseDifference.{database_difference};
 ghost use Rattle.ovs_rows.specs.Row.{Rows, AreRowsOf};
 ghost use Rattle.ovs_query.specs.Mirror.{mirror, replace};
 ghost use Rattle.ovs_query.specs.Projected.{shown_data};
-ghost use Rattle.ovs_query.specs.Updates.{updates, row_updates, first_updates, first_row_updates, IsStep, AreTouchedOf, AsksAll, AsksFirst};
+ghost use Rattle.ovs_query.specs.Updates.{asks, updates, row_updates, first_updates, first_row_updates, IsStep, AreTouchedOf, AsksAll, AsksFirst};
 ghost use Rattle.ovs_query.specs.UpdateWriting.{update1_json, update2_json, initial_json};
-ghost use Rattle.ovs_query.specs.View.{shown_by, view as rows_shown, IsMonitorOf};
+ghost use Rattle.ovs_query.specs.View.{shown_by, shown_of, view as rows_shown, IsMonitorOf};
 ghost use Rattle.ovs_query.specs.Whole.{IsWhole};
+ghost use Rattle.ovs_query.specs.Changing.{HaveColumnsOf};
+ghost use Rattle.ovs_query.specs.Earlier.{rows_earlier};
+ghost use Rattle.ovs_query.specs.Turned.{turned, turned_monitor, with_clauses, with_conditions};
 
+mod changing;
+mod earlier;
 mod initial;
+mod new_conditions;
 mod row_update1;
 mod row_update2;
 mod tables;
 mod updates;
 
 use crate::clauses::Clauses;
+use crate::monitor::changing::changed_json;
 use crate::monitor::initial::first_json;
+use crate::monitor::new_conditions::set_conditions;
 use crate::monitor::updates::step_json;
-use crate::projected::ShownColumns;
+use crate::projected::Projected;
+pub use earlier::EarlierRows;
+pub use new_conditions::NewConditions;
 use ovs_rows::{Applied, Database, Row};
 use ovs_types::{NoMemory, RowId, Text};
 use serde_json::Value;
@@ -42,24 +52,109 @@ pub struct Kinds {
     pub(crate) modify: bool,
 }
 
+/// One of the kinds of updates.
+#[derive(Clone, Copy, Debug, PartialEq, Eq)]
+pub enum Kind {
+    /// A row that is there at first.
+    Initial,
+    /// A row that comes.
+    Insert,
+    /// A row that goes.
+    Delete,
+    /// A row that stays, with other data.
+    Modify,
+}
+
+impl Kinds {
+    /// Whether updates of this kind are asked for.
+    pub(crate) fn asks(self, kind: Kind) -> bool
+        ensures value { result ≡ asks self kind }
+    {
+        match kind {
+            Kind::Initial => self.initial,
+            Kind::Insert => self.insert,
+            Kind::Delete => self.delete,
+            Kind::Modify => self.modify,
+        }
+    }
+}
+
+/// A column that is monitored: what is shown of a row, and the kinds of updates that tell of it.
+#[derive(Drop)]
+pub struct Monitored {
+    pub(crate) part: Projected,
+    pub(crate) kinds: Kinds,
+}
+
+/// The columns of a table that are monitored.
+#[derive(Drop)]
+pub struct MonitoredColumns {
+    items: Vec<Monitored>,
+}
+
+impl Model for MonitoredColumns {
+    ghost use Rattle.std.specs.Prelude.{List};
+    ghost use Rattle.ovs_query.specs.declared.monitor.Monitored.{Monitored};
+
+    ghost Value = { List Monitored };
+
+    ghost view = { λ m. m.items.items };
+}
+
+impl MonitoredColumns {
+    /// The list of these.
+    pub(crate) fn new(items: Vec<Monitored>) -> MonitoredColumns
+        ensures value { result ≡ items.items }
+    {
+        MonitoredColumns { items }
+    }
+
+    /// The list.
+    pub(crate) fn as_slice(&self) -> &[Monitored]
+        ensures value { result.now ≡ self.now }
+    {
+        &self.items
+    }
+
+    /// The list.
+    pub(crate) fn into_vec(self) -> Vec<Monitored>
+        ensures value { result.items ≡ self }
+    {
+        self.items
+    }
+}
+
 /// What is watched of a table.
 #[derive(Drop)]
 pub struct Watched {
     /// The table's name.
     pub(crate) name: Text,
-    pub(crate) shown: ShownColumns,
+    pub(crate) columns: MonitoredColumns,
     pub(crate) clauses: Clauses,
+    /// Those that are asked for of any column; a row that goes is told by them alone.
     pub(crate) kinds: Kinds,
 }
 
 impl Watched {
     /// The row, if it is shown.
     pub(crate) fn presented<'a>(&self, id: RowId, row: Option<&'a Row>) -> Option<&'a Row>
-        ensures value { option_map (λ r. shown_data self.now.shown id r.now) result ≡ shown_by (Some self.now) id (option_copied row.entry) }
+        ensures value { option_map (λ r. shown_data (shown_of self.now) id r.now) result ≡ shown_by (Some self.now) id (option_copied row.entry) }
+    {
+        self.presented_by(&self.clauses, id, row)
+    }
+
+    /// The row, if it is shown where these clauses hold.
+    pub(crate) fn presented_by<'a>(
+        &self,
+        clauses: &Clauses,
+        id: RowId,
+        row: Option<&'a Row>,
+    ) -> Option<&'a Row>
+        ensures value { option_map (λ r. shown_data (shown_of self.now) id r.now) result ≡ shown_by (Some (with_clauses clauses.now self.now)) id (option_copied row.entry) }
     {
         match row {
             Some(row) => {
-                if self.clauses.admits(id, row) {
+                if clauses.admits(id, row) {
                     Some(row)
                 } else {
                     None
@@ -86,6 +181,14 @@ impl Model for Watches {
 }
 
 impl Watches {
+    /// Lets new clauses hold of the tables whose conditions change.
+    pub(crate) fn set_conditions(&mut self, conditions: NewConditions)
+        ensures value { self.new ≡ with_conditions self.old conditions }
+    {
+        let mut conditions = conditions.into_vec();
+        set_conditions(&mut self.items, &mut conditions);
+    }
+
     /// For each table by its number what is watched of it.
     pub(crate) fn new(items: Vec<Option<Watched>>) -> Watches
         ensures value { result ≡ items.items }
@@ -190,5 +293,42 @@ impl Monitor {
             self.watches.as_slice(),
             applied.rows(),
         )
+    }
+
+    /// What leads, in `update2` and `update3`, from what the monitor shows by its conditions of rows as they stood earlier, to
+    /// what it shows of the database by new ones: as `update2` tells a step. So a row that the new conditions let in comes, and
+    /// one that they leave out goes. The conditions stay as they are.
+    ///
+    /// # Errors
+    /// `NoMemory` alone.
+    pub fn changed(
+        &self,
+        alloc: Global,
+        conditions: &NewConditions,
+        earlier: EarlierRows,
+        database: &Database,
+    ) -> Result<Value, NoMemory>
+        requires same_tables { (tables : List Table) × IsMonitorOf tables self.now.watches × HaveColumnsOf tables (rows_earlier earlier database.now.rows) × HaveColumnsOf tables database.now.rows }
+        ensures value { IfOk result (λ v. view v ≡ update2_json self.now.watches (turned self.now.watches (with_conditions self.now.watches conditions.now) (rows_earlier earlier database.now.rows) database.now.rows)) }
+        // Where all kinds are asked for, they lead a copy of what was shown to what is shown by the new conditions.
+        ensures mirrored { (tables : List Table) → IsMonitorOf tables self.now.watches → AsksAll self.now.watches → AreRowsOf tables (rows_earlier earlier database.now.rows) → AreRowsOf tables database.now.rows
+            → mirror self.now.watches (rows_shown self.now.watches (rows_earlier earlier database.now.rows)) (turned self.now.watches (with_conditions self.now.watches conditions.now) (rows_earlier earlier database.now.rows) database.now.rows)
+            ≡ Some (rows_shown (with_conditions self.now.watches conditions.now) database.now.rows) }
+        ensures whole { IfOk result (λ v. has_float (view v) ≡ false) }
+    {
+        changed_json(
+            alloc,
+            self.watches.as_slice(),
+            conditions.as_slice(),
+            earlier,
+            database,
+        )
+    }
+
+    /// Shows by new conditions from now on.
+    pub fn set_conditions(&mut self, conditions: NewConditions)
+        ensures value { self.new ≡ turned_monitor self.old conditions }
+    {
+        self.watches.set_conditions(conditions);
     }
 }

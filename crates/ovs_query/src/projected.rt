@@ -59,6 +59,13 @@ impl ShownColumns {
     {
         &self.items
     }
+
+    /// The list.
+    pub(crate) fn into_vec(self) -> Vec<Projected>
+        ensures value { result.items ≡ self }
+    {
+        self.items
+    }
 }
 
 /// A datum of a row, or one that was made for it.

@@ -7,5 +7,6 @@ mod columns;
 pub(crate) mod conditions;
 mod fields;
 mod monitor;
+mod new_conditions;
 mod requests;
 pub(crate) mod select;

@@ -5,29 +5,35 @@ use Rattle.std.specs.List.{AllByRecursion, list_all}
 use Rattle.std.specs.Option.{ok_or}
 use Rattle.std.proofs.Math.Seq.{take-length}
 use Rattle.serde_json.specs.Data.{Data, array}
+use Rattle.serde_json.specs.Find.{as_object}
 use Rattle.serde_json.specs.View.{items_of}
 use Rattle.ovs_json.specs.Results.{◌>>=◌}
 use Rattle.ovs_types.specs.declared.schema.Table.{Table}
 use Rattle.ovs_query.specs.Answer.{only_reads, results}
 use Rattle.ovs_query.specs.MonitorReading.{read_monitor}
+use Rattle.ovs_query.specs.NewConditions.{read_conditions_of}
+use Rattle.ovs_query.specs.Turned.{with_conditions}
 use Rattle.ovs_query.specs.View.{IsMonitorOf}
 use Rattle.ovs_query.specs.declared.error.QueryError.{QueryError}
 use Rattle.ovs_query.specs.declared.monitor.Monitor.{Monitor}
 use Rattle.ovs_query.specs.declared.monitor.Notation.{Notation}
 use Rattle.ovs_query.specs.declared.monitor.Notation.TheVariants.{Update, Update2, Update3}
 use Rattle.ovs_query.proofs.MonitorLaws.{monitor_found}
+use Rattle.ovs_query.proofs.Turning.{conditions_turn, turned_tables}
 use Rattle.ovs_query.proofs.Watching.{monitor_of_tables}
 use Rattle.ovs_links.specs.Steps.{FoldedValue, tables_in}
 use Rattle.ovs_links.specs.StepChains.{head_after_steps, position_in, start_at, start_of_steps}
 use Rattle.ovs_links.specs.declared.step.Step.{Step}
 use Rattle.ovs_wire.specs.declared.message.Message.{Message}
 use Rattle.ovs_wire.specs.declared.message.Message.TheVariants.{Request, Reply, Notice}
-use Rattle.ovs_reader.specs.Params.{Asking, is, in_database, text_in, id_and_requests, requests_since, has_id, new_monitor}
-use Rattle.ovs_reader.specs.Answers.{Asked, Transact, Lock, Steal, Unlock, RequestOutcome, Replies, Asks, Starts, Cancels, get_schema, transact, transacted, monitor_or_refusal, starts, start, starts_at, start_since, monitor, cancel, locked, lock_answer, monitor_answer, answer}
+use Rattle.ovs_reader.specs.Params.{Asking, is, in_database, text_in, id_and_requests, requests_since, has_id, new_monitor, change_params, monitor_of, is_taken}
+use Rattle.ovs_reader.specs.Changes.{first_changed}
+use Rattle.ovs_reader.specs.Answers.{Asked, Transact, Lock, Steal, Unlock, RequestOutcome, Replies, Asks, Starts, Cancels, Changes, get_schema, transact, transacted, monitor_or_refusal, starts, start, starts_at, start_since, monitor, conditions_or_refusal, changes, change_found, change, cancel, locked, lock_answer, monitor_answer, answer}
 use Rattle.ovs_reader.specs.Session.{SessionValue, AreMonitorsOf, GoesOn, MayBeShown}
 use Rattle.ovs_reader.specs.Turns.{monitors_after, answered, monitors_by, after_turn, shown}
 use Rattle.ovs_reader.specs.Telling.{moved_to, moved_past, after_pump}
-use Rattle.ovs_reader.specs.declared.refusal.RequestRefusal.TheVariants.{UnknownMonitor, UnknownMethod}
+use Rattle.ovs_reader.specs.declared.refusal.RequestRefusal.TheVariants.{BadParams, DuplicateMonitor, UnknownMonitor, UnknownMethod}
+use Rattle.ovs_reader.specs.declared.subscription.ChangedMonitor.{ChangedMonitor}
 use Rattle.ovs_reader.specs.declared.subscription.Subscription.{Subscription}
 
 -- ---- a monitor that is started is one of the tables
@@ -75,6 +81,17 @@ cancel_fits : (tables : List Table) (ms : List Subscription) (params : List Data
 cancel_fits tables ms [] = tt
 cancel_fits tables ms (id ∷ params) = bound tables (ok_or (position (has_id id) ms) UnknownMonitor) (λ k. Ok (Cancels k)) (λ k. tt)
 
+change_found_fits : (f : FoldedValue) (id requests : Data) (found : ℕ × Subscription) → Fits (tables_in f) (change_found f id requests found)
+change_found_fits f id requests found =
+    bound (tables_in f) (ok_or (as_object requests) BadParams) _ (λ members.
+    bound (tables_in f) (conditions_or_refusal (read_conditions_of found.1.monitor (tables_in f) requests)) (λ conditions. Ok (changes f id found conditions)) (λ conditions. tt))
+
+change_fits : (ms : List Subscription) (f : FoldedValue) (params : List Data) → Fits (tables_in f) (change ms f params)
+change_fits ms f params =
+    bound (tables_in f) (change_params params) _ (λ asked.
+    bound (tables_in f) (ok_or (monitor_of ms asked.0) UnknownMonitor) _ (λ found.
+    either (tables_in f) (is_taken ms found.0 asked.1.0) (Err DuplicateMonitor) (change_found f asked.1.0 asked.1.1 found) tt (change_found_fits f asked.1.0 asked.1.1 found)))
+
 locked_fits : (tables : List Table) (verb : List ℕ → Asked) (params : List Data) → Fits tables (locked verb params)
 locked_fits tables verb params = bound tables (text_in params) (λ name. Ok (Asks (verb name))) (λ name. tt)
 
@@ -90,7 +107,8 @@ monitors_fit ms f method params =
     either ts (is method (codes "monitor")) (monitor ms f (start f Update) params) _ (monitor_fits ms f (start f Update) params (start_fits f Update))
     (either ts (is method (codes "monitor_cond")) (monitor ms f (start f Update2) params) _ (monitor_fits ms f (start f Update2) params (start_fits f Update2))
     (either ts (is method (codes "monitor_cond_since")) (monitor ms f (start_since f) params) _ (monitor_fits ms f (start_since f) params (since_fits f))
-    (either ts (is method (codes "monitor_cancel")) (cancel ms params) (lock_answer method params) (cancel_fits ts ms params) (lock_fits ts method params))))
+    (either ts (is method (codes "monitor_cond_change")) (change ms f params) _ (change_fits ms f params)
+    (either ts (is method (codes "monitor_cancel")) (cancel ms params) (lock_answer method params) (cancel_fits ts ms params) (lock_fits ts method params)))))
 
 transacted_fits : (f : FoldedValue) (operations : List Data) → Fits (tables_in f) (Ok (transacted f operations))
 transacted_fits f operations = by (list_all only_reads operations) (array (items_of (results (tables_in f) f.database.rows false (items_of operations))))
@@ -127,6 +145,11 @@ module _ {X : Type 0} (P : X → Type 0) where
 
 -- ---- the session
 
+-- new conditions keep the tables
+first_fits : (tables : List Table) (c : ChangedMonitor) (ms : List Subscription) → AreMonitorsOf tables ms → AreMonitorsOf tables (first_changed c ms)
+first_fits tables c [] all = tt
+first_fits tables c (m ∷ ms) all = (turned_tables tables m.monitor.watches (with_conditions m.monitor.watches c.conditions) all.0 (conditions_turn c.conditions m.monitor.watches), all.1)
+
 after_fits : (tables : List Table) (r : Asking RequestOutcome) (ms : List Subscription) → Fits tables r → AreMonitorsOf tables ms → AreMonitorsOf tables (monitors_after r ms)
 after_fits tables (Err r) ms fits all = all
 after_fits tables (Ok (Replies d)) ms fits all = all
@@ -134,6 +157,9 @@ after_fits tables (Ok (Asks asked)) ms fits all = all
 after_fits tables (Ok (Starts d m)) ms fits all = all_append (λ n. IsMonitorOf tables n.monitor.watches) ms (m ∷ []) all (fits, tt)
 after_fits tables (Ok (Cancels k)) ms fits all =
     all_append (λ n. IsMonitorOf tables n.monitor.watches) (take k ms) (drop (suc k) ms) (all_take (λ n. IsMonitorOf tables n.monitor.watches) k ms all) (all_drop (λ n. IsMonitorOf tables n.monitor.watches) (suc k) ms all)
+after_fits tables (Ok (Changes k notice c)) ms fits all =
+    all_append (λ n. IsMonitorOf tables n.monitor.watches) (take k ms) (first_changed c (drop k ms)) (all_take (λ n. IsMonitorOf tables n.monitor.watches) k ms all)
+    (first_fits tables c (drop k ms) (all_drop (λ n. IsMonitorOf tables n.monitor.watches) k ms all))
 
 by_fits : (s : SessionValue) (f : FoldedValue) (m : Message) → AreMonitorsOf (tables_in f) s.monitors → AreMonitorsOf (tables_in f) (monitors_by (answered s f m) s.monitors)
 by_fits s f (Request method params id) all = by s.is_ended

@@ -1,19 +1,22 @@
 -- What takes memory to be answered.
 use Rattle.std.proofs.Common.{◌≡◌, ℕ, List, Bool, true, false, cond, Option, Some, None, Result, Ok, Err, refl}
 use Rattle.std.specs.Prelude.{OnErr, codes}
+use Rattle.std.specs.Option.{ok_or}
 use Rattle.serde_json.specs.Data.{Data}
+use Rattle.serde_json.specs.Find.{as_object}
 use Rattle.ovs_json.specs.Results.{◌>>=◌}
 use Rattle.ovs_types.specs.Schema.{SchemaValue}
 use Rattle.ovs_links.specs.Steps.{FoldedValue, tables_in}
 use Rattle.ovs_links.specs.StepChains.{position_in, start_at}
 use Rattle.ovs_query.specs.MonitorReading.{read_monitor}
+use Rattle.ovs_query.specs.NewConditions.{read_conditions_of}
 use Rattle.ovs_query.specs.declared.monitor.Monitor.{Monitor}
 use Rattle.ovs_query.specs.declared.monitor.Notation.{Notation}
 use Rattle.ovs_query.specs.declared.monitor.Notation.TheVariants.{Update3}
-use Rattle.ovs_reader.specs.Answers.{Asked, RequestOutcome, Replies, Asks, Lock, Steal, Unlock, get_schema, monitor_or_refusal, start, starts, starts_at, start_since, monitor, locked, lock_answer}
-use Rattle.ovs_reader.specs.Params.{Asking, is, in_database, text_in, id_and_requests, requests_since, new_monitor}
+use Rattle.ovs_reader.specs.Answers.{Asked, RequestOutcome, Replies, Asks, Lock, Steal, Unlock, get_schema, monitor_or_refusal, start, starts, starts_at, start_since, monitor, conditions_or_refusal, changes, change_found, change, locked, lock_answer}
+use Rattle.ovs_reader.specs.Params.{Asking, is, in_database, text_in, id_and_requests, requests_since, new_monitor, change_params, monitor_of, is_taken}
 use Rattle.ovs_reader.specs.Turns.{asking_takes_memory, outcome_takes_memory}
-use Rattle.ovs_reader.specs.declared.refusal.RequestRefusal.TheVariants.{UnknownMethod}
+use Rattle.ovs_reader.specs.declared.refusal.RequestRefusal.TheVariants.{BadParams, DuplicateMonitor, UnknownMonitor, UnknownMethod}
 use Rattle.ovs_reader.specs.declared.subscription.Subscription.{Subscription}
 
 pub on_err : {X E : Type 0} (P : Type 0) (r : Result X E) → P → OnErr r P
@@ -52,6 +55,19 @@ monitor_takes monitors f notation params = behind (new_monitor monitors f.databa
 
 pub monitor_since_takes : (monitors : List Subscription) (f : FoldedValue) (params : List Data) → outcome_takes_memory (monitor monitors f (start_since f) params) ≡ true
 monitor_since_takes monitors f params = behind (new_monitor monitors f.database.schema.description.name params) (start_since f) (since_takes f)
+
+change_found_takes : (f : FoldedValue) (id requests : Data) (found : ℕ × Subscription) → outcome_takes_memory (change_found f id requests found) ≡ true
+change_found_takes f id requests found =
+    behind (ok_or (as_object requests) BadParams) (λ members. conditions_or_refusal (read_conditions_of found.1.monitor (tables_in f) requests) >>= λ conditions. Ok (changes f id found conditions))
+    (λ members. behind (conditions_or_refusal (read_conditions_of found.1.monitor (tables_in f) requests)) (λ conditions. Ok (changes f id found conditions)) (λ conditions. refl))
+
+pub change_takes : (monitors : List Subscription) (f : FoldedValue) (params : List Data) → outcome_takes_memory (change monitors f params) ≡ true
+change_takes monitors f params =
+    behind (change_params params)
+    (λ (asked : Data × Data × Data). ok_or (monitor_of monitors asked.0) UnknownMonitor >>= λ found. cond (is_taken monitors found.0 asked.1.0) (Err DuplicateMonitor) (change_found f asked.1.0 asked.1.1 found))
+    (λ asked. behind (ok_or (monitor_of monitors asked.0) UnknownMonitor)
+    (λ (found : ℕ × Subscription). cond (is_taken monitors found.0 asked.1.0) (Err DuplicateMonitor) (change_found f asked.1.0 asked.1.1 found))
+    (λ found. if_both (is_taken monitors found.0 asked.1.0) (Err DuplicateMonitor) (change_found f asked.1.0 asked.1.1 found) refl (change_found_takes f asked.1.0 asked.1.1 found)))
 
 locked_takes : (verb : List ℕ → Asked) → ((name : List ℕ) → asking_takes_memory (verb name) ≡ true) → (params : List Data) → outcome_takes_memory (locked verb params) ≡ true
 locked_takes verb all params = behind (text_in params) (λ name. Ok (Asks (verb name))) all

@@ -1,8 +1,9 @@
 //! What comes of a request.
 
-use crate::subscription::Subscription;
+use crate::subscription::{ChangedMonitor, Subscription};
 use ovs_authority::Verb;
 use ovs_json::Json;
+use ovs_wire::Message;
 
 /// What comes of a request that isn't refused.
 #[derive(Drop)]
@@ -15,4 +16,6 @@ pub(crate) enum RequestOutcome {
     Start(Json, Subscription),
     /// The monitor at this place goes.
     Cancel(usize),
+    /// The monitor at this place changes, and this is told before the reply.
+    Change(usize, Option<Message>, ChangedMonitor),
 }

@@ -56,10 +56,10 @@ shown_to shown session = record { session = session; last = shown }
 abbrev pub IsAllTold : ViewSessionValue → Type 0
 IsAllTold s = AllByRecursion (λ m. length (last_chain s.last) ≤ m.position) s.session.monitors
 
--- a turn's reply is to be said, and its ask to be put
+-- a turn's notification and its reply are to be said, and its ask to be put
 abbrev pub AreTasksOf : TurnValue → List Task → Type 0
 AreTasksOf t todo = (ask : Option Ask) × (option_map seen_ask ask ≡ t.ask)
-    × (todo ≡ option_to_list (option_map ToSay t.out) ++ option_to_list (option_map ToAsk ask))
+    × (todo ≡ option_to_list (option_map ToSay t.notice) ++ (option_to_list (option_map ToSay t.out) ++ option_to_list (option_map ToAsk ask)))
 
 module _ (schema : SchemaValue) where
   -- The text says a message, which is answered from steps that go on from those that were shown before, and don't begin anew.

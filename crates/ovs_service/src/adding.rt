@@ -34,10 +34,16 @@ pub(crate) fn add(pending: &mut VecDeque<Pending>, due: Option<Pending>)
 
 /// Puts what comes of a turn behind what is due before.
 pub(crate) fn add_turn(pending: &mut VecDeque<Pending>, turn: Turn)
-    requires room { deque_len pending.old + 2 ≤ deque_capacity pending.old }
+    requires room { deque_len pending.old + 3 ≤ deque_capacity pending.old }
     ensures added { (added : List Pending) × AreTasksOf (seen_turn turn) (tasks added) × (pending.new.items ≡ pending.old.items ++ added) }
 {
-    let Turn { out, ask, .. } = turn;
+    let Turn {
+        notice,
+        out,
+        ask,
+        ..
+    } = turn;
+    add(pending, notice.map(Pending::Say));
     add(pending, out.map(Pending::Say));
     add(pending, ask.map(Pending::Put));
 }

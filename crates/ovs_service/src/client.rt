@@ -174,7 +174,7 @@ impl<K: NodeName> Client<K> {
         ensures never_bad { result ≡ Err ServiceError.BadInput → ⊥ }
         ensures epoch { result ≡ Err ServiceError.Epoch → HasBegunAnew K.schema view.new self.new }
     {
-        make_room(&mut self.pending, 2)?;
+        make_room(&mut self.pending, 3)?;
         let turn = answer_at(alloc, view, &mut self.session, message)?;
         add_turn(&mut self.pending, turn);
         Ok(())

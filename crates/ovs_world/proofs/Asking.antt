@@ -1,6 +1,6 @@
 -- What a relay asks is read as a monitor of all columns.
-use Rattle.std.proofs.Common.{◌≡◌, ℕ, zero, suc, ◌+◌, ◌<◌, List, [], ◌∷◌, ◌++◌, Bool, true, false, true≢false, cond, length, map, Option, Some, None, Ok, refl, sym, ap, subst, ◌∙◌, inr, arith, append_assoc, append-nil}
-use Rattle.std.specs.Prelude.{◌==◌, ◌&&◌, codes, nat_eq, slice_get, filter, fold, option_map}
+use Rattle.std.proofs.Common.{◌≡◌, ℕ, zero, suc, ◌+◌, ◌<◌, List, [], ◌∷◌, ◌++◌, Bool, true, false, true≢false, cond, length, map, Option, Some, None, Ok, refl, sym, ap, subst, ◌∙◌, arith, append_assoc, append-nil}
+use Rattle.std.specs.Prelude.{◌==◌, ◌&&◌, ◌||◌, codes, nat_eq, slice_get, filter, fold, option_map}
 use Rattle.std.specs.List.{AllByRecursion, AllZip, last_or, list_all}
 use Rattle.std.specs.List.Sorted.{IsStrictlySortedBy}
 use Rattle.std.specs.Cmp.Lexicographic.{bytes_decides, pointwise, slice_cmp}
@@ -25,10 +25,11 @@ use Rattle.ovs_rows.specs.Row.{AreDataOf}
 use Rattle.ovs_rows.specs.Writing.{with_member}
 use Rattle.ovs_rows.proofs.ObjectOrder.{IsFirst, lead_first}
 use Rattle.ovs_query.specs.ConditionReading.{field_named, numbered_from}
-use Rattle.ovs_query.specs.MonitorReading.{read_monitor}
+use Rattle.ovs_query.specs.MonitorReading.{all_kinds, has_field, monitored, read_monitor, repeats}
 use Rattle.ovs_query.specs.MonitorSpelling.{SpellsTable, SpellsRequest}
 use Rattle.ovs_query.specs.SelectSpelling.{SpellsShown}
-use Rattle.ovs_query.specs.Projected.{shown_columns, shown_datum}
+use Rattle.ovs_query.specs.Projected.{shown_columns, shown_data, shown_datum}
+use Rattle.ovs_query.specs.Updates.{AreAll}
 use Rattle.ovs_data.specs.declared.datum.Datum.TheVariants.{Set}
 use Rattle.std.specs.Option.{unwrap_or, option_and_then}
 use Rattle.ovs_data.specs.declared.column.Column.{Column}
@@ -36,9 +37,11 @@ use Rattle.ovs_query.specs.Projected.{id_column}
 use Rattle.ovs_query.specs.Whole.{IsWatchedWhole, IsWhole}
 use Rattle.ovs_query.specs.declared.monitor.Notation.TheVariants.{Update3}
 use Rattle.ovs_query.specs.declared.monitor.Watched.{Watched}
+use Rattle.ovs_query.specs.declared.projected.Projected.{Projected}
 use Rattle.ovs_query.specs.declared.projected.Field.{Field}
 use Rattle.ovs_query.specs.declared.projected.Field.TheVariants.{Id, Version, Column as Numbered}
 use Rattle.ovs_query.proofs.MonitorLaws.{monitor_only}
+use Rattle.ovs_query.proofs.Watching.{parts_monitored}
 use Rattle.ovs_upstream.specs.Requests.{AreNamedColumns, CanBeAsked, columns_request, table_request, requests}
 use Rattle.ovs_world.specs.Asking.{whole_watched, whole_watches, whole_monitor}
 
@@ -59,13 +62,20 @@ numbered_data id row k (c ∷ cs) (x ∷ xs) are at =
     let rest = numbered_data id row (k + 1) cs xs are.1 (λ j y e. (let moved : k + suc j ≡ k + 1 + j = omega arith in subst (λ n. slice_get row.columns n ≡ Some y) moved (at (suc j) y e))) in
     ap (λ o. unwrap_or o (Set []) ∷ map (λ s. shown_datum s.field id row) (numbered_from (k + 1) cs)) found ∙ ap (λ (ys : List Datum). x ∷ ys) rest
 
+all_asked : (shown : List Projected) → AllByRecursion (λ m. AreAll m.kinds) (monitored all_kinds shown)
+all_asked [] = tt
+all_asked (s ∷ shown) = ((refl, refl, refl), all_asked shown)
+
 watched_whole : (t : Table) → IsWatchedWhole t (whole_watched t)
-watched_whole t = record {
-  name = refl;
-  columns = numbered_columns 0 t.columns;
-  rows = λ id row are. ap Some (numbered_data id row 0 t.columns row.columns are (λ j x e. (let same : j ≡ 0 + j = omega arith in subst (λ n. slice_get row.columns n ≡ Some x) same e)));
-  kinds = (refl, refl, refl);
-}
+watched_whole t =
+    let parts = parts_monitored all_kinds (numbered_from 0 t.columns) in
+    record {
+      name = refl;
+      columns = ap shown_columns parts ∙ numbered_columns 0 t.columns;
+      rows = λ id row are. ap Some (ap (λ ps. shown_data ps id row) parts
+          ∙ numbered_data id row 0 t.columns row.columns are (λ j x e. (let same : j ≡ 0 + j = omega arith in subst (λ n. slice_get row.columns n ≡ Some x) same e)));
+      kinds = ((refl, refl, refl), all_asked (numbered_from 0 t.columns));
+    }
 
 each_watched : (ts : List Table) → AllZip (λ t o. (w : Watched) × (o ≡ Some w) × IsWatchedWhole t w) ts (whole_watches ts)
 each_watched [] = tt
@@ -117,10 +127,25 @@ request_spelled t are =
       member (codes "columns") (array names) no_members,
       refl,
       refl,
-      (names, refl, columns_spelled t.columns are.0 0 t.columns are.1 (λ j c e. (let same : j ≡ 0 + j = omega arith in subst (λ n. slice_get t.columns n ≡ Some c) same e))),
+      (
+        numbered_from 0 t.columns,
+        (names, refl, columns_spelled t.columns are.0 0 t.columns are.1 (λ j c e. (let same : j ≡ 0 + j = omega arith in subst (λ n. slice_get t.columns n ≡ Some c) same e))),
+        refl,
+      ),
       refl,
       refl,
     )
+
+-- no column stands twice
+none_stands : (k j : ℕ) (cs : List NamedColumn) → k < j → has_field (Numbered k) (monitored all_kinds (numbered_from j cs)) ≡ false
+none_stands k j [] lt = refl
+none_stands k j (c ∷ cs) lt =
+    let other : (k == j) ≡ false = grind (arith, nat_tests) in
+    ap (λ b. b || has_field (Numbered k) (monitored all_kinds (numbered_from (j + 1) cs))) other ∙ none_stands k (j + 1) cs (omega (arith, lt))
+
+none_twice : (k : ℕ) (cs : List NamedColumn) → repeats (monitored all_kinds (numbered_from k cs)) ≡ false
+none_twice k [] = refl
+none_twice k (c ∷ cs) = ap (λ b. b || repeats (monitored all_kinds (numbered_from (k + 1) cs))) (none_stands k (k + 1) cs (omega arith)) ∙ none_twice (k + 1) cs
 
 -- ---- what is asked of all tables
 
@@ -160,7 +185,7 @@ module _ (tables : List Table) (ascending : IsAscendingBy (λ t. t.name) tables)
       let rest = asked_lead (k + 1) ts (before ++ one ∷ []) named.1 sorted.1
       (λ j u e. (let moved : k + suc j ≡ k + 1 + j = omega arith in subst (λ n. slice_get tables n ≡ Some u) moved (at (suc j) u e))) in
       lead_first (Adds Asks) before (before ++ one ∷ []) (before ++ asked_from k (t ∷ ts)) t.name (columns_request t.columns) (map table_request ts) (all_first t.name ts sorted.0)
-      (one, refl, (t, table_number tables ascending k t found, inr (under_name (codes "columns") (array (items_of (map (λ c. string c.name) t.columns))), refl, request_spelled t named.0)))
+      (one, refl, (t, table_number tables ascending k t found, (whole_watched t ∷ [], (request_spelled t named.0, tt), refl, none_twice 0 t.columns)))
       (subst (Lead (Adds Asks) (before ++ one ∷ []) (fold with_member no_members (map table_request ts))) (append_assoc before (one ∷ []) (asked_from (k + 1) ts)) rest)
 
 -- ---- each table is asked for once

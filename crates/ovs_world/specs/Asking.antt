@@ -4,7 +4,7 @@ use Rattle.serde_json.specs.Data.{null, string}
 use Rattle.ovs_types.specs.Schema.{SchemaValue}
 use Rattle.ovs_types.specs.declared.schema.Table.{Table}
 use Rattle.ovs_query.specs.ConditionReading.{numbered_from}
-use Rattle.ovs_query.specs.MonitorReading.{all_kinds}
+use Rattle.ovs_query.specs.MonitorReading.{all_kinds, monitored}
 use Rattle.ovs_query.specs.declared.monitor.Monitor.{Monitor}
 use Rattle.ovs_query.specs.declared.monitor.Notation.TheVariants.{Update3}
 use Rattle.ovs_query.specs.declared.monitor.Watched.{Watched}
@@ -13,7 +13,7 @@ use Rattle.ovs_wire.specs.declared.message.Message.TheVariants.{Reply}
 
 -- all columns of all rows of the table
 abbrev pub whole_watched : Table → Watched
-whole_watched t = record { name = t.name; shown = numbered_from 0 t.columns; clauses = []; kinds = all_kinds }
+whole_watched t = record { name = t.name; columns = monitored all_kinds (numbered_from 0 t.columns); clauses = []; kinds = all_kinds }
 
 abbrev pub whole_watches : List Table → List (Option Watched)
 whole_watches = map (λ t. Some (whole_watched t))

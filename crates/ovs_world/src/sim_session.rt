@@ -100,6 +100,7 @@ impl SimSession {
             Err(ShownError::NoMemory) => return Err(WorldError::NoMemory),
             Err(ShownError::Epoch) => return Ok(()),
         };
+        // No request of a relay's changes a monitor, so nothing is told before the reply.
         self.downward.send_any(alloc, turn.out.as_ref())?;
         Ok(())
     }

@@ -5,15 +5,15 @@ ghost use Rattle.serde_json.specs.Data.{no_members};
 ghost use Rattle.serde_json.specs.View.{view, members_view};
 ghost use Rattle.ovs_rows.specs.ChangeWriting.{with_some};
 ghost use Rattle.ovs_rows.specs.Writing.{with_member};
-ghost use Rattle.ovs_query.specs.Projected.{shown_data, shown_columns};
-ghost use Rattle.ovs_query.specs.Telling.{first_row_json, first_json_of, first_members};
+ghost use Rattle.ovs_query.specs.Projected.{shown_data};
+ghost use Rattle.ovs_query.specs.Telling.{first_told_json, first_json_of, first_members};
 ghost use Rattle.ovs_query.specs.UpdateWriting.{table_member, tables_json};
+ghost use Rattle.ovs_query.specs.View.{shown_of};
 
 use crate::monitor::row_update1::whole_json;
 use crate::monitor::row_update2::insert_json;
 use crate::monitor::tables::{put_row, put_table};
-use crate::monitor::{Notation, Watched};
-use crate::projected::Projected;
+use crate::monitor::{Kind, Notation, Watched};
 use ovs_json::under_name;
 use ovs_rows::{Database, Row};
 use ovs_types::{NoMemory, RowId};
@@ -23,19 +23,20 @@ use std::alloc::Global;
 fn first_row_json(
     alloc: Global,
     notation: Notation,
-    shown: &[Projected],
+    watched: &Watched,
     id: RowId,
     row: &Row,
 ) -> Result<Value, NoMemory>
-    ensures value { IfOk result (λ v. view v ≡ first_row_json notation (shown_columns shown.now) (shown_data shown.now id row.now)) }
+    ensures value { IfOk result (λ v. view v ≡ first_told_json notation watched.now (shown_data (shown_of watched.now) id row.now)) }
 {
+    let columns = watched.columns.as_slice();
     match notation {
         Notation::Update => {
-            let row = whole_json(alloc, shown, id, row)?;
+            let row = whole_json(alloc, Kind::Initial, columns, id, row)?;
             under_name(alloc, "new", row)
         }
         Notation::Update2 | Notation::Update3 => {
-            let row = insert_json(alloc, shown, id, row)?;
+            let row = insert_json(alloc, Kind::Initial, columns, id, row)?;
             under_name(alloc, "initial", row)
         }
     }
@@ -52,10 +53,7 @@ fn first_row(
     ensures value { IfOk result (λ o. option_map view o ≡ first_json_of notation watched.now id row.now) }
 {
     match watched.presented(id, Some(row)) {
-        Some(row) => {
-            let shown = watched.shown.as_slice();
-            Ok(Some(first_row_json(alloc, notation, shown, id, row)?))
-        }
+        Some(row) => Ok(Some(first_row_json(alloc, notation, watched, id, row)?)),
         None => Ok(None),
     }
 }

@@ -20,8 +20,8 @@ use ovs_types::NoMemory;
 use serde_json::{Map, Value};
 use std::alloc::Global;
 
-// The row that is shared there, if there is one.
-fn row_of(row: &Option<SharedRow>) -> Option<&Row>
+/// The row that is shared there, if there is one.
+pub(crate) fn row_of(row: &Option<SharedRow>) -> Option<&Row>
     ensures value { option_copied result ≡ row.now }
 {
     match row {

@@ -109,13 +109,14 @@ fn monitor_of(
 }
 
 impl Monitor {
-    /// The monitor that requests stand for: an object of tables' names, each with a request or an array of one at most. A
+    /// The monitor that requests stand for: an object of tables' names, each with a request or an array of any number. A
     /// request has "columns", by default `_version` and all columns; "where", by default all rows, which isn't looked at in
-    /// `Notation::Update`; and "select", by default all kinds of updates.
+    /// `Notation::Update`; and "select", by default all kinds of updates. Of several requests for a table the "where" of the
+    /// first holds, and each has its own "columns" and "select".
     ///
     /// # Errors
-    /// The first of `UnknownTable`, `UnknownColumn`, `BadCondition`, `ManyRequests` and `BadSelect` that a part of it has, of
-    /// several requests for a table any; or `NoMemory`.
+    /// The first of `UnknownTable`, `UnknownColumn`, `BadCondition` and `BadSelect` that a part of it has, of several requests
+    /// for a table any: `BadSelect` also where a column stands twice in the requests of a table; or `NoMemory`.
     pub fn read(
         alloc: Global,
         notation: Notation,

@@ -3,12 +3,12 @@ use Rattle.std.specs.Prelude.{IfOk, OnOk}
 use Rattle.serde_json.specs.View.{view}
 use Rattle.serde_json.specs.Written.{has_float}
 use Rattle.ovs_rows.specs.Applied.{seen, AscendByPlace}
-use Rattle.ovs_rows.specs.ChangeWriting.{action_json}
 use Rattle.ovs_query.specs.declared.monitor.Notation.TheVariants.{Update2}
 use Rattle.ovs_query.specs.Telling.{AreTellable, AreSpelledTables}
 use Rattle.ovs_query.specs.Updates.{updates}
+use Rattle.ovs_query.specs.UpdateWriting.{told_action_json}
 use Rattle.ovs_query.proofs.Mirroring.{step_mirrored}
-use Rattle.ovs_query.proofs.NoFloat.{action_no_float, ok_no_float, updates_no_float}
+use Rattle.ovs_query.proofs.NoFloat.{ok_no_float, told_no_float, updates_no_float}
 use Rattle.ovs_query.proofs.ShownRows.{all_tellable}
 use Rattle.ovs_query.proofs.Telling.{step_told2, told_alike}
 use Rattle.ovs_query.proofs.Whole.{step_reads_back}
@@ -37,7 +37,7 @@ returns-clause-whole c =
     let watches = c.args.self.now.watches in
     ok_no_float c.step_json.result _ c.step_json.ensures.value
     (ap has_float (told_alike Update2 _ _ _ _ c.rows.ensures.value c.as_slice.ensures.value ∙ step_told2 watches c.args.applied.now c.rows.ensures.ascending)
-    ∙ updates_no_float action_json action_no_float watches (updates watches c.args.applied.now))
+    ∙ updates_no_float told_action_json told_no_float watches (updates watches c.args.applied.now))
 
 pub returns-clause-reads_back : goal.returns-clause-reads_back
 returns-clause-reads_back c =

@@ -7,7 +7,7 @@ use Rattle.ovs_query.proofs.monitor.row_update2.modify_json.Goals as goal
 
 pub returns-clause-value : goal.returns-clause-value
 returns-clause-value c =
-    view-Object c.loop-part.members ∙ ap object (edits_end _ _ _ _ (either_empty_from_Zip c.loop-part.part-iterator c.next.new.self _ refl c.in-None.ensures.steps) c.loop-part.invariant.whole)
+    view-Object c.loop-column.members ∙ ap object (edits_end _ _ _ _ (either_empty_from_Zip c.loop-column.column-iterator c.next.new.self _ refl c.in-None.ensures.steps) c.loop-column.invariant.whole)
 
 pub returns-clause-spelled : goal.returns-clause-spelled
-returns-clause-spelled c = c.loop-part.invariant.spelled (edits_spelled_end _ _ (either_empty_from_Zip c.loop-part.part-iterator c.next.new.self _ refl c.in-None.ensures.steps))
+returns-clause-spelled c = c.loop-column.invariant.spelled (edits_spelled_end _ _ (either_empty_from_Zip c.loop-column.column-iterator c.next.new.self _ refl c.in-None.ensures.steps))
