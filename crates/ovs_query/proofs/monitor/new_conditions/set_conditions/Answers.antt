@@ -1,4 +1,4 @@
-use Rattle.std.proofs.Common.{◌≡◌, ℕ, zero, suc, ◌+◌, ◌<◌, List, [], ◌∷◌, ◌++◌, Option, length, get_or, take, drop, map, refl, ap, ◌∙◌, arith}
+use Rattle.std.proofs.Common.{◌≡◌, ℕ, zero, suc, ◌+◌, ◌<◌, List, [], ◌∷◌, ◌++◌, Option, length, get_or, take, drop, map, refl, sym, ap, ◌∙◌, arith}
 use Rattle.std.specs.Prelude.{option_map, slice_set}
 use Rattle.std.specs.List.{enumerate_from}
 use Rattle.ovs_query.specs.declared.monitor.Watched.{Watched}
@@ -27,7 +27,7 @@ loop-number-preserved c =
     let x = c.index-watches-number.result in
     let f : ℕ × Option Watched → Option Watched = λ p. option_map (with_condition (condition_at c.args.conditions.now p.0)) p.1 in
     let made : c.set_condition.new.watched ≡ f (0 + k, x)
-    = c.set_condition.ensures.value
+    = c.set_condition.ensures.value ∙ ap (option_map (with_condition c.take_condition-condition.result)) (sym c.index-watches-number.is)
     ∙ ap (λ o. option_map (with_condition o) x) (c.take_condition-condition.ensures.value ∙ c.loop-number.invariant.left k (omega arith))
     ∙ ap (λ n. f (n, x)) (let same : k ≡ 0 + k = omega arith in same) in
     let one : suc k ≡ k + 1 = omega arith in
