@@ -1,20 +1,15 @@
 -- How a monitor's id and conditions change (ovsdb-server(7), `monitor_cond_change`).
-use Rattle.std.specs.Prelude.{◌≡◌, ◌&&◌, ◌==◌, ℕ, Bool, List, [], ◌∷◌, ◌++◌, Option, Some, None, Result, Ok, Err, if◌then◌else◌, codes, drop, length, suc, take}
-use Rattle.std.specs.Option.{ok_or}
+use Rattle.std.specs.Prelude.{◌&&◌, ◌==◌, ℕ, Bool, List, [], ◌∷◌, ◌++◌, Option, None, if◌then◌else◌, codes, drop, length, take}
 use Rattle.serde_json.specs.Data.{Data}
-use Rattle.serde_json.specs.Find.{as_object}
 use Rattle.ovs_json.specs.Parts.{is_empty_object}
-use Rattle.ovs_json.specs.Results.{◌>>=◌}
 use Rattle.ovs_rows.specs.Row.{Rows}
-use Rattle.ovs_links.specs.Steps.{FoldedValue, tables_in}
+use Rattle.ovs_links.specs.Steps.{FoldedValue}
 use Rattle.ovs_links.specs.StepChains.{head_after_steps}
 use Rattle.ovs_links.specs.declared.step.Step.{Step}
 use Rattle.ovs_query.specs.Earlier.{undone}
-use Rattle.ovs_query.specs.NewConditions.{read_conditions_of}
 use Rattle.ovs_query.specs.Turned.{turned, turned_monitor, with_conditions}
 use Rattle.ovs_query.specs.UpdateWriting.{update2_json}
 use Rattle.ovs_query.specs.declared.clauses.Clause.{Clause}
-use Rattle.ovs_query.specs.declared.error.QueryError.{QueryError}
 use Rattle.ovs_query.specs.declared.monitor.Notation.{Notation}
 use Rattle.ovs_query.specs.declared.monitor.Notation.TheVariants.{Update, Update2, Update3}
 use Rattle.ovs_wire.specs.declared.message.Message.{Message}

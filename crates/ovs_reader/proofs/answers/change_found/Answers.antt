@@ -1,5 +1,4 @@
 use Rattle.std.proofs.Common.{subst}
-use Rattle.ovs_links.specs.Steps.{tables_in}
 use Rattle.ovs_rows.specs.Database.{DatabaseValue}
 use Rattle.ovs_rows.specs.Row.{AreRowsOf}
 use Rattle.ovs_reader.proofs.answers.change_found.Goals as goal

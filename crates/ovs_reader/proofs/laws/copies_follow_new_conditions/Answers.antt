@@ -1,5 +1,4 @@
-use Rattle.std.proofs.Common.{sym, ap, subst, ◌∙◌, drop}
-use Rattle.std.specs.Prelude.{◌≡◌, Some}
+use Rattle.std.proofs.Common.{ap, ◌∙◌}
 use Rattle.ovs_links.specs.Steps.{tables_in}
 use Rattle.ovs_links.specs.StepChains.{rows_at}
 use Rattle.ovs_query.specs.Mirror.{mirror}
